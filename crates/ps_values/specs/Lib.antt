@@ -1,0 +1,4 @@
+pub mod formers
+pub mod Texts
+pub mod Types
+pub mod Values
