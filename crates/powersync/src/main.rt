@@ -2,7 +2,9 @@
 #![tactic(auto)]
 
 mod claims;
+mod replicas;
 mod rules;
+mod writing;
 
 fn main(rt: HostRuntime) {
     let _rt = rt;
