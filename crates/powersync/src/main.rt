@@ -2,6 +2,7 @@
 #![tactic(auto)]
 
 mod claims;
+mod clients;
 mod replicas;
 mod rules;
 mod writing;
