@@ -76,14 +76,14 @@ arrival_other b q id content (Some now) held other = put_other b now q id conten
 
 -- those of the row itself: after the removal it is held only where it stays in the bucket, or arrives there
 left : (b was : Value) (after : Option Value) (t n : Bool) (content : List ℕ) (held : Option (List ℕ)) → is_in after was ≡ t → names was b ≡ n → is_in after b ≡ false
-  → held ≡ cond n (Some content) None → cond t held (cond n None held) ≡ None
+    → held ≡ cond n (Some content) None → cond t held (cond n None held) ≡ None
 left b was after t false content held stays is out h = elim t as (λ t. cond t held held ≡ None) [ true ↦ h | false ↦ h ]
 left b was None true true content held stays is out h = cc
 left b was (Some now) true true content held stays is out h = let same : now ≡ was = names_exact now was stays in let wrong : true ≡ false = sym is ∙ ap (λ v. names v b) (sym same) ∙ out in cc
 left b was after false true content held stays is out h = refl
 
 removal_same : (b : Value) (id content : List ℕ) (before after : Option Value) (held : Option (List ℕ)) → is_in after b ≡ false → held ≡ cond (is_in before b) (Some content) None
-  → held_after b id held (removal before after id) ≡ None
+    → held_after b id held (removal before after id) ≡ None
 removal_same b id content None after held out h = h
 removal_same b id content (Some was) after held out h =
     split (is_in after was) ∙ left b was after (is_in after was) (names was b) content held refl refl out h
@@ -93,7 +93,7 @@ removal_same b id content (Some was) after held out h =
     split false = remove_same b was id held
 
 same_row_by : (b : Value) (id content was : List ℕ) (before after : Option Value) (held : Option (List ℕ)) (t : Bool) → is_in after b ≡ t → held ≡ cond (is_in before b) (Some was) None
-  → held_after b id (held_after b id held (removal before after id)) (arrival after id content) ≡ cond t (Some content) None
+    → held_after b id (held_after b id held (removal before after id)) (arrival after id content) ≡ cond t (Some content) None
 same_row_by b id content was before None held true is h = cc
 same_row_by b id content was before None held false is h = removal_same b id was before None held is h
 same_row_by b id content was before (Some now) held true is h = put_same b now id content _ ∙ ap (λ t. cond t (Some content) (held_after b id held (removal before (Some now) id))) is
@@ -110,11 +110,11 @@ abbrev version : ℕ → ℕ → Option (List Column) → Option Version
 version position index row = option_map (λ columns. record { columns = columns; position = position; index = index }) row
 
 row_found : (rule : Rule) (source : Source) (position index : ℕ) (id q : List ℕ) (row : Option (List Column))
-  → find key_cmp (rule.table, q) (after_row position index (rule.table, id) row source) ≡ cond (bytes_eq id q) (version position index row) (find key_cmp (rule.table, q) source)
+    → find key_cmp (rule.table, q) (after_row position index (rule.table, id) row source) ≡ cond (bytes_eq id q) (version position index row) (find key_cmp (rule.table, q) source)
 row_found rule source position index id q row =
     find-after_row position index (rule.table, id) row source (rule.table, q)
     ∙ ap (λ t. cond t (version position index row) (find key_cmp (rule.table, q) source))
-      (ap is_eq (same_table rule.table q id) ∙ sym (texts_ties q id) ∙ nat_list_eq_equiv.symm q id)
+    (ap is_eq (same_table rule.table q id) ∙ sym (texts_ties q id) ∙ nat_list_eq_equiv.symm q id)
 
 same_bytes : (a b : List ℕ) → bytes_eq a b ≡ true → a ≡ b
 same_bytes a b e = exact_bytes a b (same_eq (slice_cmp nat_cmp a b) (sym (texts_ties a b) ∙ e))
@@ -127,60 +127,60 @@ same_bytes a b e = exact_bytes a b (same_eq (slice_cmp nat_cmp a b) (sym (texts_
 -- ---- the replica stands for the source after the row
 
 bucket_after : (rule : Rule) (source : Source) (position index : ℕ) (id q : List ℕ) (row : Option (List Column)) (t : Bool) → bytes_eq id q ≡ t
-  → cond t (row_bucket rule id row) (bucket_in rule q source) ≡ option_and_then (λ v. bucket_of rule q v.columns) (cond t (version position index row) (find key_cmp (rule.table, q) source))
+    → cond t (row_bucket rule id row) (bucket_in rule q source) ≡ option_and_then (λ v. bucket_of rule q v.columns) (cond t (version position index row) (find key_cmp (rule.table, q) source))
 bucket_after rule source position index id q None true e = refl
 bucket_after rule source position index id q (Some columns) true e = ap (λ i. bucket_of rule i columns) (same_bytes id q e)
 bucket_after rule source position index id q row false e = refl
 
 was_held : (rule : Rule) (b : Value) (id : List ℕ) (found : Option Version)
-  → (P : Option Value → Option (List ℕ) → Type 0)
-  → ((was : List ℕ) (before : Option Value) (held : Option (List ℕ)) → held ≡ cond (is_in before b) (Some was) None → P before held)
-  → P (option_and_then (λ v. bucket_of rule id v.columns) found) (option_and_then (λ v. cond (is_in (bucket_of rule id v.columns) b) (Some (document_of id v.columns)) None) found)
+    → (P : Option Value → Option (List ℕ) → Type 0)
+    → ((was : List ℕ) (before : Option Value) (held : Option (List ℕ)) → held ≡ cond (is_in before b) (Some was) None → P before held)
+    → P (option_and_then (λ v. bucket_of rule id v.columns) found) (option_and_then (λ v. cond (is_in (bucket_of rule id v.columns) b) (Some (document_of id v.columns)) None) found)
 was_held rule b id None P k = k [] None None refl
 was_held rule b id (Some v) P k = k (document_of id v.columns) (bucket_of rule id v.columns) (cond (is_in (bucket_of rule id v.columns) b) (Some (document_of id v.columns)) None) refl
 
 own_content : (rule : Rule) (b : Value) (position index : ℕ) (id : List ℕ) (row : Option (List Column))
-  → cond (is_in (row_bucket rule id row) b) (Some (row_content id row)) None
+    → cond (is_in (row_bucket rule id row) b) (Some (row_content id row)) None
     ≡ option_and_then (λ v. cond (is_in (bucket_of rule id v.columns) b) (Some (document_of id v.columns)) None) (version position index row)
 own_content rule b position index id None = refl
 own_content rule b position index id (Some columns) = refl
 
 content_after : (rule : Rule) (source : Source) (position index : ℕ) (b : Value) (id q : List ℕ) (row : Option (List Column)) (t : Bool) → bytes_eq id q ≡ t
-  → held_after b q (held_after b q (content_in rule b q source) (removal (bucket_in rule id source) (row_bucket rule id row) id)) (arrival (row_bucket rule id row) id (row_content id row))
+    → held_after b q (held_after b q (content_in rule b q source) (removal (bucket_in rule id source) (row_bucket rule id row) id)) (arrival (row_bucket rule id row) id (row_content id row))
     ≡ option_and_then (λ v. cond (is_in (bucket_of rule q v.columns) b) (Some (document_of q v.columns)) None) (cond t (version position index row) (find key_cmp (rule.table, q) source))
 content_after rule source position index b id q row false e =
     arrival_other b q id (row_content id row) (row_bucket rule id row) _ e ∙ removal_other b q id (bucket_in rule id source) (row_bucket rule id row) (content_in rule b q source) e
 content_after rule source position index b id q row true e =
     subst (λ i. held_after b i (held_after b i (content_in rule b i source) (removal (bucket_in rule id source) (row_bucket rule id row) id)) (arrival (row_bucket rule id row) id (row_content id row))
-        ≡ option_and_then (λ v. cond (is_in (bucket_of rule i v.columns) b) (Some (document_of i v.columns)) None) (version position index row)) (same_bytes id q e)
-      (was_held rule b id (find key_cmp (rule.table, id) source)
-        (λ before held. held_after b id (held_after b id held (removal before (row_bucket rule id row) id)) (arrival (row_bucket rule id row) id (row_content id row))
-          ≡ option_and_then (λ v. cond (is_in (bucket_of rule id v.columns) b) (Some (document_of id v.columns)) None) (version position index row))
-        (λ was before held h. same_row_by b id (row_content id row) was before (row_bucket rule id row) held (is_in (row_bucket rule id row) b) refl h ∙ own_content rule b position index id row))
+    ≡ option_and_then (λ v. cond (is_in (bucket_of rule i v.columns) b) (Some (document_of i v.columns)) None) (version position index row)) (same_bytes id q e)
+    (was_held rule b id (find key_cmp (rule.table, id) source)
+    (λ before held. held_after b id (held_after b id held (removal before (row_bucket rule id row) id)) (arrival (row_bucket rule id row) id (row_content id row))
+    ≡ option_and_then (λ v. cond (is_in (bucket_of rule id v.columns) b) (Some (document_of id v.columns)) None) (version position index row))
+    (λ was before held h. same_row_by b id (row_content id row) was before (row_bucket rule id row) held (is_in (row_bucket rule id row) b) refl h ∙ own_content rule b position index id row))
 
 -- a row of the rule's table that was written
 pub stands_after_row : (rule : Rule) (old new : Replica) (source : Source) (position index : ℕ) (id : List ℕ) (row : Option (List Column))
-  → Writes rule id row old new → StandsFor rule old source → StandsFor rule new (after_row position index (rule.table, id) row source)
+    → Writes rule id row old new → StandsFor rule old source → StandsFor rule new (after_row position index (rule.table, id) row source)
 stands_after_row rule old new source position index id row written stands = record {
-    live = λ q.
+  live = λ q.
       written.lives q ∙ ap (λ t. cond t (row_bucket rule id row) (get (slice_cmp nat_cmp) old.live q)) (sym (texts_ties id q))
       ∙ ap (λ was. cond (bytes_eq id q) (row_bucket rule id row) was) (stands.live q)
       ∙ bucket_after rule source position index id q row (bytes_eq id q) refl
       ∙ ap (option_and_then (λ v. bucket_of rule q v.columns)) (sym (row_found rule source position index id q row));
-    held = λ b q.
+  held = λ b q.
       ap (held_after b q None) written.logged
       ∙ held_after-append b q None (old.operations.items ++ removal (get (slice_cmp nat_cmp) old.live id) (row_bucket rule id row) id) (arrival (row_bucket rule id row) id (row_content id row))
       ∙ ap (λ h. held_after b q h (arrival (row_bucket rule id row) id (row_content id row)))
-        (held_after-append b q None old.operations.items (removal (get (slice_cmp nat_cmp) old.live id) (row_bucket rule id row) id)
-        ∙ ap (λ h. held_after b q h (removal (get (slice_cmp nat_cmp) old.live id) (row_bucket rule id row) id)) (stands.held b q)
-        ∙ ap (λ before. held_after b q (content_in rule b q source) (removal before (row_bucket rule id row) id)) (stands.live id))
+      (held_after-append b q None old.operations.items (removal (get (slice_cmp nat_cmp) old.live id) (row_bucket rule id row) id)
+      ∙ ap (λ h. held_after b q h (removal (get (slice_cmp nat_cmp) old.live id) (row_bucket rule id row) id)) (stands.held b q)
+      ∙ ap (λ before. held_after b q (content_in rule b q source) (removal before (row_bucket rule id row) id)) (stands.live id))
       ∙ content_after rule source position index b id q row (bytes_eq id q) refl
       ∙ ap (option_and_then (λ v. cond (is_in (bucket_of rule q v.columns) b) (Some (document_of q v.columns)) None)) (sym (row_found rule source position index id q row));
-  }
+}
 
 -- a row of another table is of no concern
 other_found : (rule : Rule) (source : Source) (position index : ℕ) (table id q : List ℕ) (row : Option (List Column)) → bytes_eq table rule.table ≡ false
-  → find key_cmp (rule.table, q) (after_row position index (table, id) row source) ≡ find key_cmp (rule.table, q) source
+    → find key_cmp (rule.table, q) (after_row position index (table, id) row source) ≡ find key_cmp (rule.table, q) source
 other_found rule source position index table id q row other =
     find-after_row position index (table, id) row source (rule.table, q)
     ∙ ap (λ t. cond t (version position index row) (find key_cmp (rule.table, q) source)) (apart (slice_cmp nat_cmp rule.table table) (slice_cmp nat_cmp q id) (sym (texts_ties rule.table table) ∙ nat_list_eq_equiv.symm rule.table table ∙ other))
@@ -191,14 +191,14 @@ other_found rule source position index table id q row other =
     apart Greater p h = refl
 
 pub stands_other : (rule : Rule) (replica : Replica) (source : Source) (position index : ℕ) (table id : List ℕ) (row : Option (List Column)) → bytes_eq table rule.table ≡ false
-  → StandsFor rule replica source → StandsFor rule replica (after_row position index (table, id) row source)
+    → StandsFor rule replica source → StandsFor rule replica (after_row position index (table, id) row source)
 stands_other rule replica source position index table id row other stands = record {
-    live = λ q. stands.live q ∙ ap (option_and_then (λ v. bucket_of rule q v.columns)) (sym (other_found rule source position index table id q row other));
-    held = λ b q. stands.held b q ∙ ap (option_and_then (λ v. cond (is_in (bucket_of rule q v.columns) b) (Some (document_of q v.columns)) None)) (sym (other_found rule source position index table id q row other));
-  }
+  live = λ q. stands.live q ∙ ap (option_and_then (λ v. bucket_of rule q v.columns)) (sym (other_found rule source position index table id q row other));
+  held = λ b q. stands.held b q ∙ ap (option_and_then (λ v. cond (is_in (bucket_of rule q v.columns) b) (Some (document_of q v.columns)) None)) (sym (other_found rule source position index table id q row other));
+}
 
 pub stands_same : (rule : Rule) (old new : Replica) (source : Source) (position index : ℕ) (table id : List ℕ) (row : Option (List Column)) → table ≡ rule.table
-  → Writes rule id row old new → StandsFor rule old source → StandsFor rule new (after_row position index (table, id) row source)
+    → Writes rule id row old new → StandsFor rule old source → StandsFor rule new (after_row position index (table, id) row source)
 stands_same rule old new source position index table id row same written stands =
     subst (λ t. StandsFor rule new (after_row position index (t, id) row source)) (sym same) (stands_after_row rule old new source position index id row written stands)
 

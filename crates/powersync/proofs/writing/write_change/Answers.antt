@@ -5,7 +5,7 @@ use Rattle.powersync.proofs.writing.write_change.Goals as goal
 pub returns-in_ok-write_row : goal.returns-in_ok-write_row
 returns-in_ok-write_row c = λ position index source stands.
     stands_same c.args.rule.now c.args.replica.now _ source position index c.args.change.now.table c.args.change.now.id c.args.change.now.row
-      (c.if-equals.ensures.same.0 refl) c.in_ok-write_row.ensures stands
+    (c.if-equals.ensures.same.0 refl) c.in_ok-write_row.ensures stands
 
 pub returns-else-equals : goal.returns-else-equals
 returns-else-equals c = λ position index source stands.
