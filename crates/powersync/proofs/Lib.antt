@@ -1,3 +1,4 @@
+pub mod Dues
 pub mod Reaching
 pub mod Splitting
 pub mod Standing

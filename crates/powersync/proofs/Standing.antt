@@ -116,7 +116,7 @@ row_found rule source position index id q row =
     ∙ ap (λ t. cond t (version position index row) (find key_cmp (rule.table, q) source))
     (ap is_eq (same_table rule.table q id) ∙ sym (texts_ties q id) ∙ nat_list_eq_equiv.symm q id)
 
-same_bytes : (a b : List ℕ) → bytes_eq a b ≡ true → a ≡ b
+pub same_bytes : (a b : List ℕ) → bytes_eq a b ≡ true → a ≡ b
 same_bytes a b e = exact_bytes a b (same_eq (slice_cmp nat_cmp a b) (sym (texts_ties a b) ∙ e))
   where
     same_eq : (o : Ordering) → is_eq o ≡ true → o ≡ Equal

@@ -5,3 +5,4 @@ pub mod Operations
 pub mod Parts
 pub mod Replicating
 pub mod Rules
+pub mod Texts
