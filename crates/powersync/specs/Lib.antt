@@ -1,6 +1,8 @@
 pub mod ChangeFiles
 pub mod Claims
+pub mod Commands
 pub mod Grants
+pub mod Loading
 pub mod Operations
 pub mod Parts
 pub mod Replicating

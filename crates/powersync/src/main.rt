@@ -5,6 +5,8 @@ mod change_files;
 mod claims;
 mod clients;
 mod faults;
+mod loading;
+mod printing;
 mod replicas;
 mod rules;
 mod writing;
