@@ -1,0 +1,77 @@
+-- The laws of one bucket, on which every claim about streams rests.
+use Rattle.std.specs.Prelude.{◌≡◌, ◌≢◌, ℕ, ◌<◌, ◌≤◌, Bool, false, List, [], ◌++◌, Option, IfSome, fold, length}
+use Rattle.ps_bucket_log.specs.declared.ops.Key.{Key}
+use Rattle.ps_bucket_log.specs.declared.ops.Op.{Op}
+use Rattle.ps_bucket_log.specs.Ops.{upto, past, newest, sum_of, has_clear, greatest_target}
+use Rattle.ps_bucket_log.specs.Buckets.{Bucket, after, bucket_of, fresh}
+use Rattle.ps_bucket_log.specs.Logs.{IsRising, IsLog, cleared}
+use Rattle.ps_bucket_log.specs.Batches.{IsLongestFront, front_of, batches_of}
+use Rattle.ps_bucket_log.specs.Standing.{StandsFor, IsHonest, IsHonestUpTo}
+
+-- a batch is any front of the log's operations past the reader's position and up to an id that is committed
+
+-- a batch keeps a reader honest
+abbrev pub StaysHonest : Type 0
+StaysHonest = (log original : List Op) (level op high : ℕ) (bucket : Bucket) (batch left : List Op)
+    → StandsFor log original level → IsRising 0 original → level ≤ op → high ≤ op
+    → upto high (past bucket.position log) ≡ batch ++ left
+    → IsHonest bucket original op → IsHonest (fold after bucket batch) original op
+
+-- and honest up to c, where its target is at most c
+abbrev pub StaysHonestUpTo : Type 0
+StaysHonestUpTo = (log original : List Op) (level op high c : ℕ) (bucket : Bucket) (batch left : List Op)
+    → StandsFor log original level → IsRising 0 original → high ≤ op
+    → upto high (past bucket.position log) ≡ batch ++ left
+    → IfSome (greatest_target batch) (λ target. target.0 ≤ c)
+    → IsHonestUpTo bucket original op c → IsHonestUpTo (fold after bucket batch) original op c
+
+-- a reader that has reached the newest id up to c, and is honest up to c, holds what the original holds up to c
+abbrev pub WholeAtNewest : Type 0
+WholeAtNewest = (original : List Op) (op c : ℕ) (bucket : Bucket)
+    → IsRising 0 original → newest (upto c original) ≤ bucket.position → bucket.position ≤ c → IsHonestUpTo bucket original op c
+    → (bucket.total ≡ (bucket_of (upto c original)).total)
+    × ((key : Key) → bucket.held key ≡ (bucket_of (upto c original)).held key)
+
+-- a reader that begins afresh is honest
+abbrev pub FreshIsHonest : Type 0
+FreshIsHonest = (original : List Op) (op c : ℕ) → IsRising 0 original → IsHonestUpTo fresh original op c
+
+-- who is honest stays so when more is written and committed
+abbrev pub HonestLater : Type 0
+HonestLater = (original more : List Op) (op c later_op later_c : ℕ) (bucket : Bucket)
+    → IsRising op more → op ≤ later_op → c ≤ later_c
+    → IsHonestUpTo bucket original op c → IsHonestUpTo bucket (original ++ more) later_op later_c
+
+-- a log stands when the same operations are appended to both
+abbrev pub StandsLater : Type 0
+StandsLater = (log original more : List Op) (level : ℕ)
+    → IsRising level more → has_clear more ≡ false
+    → StandsFor log original level → StandsFor (log ++ more) (original ++ more) level
+
+-- an untouched log stands for itself
+abbrev pub StandsForItself : Type 0
+StandsForItself = (original : List Op) → IsRising 0 original → has_clear original ≡ false → StandsFor original original 0
+
+-- what stands for an original is a log
+abbrev pub StandingIsLog : Type 0
+StandingIsLog = (log original : List Op) (level : ℕ) → IsRising 0 original → StandsFor log original level → IsLog log
+
+-- from its CLEAR on, the sums and newest ids of a standing log are the original's
+abbrev pub SameSums : Type 0
+SameSums = (log original : List Op) (level high : ℕ)
+    → StandsFor log original level → IsRising 0 original → has_clear original ≡ false → cleared log ≤ high
+    → (sum_of (upto high log) ≡ sum_of (upto high original)) × (newest (upto high log) ≡ newest (upto high original))
+
+-- a reader that takes a log up to an id has its sum and its newest id
+abbrev pub TotalIsSum : Type 0
+TotalIsSum = (log : List Op) (high : ℕ) → IsLog log
+    → ((bucket_of (upto high log)).total ≡ sum_of (upto high log)) × ((bucket_of (upto high log)).position ≡ newest (upto high log))
+
+-- what one batch has is the longest front that fits
+abbrev pub BatchIsLongest : Type 0
+BatchIsLongest = (asked : List Op) → IsLongestFront asked (front_of 0 0 asked)
+
+-- batches that are read one after another from 0 are the log up to the id that was asked for
+abbrev pub BatchesAreTheLog : Type 0
+BatchesAreTheLog = (log : List Op) (high n : ℕ) → IsLog log → cleared log ≤ high → length log ≤ n
+    → batches_of n 0 high log ≡ upto high log
