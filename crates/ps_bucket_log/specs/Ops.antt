@@ -1,5 +1,6 @@
 -- Operations of a bucket: what each says, and how lists of them are cut by id.
 use Rattle.std.specs.Prelude.{ℕ, zero, ◌<◌, ◌+◌, ◌%◌, ◌^◌, Bool, true, false, ◌&&◌, ◌||◌, ◌==◌, if◌then◌else◌, List, [], ◌∷◌, Option, Some, None, filter, fold, sum_by, nat_lt, nat_le, bytes_eq, length}
+use Rattle.std.specs.List.{list_any}
 use Rattle.ps_values.specs.declared.ids.OpId.{OpId}
 use Rattle.ps_bucket_log.specs.declared.ops.Key.{Key}
 use Rattle.ps_bucket_log.specs.declared.ops.Op.{Op}
@@ -70,22 +71,18 @@ sum_of ops = sum_by checksum ops % 2 ^ 32
 
 -- there is an operation with this id
 abbrev pub has_id : ℕ → List Op → Bool
-has_id p [] = false
-has_id p (op ∷ ops) = id_of op == p || has_id p ops
+has_id p ops = list_any (λ op. id_of op == p) ops
 
 -- there is a PUT or a REMOVE of the key with an id up to c
 abbrev pub occurs : Key → ℕ → List Op → Bool
-occurs key c [] = false
-occurs key c (op ∷ ops) = (is_of key op && nat_le (id_of op) c) || occurs key c ops
+occurs key c ops = list_any (λ op. is_of key op && nat_le (id_of op) c) ops
 
 -- there is a PUT or a REMOVE of the key with this id
 abbrev pub occurs_at : Key → ℕ → List Op → Bool
-occurs_at key p [] = false
-occurs_at key p (op ∷ ops) = (is_of key op && id_of op == p) || occurs_at key p ops
+occurs_at key p ops = list_any (λ op. is_of key op && id_of op == p) ops
 
 abbrev pub has_clear : List Op → Bool
-has_clear [] = false
-has_clear (op ∷ ops) = is_clear op || has_clear ops
+has_clear ops = list_any is_clear ops
 
 -- the number of an id, 0 where there is none
 abbrev pub id_or_zero : Option OpId → ℕ

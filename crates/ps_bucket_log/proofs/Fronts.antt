@@ -1,0 +1,1 @@
+-- What one batch has, and what batches have together.

@@ -1,0 +1,4 @@
+pub mod Slices
+pub mod Readers
+pub mod Histories
+pub mod Fronts
