@@ -126,7 +126,7 @@ IsRising-pairs original level q (x ∷ xs) (y ∷ ys) pairs rising =
     let same : id_of x ≡ id_of y = id_of-Matches original level x y pairs.0 in
     rw same (rising.0, IsRising-pairs original level (id_of y) xs ys pairs.1 rising.1)
 
-IsRising-stands : (log original : List Op) (level : ℕ) → IsRising 0 original → StandsFor log original level → IsRising 0 log
+pub IsRising-stands : (log original : List Op) (level : ℕ) → IsRising 0 original → StandsFor log original level → IsRising 0 log
 IsRising-stands [] original level rising stands = tt
 IsRising-stands (Put id key content sum ∷ ops) original level rising stands =
     IsRising-pairs original level 0 (Put id key content sum ∷ ops) (past 0 original) stands.pairs (IsRising-past 0 0 original rising)

@@ -2,3 +2,4 @@ pub mod Slices
 pub mod Readers
 pub mod Histories
 pub mod Fronts
+pub mod Found

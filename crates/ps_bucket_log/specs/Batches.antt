@@ -1,5 +1,5 @@
 -- What one read of a log gives.
-use Rattle.std.specs.Prelude.{◌≡◌, ◌≢◌, ℕ, zero, suc, ◌+◌, ◌<◌, ◌≤◌, Bool, true, false, ◌&&◌, ◌||◌, ◌==◌, if◌then◌else◌, ◌⊎◌, List, [], ◌∷◌, ◌++◌, Option, Some, None, nat_lt, nat_le, length, take, sum_by}
+use Rattle.std.specs.Prelude.{◌≡◌, ◌≢◌, ℕ, zero, suc, ◌+◌, ◌<◌, ◌≤◌, Bool, true, false, ◌&&◌, ◌||◌, ◌==◌, if◌then◌else◌, ◌⊎◌, List, [], ◌∷◌, ◌++◌, Option, Some, None, nat_lt, nat_le, length, take, sum_by, IsTrue, ◌↔◌}
 use Rattle.ps_values.specs.declared.ids.OpId.{OpId}
 use Rattle.ps_bucket_log.specs.declared.ops.Op.{Op}
 use Rattle.ps_bucket_log.specs.declared.batches.Batch.{Batch}
@@ -48,6 +48,16 @@ abbrev pub batch_of : ℕ → ℕ → List Op → Batch
 batch_of low high log =
     if nat_lt high (cleared log) then passed_by (cleared log)
     else batch_from (upto high (past low log)) (front_of 0 0 (upto high (past low log)))
+
+-- what a batch is, in other words
+pub record IsBatch (low high : ℕ) (log : List Op) (batch : Batch) : Type 0 where
+  -- where a CLEAR stands past what was asked for, it is told, and nothing else
+  pub passed : high < cleared log → (batch.passed ≡ Some (record { 0 = cleared log })) × (batch.ops ≡ [])
+  -- else there is the longest front, and whether some were left
+  pub taken : cleared log ≤ high
+    → (batch.passed ≡ None) × IsLongestFront (upto high (past low log)) batch.ops
+    × (IsTrue batch.has_more ↔ (length batch.ops < length (upto high (past low log))))
+  pub target : batch.target ≡ greatest_target batch.ops
 
 -- all that a reader gets in at most n batches, each read after the newest id so far
 abbrev pub batches_of : ℕ → ℕ → ℕ → List Op → List Op

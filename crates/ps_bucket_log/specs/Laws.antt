@@ -5,7 +5,7 @@ use Rattle.ps_bucket_log.specs.declared.ops.Op.{Op}
 use Rattle.ps_bucket_log.specs.Ops.{upto, past, newest, sum_of, has_clear, greatest_target}
 use Rattle.ps_bucket_log.specs.Buckets.{Bucket, after, bucket_of, fresh}
 use Rattle.ps_bucket_log.specs.Logs.{IsRising, IsLog, cleared}
-use Rattle.ps_bucket_log.specs.Batches.{IsLongestFront, front_of, batches_of}
+use Rattle.ps_bucket_log.specs.Batches.{IsBatch, batch_of, batches_of}
 use Rattle.ps_bucket_log.specs.Standing.{StandsFor, IsHonest, IsHonestUpTo}
 
 -- a batch is any front of the log's operations past the reader's position and up to an id that is committed
@@ -67,9 +67,9 @@ abbrev pub TotalIsSum : Type 0
 TotalIsSum = (log : List Op) (high : ℕ) → IsLog log
     → ((bucket_of (upto high log)).total ≡ sum_of (upto high log)) × ((bucket_of (upto high log)).position ≡ newest (upto high log))
 
--- what one batch has is the longest front that fits
-abbrev pub BatchIsLongest : Type 0
-BatchIsLongest = (asked : List Op) → IsLongestFront asked (front_of 0 0 asked)
+-- what is read is the longest front that fits, unless a CLEAR stands past what is asked for
+abbrev pub ReadsLongestFront : Type 0
+ReadsLongestFront = (low high : ℕ) (log : List Op) → IsBatch low high log (batch_of low high log)
 
 -- batches that are read one after another from 0 are the log up to the id that was asked for
 abbrev pub BatchesAreTheLog : Type 0

@@ -1,0 +1,5 @@
+use Rattle.ps_bucket_log.proofs.Histories.{same_sums}
+use Rattle.ps_bucket_log.proofs.laws.standing_logs_have_the_sums_of_their_originals.Goals as goal
+
+pub returns : goal.returns
+returns c = same_sums

@@ -1,0 +1,54 @@
+//! The laws of one bucket. Each is the contract of a function that does nothing.
+
+ghost use Rattle.ps_bucket_log.specs.Laws.{StaysHonest, StaysHonestUpTo, WholeAtNewest, FreshIsHonest, HonestLater, StandsLater, StandsForItself, StandingIsLog, SameSums, TotalIsSum, ReadsLongestFront, BatchesAreTheLog};
+
+/// A law: a reader that is honest stays so over each batch of a standing log; one that is honest up to an
+/// id stays that too, where the batch's target is no later than the id.
+pub fn batches_keep_readers_honest()
+    ensures honest { StaysHonest }
+    ensures honest_up_to { StaysHonestUpTo }
+{
+}
+
+/// A law: a reader that has reached the newest operation up to an id, and is honest up to it, holds what
+/// the original holds there, and has its total.
+pub fn readers_are_whole_at_the_newest()
+    ensures { WholeAtNewest }
+{
+}
+
+/// A law: a reader that begins afresh is honest, and who is honest stays so when more is written and committed.
+pub fn honest_readers_stay_honest()
+    ensures afresh { FreshIsHonest }
+    ensures later { HonestLater }
+{
+}
+
+/// A law: an untouched log stands for itself, and a standing log still stands when the same operations are
+/// appended to it and to its original. It is a log: its ids rise, and only its first operation may be a CLEAR.
+pub fn standing_logs_stay_standing()
+    ensures untouched { StandsForItself }
+    ensures later { StandsLater }
+    ensures log { StandingIsLog }
+{
+}
+
+/// A law: from its CLEAR on, a standing log has the sums and the newest ids of its original.
+pub fn standing_logs_have_the_sums_of_their_originals()
+    ensures { SameSums }
+{
+}
+
+/// A law: a reader that takes a log up to an id has its sum as total, and its newest id as position.
+pub fn totals_are_sums()
+    ensures { TotalIsSum }
+{
+}
+
+/// A law: a batch is the longest front that fits, and batches that are read one after another, each after
+/// the newest id so far, are the log up to the id that was asked for.
+pub fn batches_are_the_log()
+    ensures longest { ReadsLongestFront }
+    ensures together { BatchesAreTheLog }
+{
+}
