@@ -16,9 +16,9 @@ has_room count bytes size = ltb count most_ops && leb (bytes + size) most_bytes
 pub front-split : (count bytes : ℕ) (xs : List Op) → (left : List Op) × (xs ≡ front_of count bytes xs ++ left)
 front-split count bytes [] = ([], refl)
 front-split count bytes (x ∷ xs) = elim (cases_Bool (eqb count 0 || has_room count bytes (size_of x))) [
-    inl room ↦ let later = front-split (count + 1) (bytes + size_of x) xs in (later.0, rw room (ap (λ ys. x ∷ ys) later.1))
+  | inl room ↦ let later = front-split (count + 1) (bytes + size_of x) xs in (later.0, rw room (ap (λ ys. x ∷ ys) later.1))
   | inr full ↦ (x ∷ xs, rw full refl)
-  ]
+]
 
 -- past the first operation, only the limits decide
 front-go : (count bytes : ℕ) (x : Op) (xs : List Op) → 0 < count → has_room count bytes (size_of x) ≡ true
@@ -32,21 +32,21 @@ front-bounds : (count bytes : ℕ) (xs : List Op) → 0 < count → count ≤ mo
     → (count + length (front_of count bytes xs) ≤ most_ops) × (bytes + sum_by size_of (front_of count bytes xs) ≤ most_bytes)
 front-bounds count bytes [] later few small = (omega arith, omega arith)
 front-bounds count bytes (x ∷ xs) later few small = elim (cases_Bool (has_room count bytes (size_of x))) [
-    inl room ↦
+  | inl room ↦
       let parts = and_parts (ltb count most_ops) (leb (bytes + size_of x) most_bytes) room in
       let fewer = ltb-true count most_ops parts.0 in
       let smaller = leb-true (bytes + size_of x) most_bytes parts.1 in
       let behind = front-bounds (count + 1) (bytes + size_of x) xs (omega arith) (omega arith) smaller in
       rw (front-go count bytes x xs later room, sum_by-cons size_of x (front_of (count + 1) (bytes + size_of x) xs)) (omega (arith, behind.0), omega (arith, behind.1))
   | inr full ↦ rw (front-stop count bytes x xs later full) (omega arith, omega arith)
-  ]
+]
 
 -- once the limit of bytes is passed, nothing more is taken
 front-stuck : (count bytes : ℕ) (xs : List Op) → 0 < count → most_bytes < bytes → front_of count bytes xs ≡ []
 front-stuck count bytes [] later much = refl
 front-stuck count bytes (x ∷ xs) later much =
     front-stop count bytes x xs later
-      (and_right (ltb count most_ops) (leb (bytes + size_of x) most_bytes) (lt-leb (bytes + size_of x) most_bytes (omega arith)))
+    (and_right (ltb count most_ops) (leb (bytes + size_of x) most_bytes) (lt-leb (bytes + size_of x) most_bytes (omega arith)))
 
 front-longest : (xs : List Op) (count bytes k : ℕ) → 0 < count → length (front_of count bytes xs) < k → k ≤ length xs
     → count + k ≤ most_ops → bytes + sum_by size_of (take k xs) ≤ most_bytes → ⊥
@@ -55,13 +55,13 @@ front-longest (x ∷ xs) count bytes zero later more within few small = omega ar
 front-longest (x ∷ xs) count bytes (suc k) later more within few small =
     let sizes = sum_by-cons size_of x (take k xs) in
     elim (cases_Bool (has_room count bytes (size_of x))) [
-      inl room ↦
-        let longer : length (x ∷ front_of (count + 1) (bytes + size_of x) xs) < suc k = rw (front-go count bytes x xs later room) at more in
-        front-longest xs (count + 1) (bytes + size_of x) k (omega arith) (omega arith) (omega arith) (omega arith) (omega (arith, sizes))
-    | inr full ↦
-        both_ways (has_room count bytes (size_of x)) full
+      | inl room ↦
+          let longer : length (x ∷ front_of (count + 1) (bytes + size_of x) xs) < suc k = rw (front-go count bytes x xs later room) at more in
+          front-longest xs (count + 1) (bytes + size_of x) k (omega arith) (omega arith) (omega arith) (omega arith) (omega (arith, sizes))
+      | inr full ↦
+          both_ways (has_room count bytes (size_of x)) full
           (and_from (ltb count most_ops) (leb (bytes + size_of x) most_bytes) (lt-ltb count most_ops (omega arith))
-            (le-leb (bytes + size_of x) most_bytes (omega (arith, sizes))))
+          (le-leb (bytes + size_of x) most_bytes (omega (arith, sizes))))
     ]
 
 -- the first operation is always taken
@@ -70,18 +70,18 @@ front-first x xs = rw (zero-add (size_of x)) refl
 
 first-fits : (x : Op) (xs : List Op) → (length (x ∷ front_of 1 (size_of x) xs) ≤ 1) ⊎ Fits (x ∷ front_of 1 (size_of x) xs)
 first-fits x xs = elim (cases_lt most_bytes (size_of x)) [
-    inl much ↦ rw (front-stuck 1 (size_of x) xs (omega arith) much) (inl (omega arith))
+  | inl much ↦ rw (front-stuck 1 (size_of x) xs (omega arith) much) (inl (omega arith))
   | inr within ↦
       let bounds = front-bounds 1 (size_of x) xs (omega arith) (omega arith) within in
       inr (omega (arith, bounds.0), rw (sum_by-cons size_of x (front_of 1 (size_of x) xs)) bounds.1)
-  ]
+]
 
 -- no longer front fits
 first-longest : (x : Op) (xs : List Op) (n : ℕ) → length (x ∷ front_of 1 (size_of x) xs) < n → n ≤ length (x ∷ xs) → Fits (take n (x ∷ xs)) → ⊥
 first-longest x xs zero more within fits = omega arith
 first-longest x xs (suc n) more within fits =
     front-longest xs 1 (size_of x) n (omega arith) (omega arith) (omega arith)
-      (let count : length (take n xs) ≡ n = length-take-le n xs (omega arith) in omega (arith, fits.0)) (rw (← sum_by-cons size_of x (take n xs)) fits.1)
+    (let count : length (take n xs) ≡ n = length-take-le n xs (omega arith) in omega (arith, fits.0)) (rw (← sum_by-cons size_of x (take n xs)) fits.1)
 
 batch_is_longest : (asked : List Op) → IsLongestFront asked (front_of 0 0 asked)
 batch_is_longest [] = record { front = ([], refl); fits = inl (omega arith); first = λ some none. some none; longest = λ n more within fits. omega arith }
@@ -95,17 +95,17 @@ batch_is_longest (x ∷ xs) =
 
 pub reads_longest_front : (low high : ℕ) (log : List Op) → IsBatch low high log (batch_of low high log)
 reads_longest_front low high log = elim (cases_lt high (cleared log)) [
-    inl passed ↦ rw (lt-ltb high (cleared log) passed) (record {
-        passed = λ _. (refl, refl);
-        taken = λ within. absurd (omega arith);
-        target = refl;
-      })
+  | inl passed ↦ rw (lt-ltb high (cleared log) passed) (record {
+    passed = λ _. (refl, refl);
+    taken = λ within. absurd (omega arith);
+    target = refl;
+  })
   | inr within ↦ rw (le-ltb high (cleared log) within) (record {
-        passed = λ passed. absurd (omega arith);
-        taken = λ _. (refl, batch_is_longest (upto high (past low log)), (ltb-true _ _, lt-ltb _ _));
-        target = refl;
-      })
-  ]
+    passed = λ passed. absurd (omega arith);
+    taken = λ _. (refl, batch_is_longest (upto high (past low log)), (ltb-true _ _, lt-ltb _ _));
+    target = refl;
+  })
+]
 
 -- reading on
 
@@ -137,25 +137,25 @@ batches_from (suc n) low high log rising within few =
     let split = front-split 0 0 (upto high (past low log)) in
     let lengths = ap length split.1 ∙ length-append (front_of 0 0 (upto high (past low log))) split.0 in
     elim (cases_lt (length (front_of 0 0 (upto high (past low log)))) (length (upto high (past low log)))) [
-      inl more ↦
-        let some = front-some (upto high (past low log)) (omega arith) in
-        let rest : upto high (past (newest (front_of 0 0 (upto high (past low log)))) log) ≡ split.0 =
-            rw (newest-from 0 low (front_of 0 0 (upto high (past low log))) some)
-              (left_behind (front_of 0 0 (upto high (past low log))) log split.0 low high rising split.1) in
-        let later = batches_from n (newest (front_of 0 0 (upto high (past low log)))) high log rising within (rw rest (omega (arith, lengths))) in
-        rw (le-ltb high (cleared log) within, lt-ltb _ _ more) (ap (λ ys. front_of 0 0 (upto high (past low log)) ++ ys) (later ∙ rest) ∙ sym split.1)
-    | inr all ↦
-        let nothing : split.0 ≡ [] = none_left split.0 (omega (arith, lengths)) in
-        rw (le-ltb high (cleared log) within, le-ltb _ _ all)
+      | inl more ↦
+          let some = front-some (upto high (past low log)) (omega arith) in
+          let rest : upto high (past (newest (front_of 0 0 (upto high (past low log)))) log) ≡ split.0 =
+          rw (newest-from 0 low (front_of 0 0 (upto high (past low log))) some)
+          (left_behind (front_of 0 0 (upto high (past low log))) log split.0 low high rising split.1) in
+          let later = batches_from n (newest (front_of 0 0 (upto high (past low log)))) high log rising within (rw rest (omega (arith, lengths))) in
+          rw (le-ltb high (cleared log) within, lt-ltb _ _ more) (ap (λ ys. front_of 0 0 (upto high (past low log)) ++ ys) (later ∙ rest) ∙ sym split.1)
+      | inr all ↦
+          let nothing : split.0 ≡ [] = none_left split.0 (omega (arith, lengths)) in
+          rw (le-ltb high (cleared log) within, le-ltb _ _ all)
           (ap (λ ys. front_of 0 0 (upto high (past low log)) ++ ys) (sym nothing) ∙ sym split.1)
     ]
 
 length-upto : (p : ℕ) (xs : List Op) → length (upto p xs) ≤ length xs
 length-upto p [] = omega arith
 length-upto p (x ∷ xs) = elim (cases_lt p (id_of x)) [
-    inl above ↦ rw (lt-leb (id_of x) p above) (omega (arith, length-upto p xs))
+  | inl above ↦ rw (lt-leb (id_of x) p above) (omega (arith, length-upto p xs))
   | inr within ↦ rw (le-leb (id_of x) p within) (omega (arith, length-upto p xs))
-  ]
+]
 
 pub batches_are_the_log : (log : List Op) (high n : ℕ) → IsLog log → cleared log ≤ high → length log ≤ n → batches_of n 0 high log ≡ upto high log
 batches_are_the_log log high n is_log within long =

@@ -78,9 +78,9 @@ upto-newest p q (x ∷ xs) rising reached =
 upto-lower : (p q : ℕ) (xs : List Op) → q ≤ p → upto q (upto p xs) ≡ upto q xs
 upto-lower p q [] below = refl
 upto-lower p q (x ∷ xs) below = elim (cases_lt p (id_of x)) [
-    inl above ↦ rw (lt-leb (id_of x) p above, lt-leb (id_of x) q (omega arith)) (upto-lower p q xs below)
+  | inl above ↦ rw (lt-leb (id_of x) p above, lt-leb (id_of x) q (omega arith)) (upto-lower p q xs below)
   | inr within ↦ rw (le-leb (id_of x) p within) (ap (λ ys. cond (leb (id_of x) q) (x ∷ ys) ys) (upto-lower p q xs below))
-  ]
+]
 
 -- a reader between the newest id up to c and c has all up to c before it, and nothing up to c behind it
 upto-reached : (original : List Op) (p c : ℕ) → IsRising 0 original → newest (upto c original) ≤ p → p ≤ c → upto p original ≡ upto c original
@@ -93,29 +93,30 @@ occurs-behind key c p q [] rising low = refl
 occurs-behind key c p q (x ∷ xs) rising low =
     let later = occurs-behind key c p (id_of x) xs rising.1 (omega (arith, rising.0)) in
     elim (cases_lt p (id_of x)) [
-      inl above ↦
-        rw (lt-ltb p (id_of x) above) (or_from (is_of key x && leb (id_of x) c) (occurs key c (past p xs))
+      | inl above ↦
+          rw (lt-ltb p (id_of x) above) (or_from (is_of key x && leb (id_of x) c) (occurs key c (past p xs))
           (and_right (is_of key x) (leb (id_of x) c) (lt-leb (id_of x) c (omega (arith, rising.0)))) later)
-    | inr below ↦ rw (le-ltb p (id_of x) below) later
+      | inr below ↦ rw (le-ltb p (id_of x) below) later
     ]
 
 occurs-reached : (key : Key) (c p q : ℕ) (xs : List Op) → IsRising q xs → fold (λ a op. id_of op) q (upto c xs) ≤ p → occurs key c (past p xs) ≡ false
 occurs-reached key c p q [] rising reached = refl
 occurs-reached key c p q (x ∷ xs) rising reached = elim (cases_lt c (id_of x)) [
-    inl above ↦ occurs-behind key c p c (x ∷ xs) (above, rising.1) (omega arith)
+  | inl above ↦ occurs-behind key c p c (x ∷ xs) (above, rising.1) (omega arith)
   | inr within ↦
       let behind : fold (λ a op. id_of op) (id_of x) (upto c xs) ≤ p = rw (le-leb (id_of x) c within) at reached in
       let here : id_of x ≤ p = omega (arith, newest-rising (id_of x) (upto c xs) (IsRising-upto c (id_of x) xs rising.1), behind) in
       rw (le-ltb p (id_of x) here) (occurs-reached key c p (id_of x) xs rising.1 behind)
-  ]
+]
 
 pub whole_at_newest : (original : List Op) (op c : ℕ) (bucket : Bucket)
     → IsRising 0 original → newest (upto c original) ≤ bucket.position → bucket.position ≤ c → IsHonestUpTo bucket original op c
     → (bucket.total ≡ (bucket_of (upto c original)).total) × ((key : Key) → bucket.held key ≡ (bucket_of (upto c original)).held key)
 whole_at_newest original op c bucket rising reached within honest =
-    let same : upto bucket.position original ≡ upto c original = upto-reached original bucket.position c rising reached within in
-    (honest.total ∙ ap (λ xs. (bucket_of xs).total) same,
-     λ key. honest.keys key (occurs-reached key c bucket.position 0 original rising reached) ∙ ap (λ xs. (bucket_of xs).held key) same)
+    let same : upto bucket.position original ≡ upto c original = upto-reached original bucket.position c rising reached within in (
+      honest.total ∙ ap (λ xs. (bucket_of xs).total) same,
+      λ key. honest.keys key (occurs-reached key c bucket.position 0 original rising reached) ∙ ap (λ xs. (bucket_of xs).held key) same,
+    )
 
 -- what stands for an original is a log
 
@@ -134,9 +135,10 @@ IsRising-stands (Remove id key sum ∷ ops) original level rising stands =
     IsRising-pairs original level 0 (Remove id key sum ∷ ops) (past 0 original) stands.pairs (IsRising-past 0 0 original rising)
 IsRising-stands (Move id sum target ∷ ops) original level rising stands =
     IsRising-pairs original level 0 (Move id sum target ∷ ops) (past 0 original) stands.pairs (IsRising-past 0 0 original rising)
-IsRising-stands (Clear id sum target ∷ ops) original level rising stands =
-    (has_id-above id.0 0 original rising stands.front.known,
-     IsRising-pairs original level id.0 ops (past id.0 original) stands.pairs (IsRising-past id.0 0 original rising))
+IsRising-stands (Clear id sum target ∷ ops) original level rising stands = (
+  has_id-above id.0 0 original rising stands.front.known,
+  IsRising-pairs original level id.0 ops (past id.0 original) stands.pairs (IsRising-past id.0 0 original rising),
+)
 
 pub standing_is_log : (log original : List Op) (level : ℕ) → IsRising 0 original → StandsFor log original level → IsLog log
 standing_is_log log original level rising stands = record { rising = IsRising-stands log original level rising stands; one_clear = stands.one_clear }
@@ -150,16 +152,16 @@ AllZip-same original level (x ∷ xs) = (inl refl, AllZip-same original level xs
 Matches-append : (original more : List Op) (level : ℕ) (op entry : Op) → Matches original level op entry → Matches (original ++ more) level op entry
 Matches-append original more level op entry (inl same) = inl same
 Matches-append original more level op entry (inr move) = inr (record {
-    target = move.target;
-    is = move.is;
-    of_entry = move.of_entry;
-    within = move.within;
-    reach = move.reach;
-    later = λ key mine.
+  target = move.target;
+  is = move.is;
+  of_entry = move.of_entry;
+  within = move.within;
+  reach = move.reach;
+  later = λ key mine.
       let at = λ (x : Op). is_of key x && eqb (id_of x) move.target.0 in
       ap (list_any at) (past-append (id_of entry) original more) ∙ list_any-append at (past (id_of entry) original) (past (id_of entry) more)
       ∙ or_left (occurs_at key move.target.0 (past (id_of entry) original)) (occurs_at key move.target.0 (past (id_of entry) more)) (move.later key mine);
-  })
+})
 
 AllZip-append : (original more : List Op) (level : ℕ) (xs ys : List Op) → AllZip (Matches original level) xs ys → AllZip (Matches (original ++ more) level) (xs ++ more) (ys ++ more)
 AllZip-append original more level [] [] pairs = AllZip-same (original ++ more) level more
@@ -215,13 +217,13 @@ stands_later [] original more level rising no_clear stands =
     stands_behind more (original ++ more) level no_clear (pairs_later 0 level [] original more rising (omega arith) stands.pairs)
 stands_later (Put id key content sum ∷ ops) original more level rising no_clear stands =
     stands_behind ((Put id key content sum ∷ ops) ++ more) (original ++ more) level (no_clear_later (Put id key content sum ∷ ops) more stands.one_clear no_clear)
-      (pairs_later 0 level (Put id key content sum ∷ ops) original more rising (omega arith) stands.pairs)
+    (pairs_later 0 level (Put id key content sum ∷ ops) original more rising (omega arith) stands.pairs)
 stands_later (Remove id key sum ∷ ops) original more level rising no_clear stands =
     stands_behind ((Remove id key sum ∷ ops) ++ more) (original ++ more) level (no_clear_later (Remove id key sum ∷ ops) more stands.one_clear no_clear)
-      (pairs_later 0 level (Remove id key sum ∷ ops) original more rising (omega arith) stands.pairs)
+    (pairs_later 0 level (Remove id key sum ∷ ops) original more rising (omega arith) stands.pairs)
 stands_later (Move id sum target ∷ ops) original more level rising no_clear stands =
     stands_behind ((Move id sum target ∷ ops) ++ more) (original ++ more) level (no_clear_later (Move id sum target ∷ ops) more stands.one_clear no_clear)
-      (pairs_later 0 level (Move id sum target ∷ ops) original more rising (omega arith) stands.pairs)
+    (pairs_later 0 level (Move id sum target ∷ ops) original more rising (omega arith) stands.pairs)
 stands_later (Clear id sum target ∷ ops) original more level rising no_clear stands =
     record {
       one_clear = no_clear_later ops more stands.one_clear no_clear;
@@ -247,15 +249,15 @@ total-added bucket [] n no_clear same = same
 total-added bucket (op ∷ ops) n no_clear same =
     let parts = or_parts (is_clear op) (has_clear ops) no_clear in
     total-added (after bucket op) ops (n + checksum op) parts.1
-      (total_after-added bucket.total op parts.0 ∙ ap (λ t. (t + checksum op) % 2 ^ 32) same ∙ mod-add-mod n (2 ^ 32) (checksum op))
+    (total_after-added bucket.total op parts.0 ∙ ap (λ t. (t + checksum op) % 2 ^ 32) same ∙ mod-add-mod n (2 ^ 32) (checksum op))
 
 has_clear-upto : (p : ℕ) (ops : List Op) → has_clear ops ≡ false → has_clear (upto p ops) ≡ false
 has_clear-upto p [] no_clear = refl
 has_clear-upto p (op ∷ ops) no_clear =
     let parts = or_parts (is_clear op) (has_clear ops) no_clear in
     elim (cases_lt p (id_of op)) [
-      inl above ↦ rw (lt-leb (id_of op) p above) (has_clear-upto p ops parts.1)
-    | inr within ↦ rw (le-leb (id_of op) p within) (or_from (is_clear op) (has_clear (upto p ops)) parts.0 (has_clear-upto p ops parts.1))
+      | inl above ↦ rw (lt-leb (id_of op) p above) (has_clear-upto p ops parts.1)
+      | inr within ↦ rw (le-leb (id_of op) p within) (or_from (is_clear op) (has_clear (upto p ops)) parts.0 (has_clear-upto p ops parts.1))
     ]
 
 total_is_sum_without : (high : ℕ) (ops : List Op) → has_clear ops ≡ false → (bucket_of (upto high ops)).total ≡ sum_of (upto high ops)
@@ -267,10 +269,10 @@ total_is_sum_of (Put id key content sum ∷ ops) high one_clear = total_is_sum_w
 total_is_sum_of (Remove id key sum ∷ ops) high one_clear = total_is_sum_without high (Remove id key sum ∷ ops) one_clear
 total_is_sum_of (Move id sum target ∷ ops) high one_clear = total_is_sum_without high (Move id sum target ∷ ops) one_clear
 total_is_sum_of (Clear id sum target ∷ ops) high one_clear = elim (cases_lt high id.0) [
-    inl above ↦ rw (lt-leb id.0 high above) (total_is_sum_without high ops one_clear)
+  | inl above ↦ rw (lt-leb id.0 high above) (total_is_sum_without high ops one_clear)
   | inr within ↦ rw (le-leb id.0 high within)
       (total-added (after fresh (Clear id sum target)) (upto high ops) (0 + sum.0) (has_clear-upto high ops one_clear) (rw zero-add refl))
-  ]
+]
 
 pub total_is_sum : (log : List Op) (high : ℕ) → IsLog log
     → ((bucket_of (upto high log)).total ≡ sum_of (upto high log)) × ((bucket_of (upto high log)).position ≡ newest (upto high log))
@@ -297,7 +299,7 @@ SameTotals-behind : (ops original : List Op) (level high : ℕ) → AllZip (Matc
 SameTotals-behind ops original level high pairs rising =
     let all : AllZip (Matches original level) ops original = rw (past-rising 0 0 original rising (omega arith)) at pairs in
     SameTotals-pairs original level fresh fresh (upto high ops) (upto high original) (AllZip-upto original level high ops original all)
-      (record { total = refl; position = refl })
+    (record { total = refl; position = refl })
 
 SameTotals-stands : (log original : List Op) (level high : ℕ) → StandsFor log original level → IsRising 0 original → cleared log ≤ high
     → SameTotals (bucket_of (upto high log)) (bucket_of (upto high original))
@@ -312,13 +314,13 @@ SameTotals-stands (Clear id sum target ∷ ops) original level high stands risin
     let small = total-small fresh (upto id.0 original) (omega arith) in
     let split = upto-split high id.0 0 original rising low in
     let whole : bucket_of (upto high original) ≡ fold after (bucket_of (upto id.0 original)) (upto high (past id.0 original)) =
-        ap bucket_of split ∙ fold-append after fresh (upto id.0 original) (upto high (past id.0 original)) in
+    ap bucket_of split ∙ fold-append after fresh (upto id.0 original) (upto high (past id.0 original)) in
     rw (le-leb id.0 high low, whole) (SameTotals-pairs original level (after fresh (Clear id sum target)) (bucket_of (upto id.0 original))
-      (upto high ops) (upto high (past id.0 original)) (AllZip-upto original level high ops (past id.0 original) stands.pairs)
-      (record {
-        total = omega (arith, stands.front.sum);
-        position = sym (position-newest fresh (upto id.0 original) ∙ newest-known id.0 0 0 original rising stands.front.known);
-      }))
+    (upto high ops) (upto high (past id.0 original)) (AllZip-upto original level high ops (past id.0 original) stands.pairs)
+    (record {
+      total = omega (arith, stands.front.sum);
+      position = sym (position-newest fresh (upto id.0 original) ∙ newest-known id.0 0 0 original rising stands.front.known);
+    }))
 
 rest-without : (ops : List Op) → has_clear ops ≡ false → rest ops ≡ ops
 rest-without [] no_clear = refl
@@ -328,6 +330,7 @@ pub same_sums : (log original : List Op) (level high : ℕ)
     → StandsFor log original level → IsRising 0 original → has_clear original ≡ false → cleared log ≤ high
     → (sum_of (upto high log) ≡ sum_of (upto high original)) × (newest (upto high log) ≡ newest (upto high original))
 same_sums log original level high stands rising no_clear low =
-    let same = SameTotals-stands log original level high stands rising low in
-    (sym (total_is_sum_of log high stands.one_clear) ∙ same.total ∙ total_is_sum_without high original no_clear,
-     sym (position-newest fresh (upto high log)) ∙ same.position ∙ position-newest fresh (upto high original))
+    let same = SameTotals-stands log original level high stands rising low in (
+      sym (total_is_sum_of log high stands.one_clear) ∙ same.total ∙ total_is_sum_without high original no_clear,
+      sym (position-newest fresh (upto high log)) ∙ same.position ∙ position-newest fresh (upto high original),
+    )

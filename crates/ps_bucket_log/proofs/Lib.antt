@@ -3,3 +3,4 @@ pub mod Readers
 pub mod Histories
 pub mod Fronts
 pub mod Found
+pub mod Steps

@@ -65,11 +65,11 @@ took_same original op c bucket x xs rising is within honest =
       reached = within;
       total = ap (λ t. total_after t x) honest.total ∙ sym (ap (λ (k : Bucket). k.total) e);
       keys = λ key none. elim (cases_Bool (is_of key x)) [
-          inl mine ↦ held_after-own key _ _ x mine ∙ sym (ap (λ (k : Bucket). k.held key) e)
+        | inl mine ↦ held_after-own key _ _ x mine ∙ sym (ap (λ (k : Bucket). k.held key) e)
         | inr other ↦
             ap (λ h. held_after key h x) (honest.keys key (occurs-next key c bucket.position original x xs is n other none))
             ∙ sym (ap (λ (k : Bucket). k.held key) e)
-        ];
+      ];
     }
 
 took_move : (original : List Op) (level op c : ℕ) (bucket : Bucket) (v x : Op) (xs : List Op)
@@ -84,14 +84,14 @@ took_move original level op c bucket v x xs rising is within move reach honest =
     rw move.is (record {
       reached = within;
       total =
-        ap (λ t. (t + checksum x) % 2 ^ 32) honest.total ∙ sym (total_after-entry _ x move.of_entry)
-        ∙ sym (ap (λ (k : Bucket). k.total) e);
+          ap (λ t. (t + checksum x) % 2 ^ 32) honest.total ∙ sym (total_after-entry _ x move.of_entry)
+          ∙ sym (ap (λ (k : Bucket). k.total) e);
       keys = λ key none. elim (cases_Bool (is_of key x)) [
-          inl mine ↦ absurd (both_ways _ none (occurs-from_at key move.target.0 c (past (id_of x) original) low (move.later key mine)))
+        | inl mine ↦ absurd (both_ways _ none (occurs-from_at key move.target.0 c (past (id_of x) original) low (move.later key mine)))
         | inr other ↦
             honest.keys key (occurs-next key c bucket.position original x xs is n other none)
             ∙ sym (held_after-other key _ x move.of_entry other) ∙ sym (ap (λ (k : Bucket). k.held key) e)
-        ];
+      ];
     })
 
 took_clear : (original : List Op) (level op c : ℕ) (bucket : Bucket) (id : OpId) (sum : Sum) (target : Option OpId)
@@ -135,8 +135,8 @@ AllZip-past original level p (x ∷ xs) [] pairs = absurd pairs
 AllZip-past original level p (x ∷ xs) (y ∷ ys) pairs =
     let same : id_of x ≡ id_of y = id_of-Matches original level x y pairs.0 in
     elim (cases_lt p (id_of x)) [
-      inl above ↦ rw (lt-ltb p (id_of x) above, lt-ltb p (id_of y) (omega arith)) (pairs.0, AllZip-past original level p xs ys pairs.1)
-    | inr below ↦ rw (le-ltb p (id_of x) below, le-ltb p (id_of y) (omega arith)) (AllZip-past original level p xs ys pairs.1)
+      | inl above ↦ rw (lt-ltb p (id_of x) above, lt-ltb p (id_of y) (omega arith)) (pairs.0, AllZip-past original level p xs ys pairs.1)
+      | inr below ↦ rw (le-ltb p (id_of x) below, le-ltb p (id_of y) (omega arith)) (AllZip-past original level p xs ys pairs.1)
     ]
 
 pub AllZip-upto : (original : List Op) (level p : ℕ) (xs ys : List Op) → AllZip (Matches original level) xs ys → AllZip (Matches original level) (upto p xs) (upto p ys)
@@ -146,8 +146,8 @@ AllZip-upto original level p (x ∷ xs) [] pairs = absurd pairs
 AllZip-upto original level p (x ∷ xs) (y ∷ ys) pairs =
     let same : id_of x ≡ id_of y = id_of-Matches original level x y pairs.0 in
     elim (cases_lt p (id_of x)) [
-      inl above ↦ rw (lt-leb (id_of x) p above, lt-leb (id_of y) p (omega arith)) (AllZip-upto original level p xs ys pairs.1)
-    | inr below ↦ rw (le-leb (id_of x) p below, le-leb (id_of y) p (omega arith)) (pairs.0, AllZip-upto original level p xs ys pairs.1)
+      | inl above ↦ rw (lt-leb (id_of x) p above, lt-leb (id_of y) p (omega arith)) (AllZip-upto original level p xs ys pairs.1)
+      | inr below ↦ rw (le-leb (id_of x) p below, le-leb (id_of y) p (omega arith)) (pairs.0, AllZip-upto original level p xs ys pairs.1)
     ]
 
 -- an operation from behind the CLEAR, which has the id k
@@ -161,8 +161,8 @@ took_behind ops original level op c k bucket v vs pairs low rising is within rea
     let pair = paired (Matches original level) v vs (past bucket.position original) here in
     let same : id_of v ≡ id_of pair.partner = id_of-Matches original level v pair.partner pair.alike in
     elim pair.alike [
-      inl equal ↦ rw equal (took_same original op c bucket pair.partner pair.others rising pair.is (omega arith) honest)
-    | inr move ↦ took_move original level op c bucket v pair.partner pair.others rising pair.is (omega arith) move reach honest
+      | inl equal ↦ rw equal (took_same original op c bucket pair.partner pair.others rising pair.is (omega arith) honest)
+      | inr move ↦ took_move original level op c bucket v pair.partner pair.others rising pair.is (omega arith) move reach honest
     ]
 
 -- the next operation of a standing log keeps a reader honest up to c, where its target is at most c
@@ -179,12 +179,12 @@ took (Move id sum target ∷ ops) original level op c bucket v vs stands rising 
     took_behind (Move id sum target ∷ ops) original level op c 0 bucket v vs stands.pairs (omega arith) rising is within reach honest
 took (Clear id sum target ∷ ops) original level op c bucket v vs stands rising is within reach honest =
     elim (cases_lt bucket.position id.0) [
-      inl above ↦
-        let here : Clear id sum target ∷ past bucket.position ops ≡ v ∷ vs = rw (lt-ltb bucket.position id.0 above) at is in
-        let same : v ≡ Clear id sum target = cc in
-        rw same (took_clear original level op c bucket id sum target stands.front (rw same at within) (rw same at reach))
-    | inr below ↦
-        took_behind ops original level op c id.0 bucket v vs stands.pairs below rising (rw (le-ltb bucket.position id.0 below) at is) within reach honest
+      | inl above ↦
+          let here : Clear id sum target ∷ past bucket.position ops ≡ v ∷ vs = rw (lt-ltb bucket.position id.0 above) at is in
+          let same : v ≡ Clear id sum target = cc in
+          rw same (took_clear original level op c bucket id sum target stands.front (rw same at within) (rw same at reach))
+      | inr below ↦
+          took_behind ops original level op c id.0 bucket v vs stands.pairs below rising (rw (le-ltb bucket.position id.0 below) at is) within reach honest
     ]
 
 -- targets that a reader up to c has nothing to fear of
@@ -210,9 +210,9 @@ later_id-within : (c : ℕ) (a b : Option OpId) → IfSome (later_id a b) (λ t.
 later_id-within c None b within = (omega arith, within)
 later_id-within c (Some a) None within = (within, tt)
 later_id-within c (Some a) (Some b) within = elim (cases_lt a.0 b.0) [
-    inl below ↦ let most : b.0 ≤ c = rw (lt-ltb a.0 b.0 below) at within in (omega arith, most)
+  | inl below ↦ let most : b.0 ≤ c = rw (lt-ltb a.0 b.0 below) at within in (omega arith, most)
   | inr above ↦ let most : a.0 ≤ c = rw (le-ltb a.0 b.0 above) at within in (most, omega arith)
-  ]
+]
 
 pub AreWithin-target : (level c : ℕ) (ops : List Op) → IfSome (greatest_target ops) (λ t. t.0 ≤ c) → AreWithin level c ops
 AreWithin-target level c [] within = tt

@@ -23,11 +23,15 @@ pub record IsLongestFront (asked ops : List Op) : Type 0 where
   pub first : asked ≢ [] → ops ≢ []
   pub longest : (n : ℕ) → length ops < n → n ≤ length asked → ¬ Fits (take n asked)
 
--- the same front, operation by operation, where count operations with this many bytes were taken before
+-- whether an operation of this size is taken, where count operations with this many bytes were taken before
+abbrev pub takes_next : ℕ → ℕ → ℕ → Bool
+takes_next count bytes size = count == 0 || (nat_lt count most_ops && nat_le (bytes + size) most_bytes)
+
+-- the same front, operation by operation
 abbrev pub front_of : ℕ → ℕ → List Op → List Op
 front_of count bytes [] = []
 front_of count bytes (op ∷ ops) =
-    if count == 0 || (nat_lt count most_ops && nat_le (bytes + size_of op) most_bytes)
+    if takes_next count bytes (size_of op)
     then op ∷ front_of (count + 1) (bytes + size_of op) ops else []
 
 -- a batch of these operations, taken from the front of those that were asked for
@@ -55,8 +59,8 @@ pub record IsBatch (low high : ℕ) (log : List Op) (batch : Batch) : Type 0 whe
   pub passed : high < cleared log → (batch.passed ≡ Some (record { 0 = cleared log })) × (batch.ops ≡ [])
   -- else there is the longest front, and whether some were left
   pub taken : cleared log ≤ high
-    → (batch.passed ≡ None) × IsLongestFront (upto high (past low log)) batch.ops
-    × (IsTrue batch.has_more ↔ (length batch.ops < length (upto high (past low log))))
+      → (batch.passed ≡ None) × IsLongestFront (upto high (past low log)) batch.ops
+      × (IsTrue batch.has_more ↔ (length batch.ops < length (upto high (past low log))))
   pub target : batch.target ≡ greatest_target batch.ops
 
 -- all that a reader gets in at most n batches, each read after the newest id so far

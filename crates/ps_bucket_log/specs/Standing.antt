@@ -58,7 +58,7 @@ pub record IsHonestUpTo (bucket : Bucket) (original : List Op) (op c : ℕ) : Ty
   pub reached : bucket.position ≤ op
   pub total : bucket.total ≡ (bucket_of (upto bucket.position original)).total
   pub keys : (key : Key) → occurs key c (past bucket.position original) ≡ false
-    → bucket.held key ≡ (bucket_of (upto bucket.position original)).held key
+      → bucket.held key ≡ (bucket_of (upto bucket.position original)).held key
 
 abbrev pub IsHonest : Bucket → List Op → ℕ → Type 0
 IsHonest bucket original op = IsHonestUpTo bucket original op op

@@ -7,22 +7,19 @@ ghost use Rattle.ps_bucket_log.specs.Laws.{StaysHonest, StaysHonestUpTo, WholeAt
 pub fn batches_keep_readers_honest()
     ensures honest { StaysHonest }
     ensures honest_up_to { StaysHonestUpTo }
-{
-}
+{}
 
 /// A law: a reader that has reached the newest operation up to an id, and is honest up to it, holds what
 /// the original holds there, and has its total.
 pub fn readers_are_whole_at_the_newest()
     ensures { WholeAtNewest }
-{
-}
+{}
 
 /// A law: a reader that begins afresh is honest, and who is honest stays so when more is written and committed.
 pub fn honest_readers_stay_honest()
     ensures afresh { FreshIsHonest }
     ensures later { HonestLater }
-{
-}
+{}
 
 /// A law: an untouched log stands for itself, and a standing log still stands when the same operations are
 /// appended to it and to its original. It is a log: its ids rise, and only its first operation may be a CLEAR.
@@ -30,25 +27,21 @@ pub fn standing_logs_stay_standing()
     ensures untouched { StandsForItself }
     ensures later { StandsLater }
     ensures log { StandingIsLog }
-{
-}
+{}
 
 /// A law: from its CLEAR on, a standing log has the sums and the newest ids of its original.
 pub fn standing_logs_have_the_sums_of_their_originals()
     ensures { SameSums }
-{
-}
+{}
 
 /// A law: a reader that takes a log up to an id has its sum as total, and its newest id as position.
 pub fn totals_are_sums()
     ensures { TotalIsSum }
-{
-}
+{}
 
 /// A law: a batch is the longest front that fits, and batches that are read one after another, each after
 /// the newest id so far, are the log up to the id that was asked for.
 pub fn batches_are_the_log()
     ensures longest { ReadsLongestFront }
     ensures together { BatchesAreTheLog }
-{
-}
+{}

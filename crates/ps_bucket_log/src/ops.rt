@@ -69,7 +69,7 @@ impl Key {
 }
 
 impl Op {
-    ghost use Rattle.ps_bucket_log.specs.Ops.{id_of};
+    ghost use Rattle.ps_bucket_log.specs.Ops.{id_of, checksum, target_of, size_of};
 
     /// Its id.
     pub fn id(&self) -> OpId
@@ -80,6 +80,39 @@ impl Op {
             Op::Remove { id, .. } => *id,
             Op::Move { id, .. } => *id,
             Op::Clear { id, .. } => *id,
+        }
+    }
+
+    /// Its checksum. A MOVE keeps that of what it stands for, a CLEAR has the sum of all that.
+    pub fn sum(&self) -> Sum
+        ensures { result.0 ≡ checksum self.now }
+    {
+        match self {
+            Op::Put { sum, .. } => *sum,
+            Op::Remove { sum, .. } => *sum,
+            Op::Move { sum, .. } => *sum,
+            Op::Clear { sum, .. } => *sum,
+        }
+    }
+
+    /// The id of the operation that puts right what this one left out.
+    pub fn target(&self) -> Option<OpId>
+        ensures { result ≡ target_of self.now }
+    {
+        match self {
+            Op::Put { .. } | Op::Remove { .. } => None,
+            Op::Move { target, .. } => Some(*target),
+            Op::Clear { target, .. } => *target,
+        }
+    }
+
+    /// How many bytes of data it has: those of a PUT's content.
+    pub fn size(&self) -> usize
+        ensures { result ≡ size_of self.now }
+    {
+        match self {
+            Op::Put { content, .. } => content.bytes().len(),
+            Op::Remove { .. } | Op::Move { .. } | Op::Clear { .. } => 0,
         }
     }
 
