@@ -122,7 +122,7 @@ newest-from : (p q : ℕ) (ops : List Op) → 0 < length ops → fold (λ a op. 
 newest-from p q [] some = absurd (omega arith)
 newest-from p q (op ∷ ops) some = refl
 
-front-some : (asked : List Op) → 0 < length asked → 0 < length (front_of 0 0 asked)
+pub front-some : (asked : List Op) → 0 < length asked → 0 < length (front_of 0 0 asked)
 front-some [] some = some
 front-some (x ∷ xs) some = omega (arith, ap length (front-first x xs))
 

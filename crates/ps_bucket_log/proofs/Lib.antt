@@ -4,3 +4,4 @@ pub mod Histories
 pub mod Fronts
 pub mod Found
 pub mod Steps
+pub mod Entries

@@ -1,7 +1,8 @@
 -- What a log is: operations with rising ids, of which only the first may be a CLEAR.
-use Rattle.std.specs.Prelude.{◌≡◌, ℕ, ◌<◌, Bool, false, if◌then◌else◌, List, [], ◌∷◌}
+use Rattle.std.specs.Prelude.{◌≡◌, ℕ, ◌<◌, Bool, true, false, if◌then◌else◌, List, [], ◌∷◌}
+use Rattle.std.specs.List.{list_all}
 use Rattle.ps_bucket_log.specs.declared.ops.Op.{Op}
-use Rattle.ps_bucket_log.specs.Ops.{id_of, is_clear, has_clear}
+use Rattle.ps_bucket_log.specs.Ops.{id_of, is_entry, is_clear, has_clear}
 
 -- the ids rise from past p on
 abbrev pub IsRising : ℕ → List Op → Type 0
@@ -22,7 +23,12 @@ pub record IsLog (ops : List Op) : Type 0 where
   pub rising : IsRising 0 ops
   pub one_clear : has_clear (rest ops) ≡ false
 
--- what a log keeps, and for how many operations more it has room
-pub record Kept : Type 0 where
+-- what is written past an id: PUTs and REMOVEs, whose ids rise from past it on
+pub record AreEntries (p : ℕ) (ops : List Op) : Type 0 where
+  pub rising : IsRising p ops
+  pub entries : list_all is_entry ops ≡ true
+
+-- a log's operations, and for how many more it has room
+pub record LogState : Type 0 where
   pub ops : List Op
   pub spare : ℕ

@@ -31,6 +31,12 @@ size_of (Remove id key sum) = 0
 size_of (Move id sum target) = 0
 size_of (Clear id sum target) = 0
 
+abbrev pub is_put : Op → Bool
+is_put (Put id key content sum) = true
+is_put (Remove id key sum) = false
+is_put (Move id sum target) = false
+is_put (Clear id sum target) = false
+
 -- a PUT or a REMOVE
 abbrev pub is_entry : Op → Bool
 is_entry (Put id key content sum) = true
@@ -72,6 +78,10 @@ sum_of ops = sum_by checksum ops % 2 ^ 32
 -- there is an operation with this id
 abbrev pub has_id : ℕ → List Op → Bool
 has_id p ops = list_any (λ op. id_of op == p) ops
+
+-- there is a PUT or a REMOVE of the key
+abbrev pub has_key : Key → List Op → Bool
+has_key key ops = list_any (is_of key) ops
 
 -- there is a PUT or a REMOVE of the key with an id up to c
 abbrev pub occurs : Key → ℕ → List Op → Bool

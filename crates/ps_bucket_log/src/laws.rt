@@ -1,6 +1,13 @@
 //! The laws of one bucket. Each is the contract of a function that does nothing.
 
-ghost use Rattle.ps_bucket_log.specs.Laws.{StaysHonest, StaysHonestUpTo, WholeAtNewest, FreshIsHonest, HonestLater, StandsLater, StandsForItself, StandingIsLog, SameSums, TotalIsSum, ReadsLongestFront, BatchesAreTheLog};
+ghost use Rattle.ps_bucket_log.specs.Laws.{LastDecides, NoneIsHeld, StaysHonest, StaysHonestUpTo, WholeAtNewest, FreshIsHonest, HonestLater, StandsLater, StandsForItself, StandingIsLog, WithinLevel, SameSums, TotalIsSum, ReadsLongestFront, BatchesAreTheLog, ReadsOn};
+
+/// A law: of a key, the last PUT or REMOVE since the last CLEAR decides what a reader holds.
+pub fn the_last_decides()
+    ensures last { LastDecides }
+    ensures none { NoneIsHeld }
+{
+}
 
 /// A law: a reader that is honest stays so over each batch of a standing log; one that is honest up to an
 /// id stays that too, where the batch's target is no later than the id.
@@ -23,10 +30,12 @@ pub fn honest_readers_stay_honest()
 
 /// A law: an untouched log stands for itself, and a standing log still stands when the same operations are
 /// appended to it and to its original. It is a log: its ids rise, and only its first operation may be a CLEAR.
+/// Its CLEAR and its targets are no later than its level.
 pub fn standing_logs_stay_standing()
     ensures untouched { StandsForItself }
     ensures later { StandsLater }
     ensures log { StandingIsLog }
+    ensures level { WithinLevel }
 {}
 
 /// A law: from its CLEAR on, a standing log has the sums and the newest ids of its original.
@@ -40,8 +49,10 @@ pub fn totals_are_sums()
 {}
 
 /// A law: a batch is the longest front that fits, and batches that are read one after another, each after
-/// the newest id so far, are the log up to the id that was asked for.
+/// the newest id so far, are the log up to the id that was asked for. A read from before the newest id gives
+/// something to go on with.
 pub fn batches_are_the_log()
     ensures longest { ReadsLongestFront }
     ensures together { BatchesAreTheLog }
+    ensures on { ReadsOn }
 {}

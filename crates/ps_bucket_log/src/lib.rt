@@ -12,7 +12,7 @@ pub use batches::Batch;
 pub use laws::{
     batches_are_the_log, batches_keep_readers_honest, honest_readers_stay_honest,
     readers_are_whole_at_the_newest, standing_logs_have_the_sums_of_their_originals,
-    standing_logs_stay_standing, totals_are_sums,
+    standing_logs_stay_standing, the_last_decides, totals_are_sums,
 };
 pub use logs::Log;
 pub use ops::{Key, Op};

@@ -17,9 +17,9 @@ pub struct BucketLog {
 
 impl Model for BucketLog {
     ghost use Rattle.std.specs.Prelude.{◌-◌, vec_len, vec_capacity};
-    ghost use Rattle.ps_bucket_log.specs.Logs.{Kept, IsLog};
+    ghost use Rattle.ps_bucket_log.specs.Logs.{LogState, IsLog};
 
-    ghost Value = { Kept };
+    ghost Value = { LogState };
 
     ghost view = { λ log. record { ops = log.ops.items; spare = vec_capacity log.ops - vec_len log.ops } };
 

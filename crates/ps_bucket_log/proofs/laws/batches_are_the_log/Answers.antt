@@ -1,4 +1,5 @@
 use Rattle.ps_bucket_log.proofs.Fronts.{reads_longest_front, batches_are_the_log}
+use Rattle.ps_bucket_log.proofs.Entries.{reads_on}
 use Rattle.ps_bucket_log.proofs.laws.batches_are_the_log.Goals as goal
 
 pub returns-clause-longest : goal.returns-clause-longest
@@ -6,3 +7,6 @@ returns-clause-longest c = reads_longest_front
 
 pub returns-clause-together : goal.returns-clause-together
 returns-clause-together c = batches_are_the_log
+
+pub returns-clause-on : goal.returns-clause-on
+returns-clause-on c = reads_on
