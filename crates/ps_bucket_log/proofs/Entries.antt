@@ -1,20 +1,19 @@
 -- What the laws say of originals: lists of PUTs and REMOVEs.
-use Rattle.std.proofs.Common.{◌≡◌, ◌≢◌, ℕ, ◌<◌, ◌≤◌, min, Bool, true, false, cond, ltb, leb, ◌&&◌, ◌||◌, ◌⊎◌, inl, inr, Option, Some, None, IfSome, List, [], ◌∷◌, ◌++◌, fold, length, refl, sym, ap, ◌∙◌, arith}
+use Rattle.std.proofs.Common.{◌≡◌, ◌≢◌, ℕ, ◌<◌, ◌≤◌, true, false, cond, ◌⊎◌, inl, inr, Option, Some, None, IfSome, List, [], ◌∷◌, ◌++◌, fold, length, refl, ap, ◌∙◌, arith}
 use Rattle.std.specs.List.{AllZip, list_all, AllByRecursion}
-use Rattle.std.proofs.lemmas.Bool.{and_parts, or_parts, or_from, cases_lt, cases_Bool, lt-ltb, le-ltb, lt-leb, le-leb}
+use Rattle.std.proofs.lemmas.Bool.{and_parts, and_from, or_parts, or_from, cases_lt, lt-ltb, le-ltb, lt-leb, le-leb}
+use Rattle.std.proofs.lemmas.List.Folds.{list_all-append}
 use Rattle.std.proofs.lemmas.List.Sums.{fold-append}
 use Rattle.ps_values.specs.declared.ids.OpId.{OpId}
-use Rattle.ps_checksum.specs.declared.sums.Sum.{Sum}
 use Rattle.ps_bucket_log.specs.declared.ops.Key.{Key}
 use Rattle.ps_bucket_log.specs.declared.ops.Op.{Op}
 use Rattle.ps_bucket_log.specs.declared.ops.Op.TheVariants.{Put, Remove, Move, Clear}
 use Rattle.ps_bucket_log.specs.Ops.{id_of, target_of, id_or_zero, later_id, greatest_target, is_put, is_entry, is_clear, is_of, has_key, has_clear, upto, past, newest}
 use Rattle.ps_bucket_log.specs.Buckets.{Bucket, held_after, after, fresh, bucket_of}
-use Rattle.ps_bucket_log.specs.Logs.{IsRising, AreEntries, IsLog, cleared, rest}
+use Rattle.ps_bucket_log.specs.Logs.{IsRising, AreEntries, cleared}
 use Rattle.ps_bucket_log.specs.Batches.{front_of, batch_of}
 use Rattle.ps_bucket_log.specs.Standing.{Matches, StandsFor}
-use Rattle.ps_bucket_log.proofs.Slices.{IsRising-upto}
-use Rattle.ps_bucket_log.proofs.Histories.{same_sums, IsRising-stands}
+use Rattle.ps_bucket_log.proofs.Histories.{same_sums}
 use Rattle.ps_bucket_log.proofs.Fronts.{front-some}
 
 entry_is_no_clear : (op : Op) → is_entry op ≡ true → is_clear op ≡ false
@@ -28,6 +27,18 @@ no_clear [] entries = refl
 no_clear (op ∷ ops) entries =
     let parts = and_parts (is_entry op) (list_all is_entry ops) entries in
     or_from (is_clear op) (has_clear ops) (entry_is_no_clear op parts.0) (no_clear ops parts.1)
+
+-- what is written later
+
+IsRising-append : (p : ℕ) (ops more : List Op) → IsRising p ops → IsRising (fold (λ a op. id_of op) p ops) more → IsRising p (ops ++ more)
+IsRising-append p [] more rising later = later
+IsRising-append p (op ∷ ops) more rising later = (rising.0, IsRising-append (id_of op) ops more rising.1 later)
+
+pub grows_later : (original more : List Op) → AreEntries 0 original → AreEntries (newest original) more → AreEntries 0 (original ++ more)
+grows_later original more written later = record {
+  rising = IsRising-append 0 original more written.rising later.rising;
+  entries = list_all-append is_entry original more ∙ and_from (list_all is_entry original) (list_all is_entry more) written.entries later.entries;
+}
 
 -- of a key, the last decides
 
@@ -100,8 +111,8 @@ list_all-past p [] entries = refl
 list_all-past p (op ∷ ops) entries =
     let parts = and_parts (is_entry op) (list_all is_entry ops) entries in
     elim (cases_lt p (id_of op)) [
-      inl above ↦ rw (lt-ltb p (id_of op) above, parts.0) (list_all-past p ops parts.1)
-    | inr below ↦ rw (le-ltb p (id_of op) below) (list_all-past p ops parts.1)
+      | inl above ↦ rw (lt-ltb p (id_of op) above, parts.0) (list_all-past p ops parts.1)
+      | inr below ↦ rw (le-ltb p (id_of op) below) (list_all-past p ops parts.1)
     ]
 
 AreLow-stands : (log original : List Op) (level : ℕ) → list_all is_entry original ≡ true → StandsFor log original level → (cleared log ≤ level) × AreLow level log
@@ -118,24 +129,24 @@ AreLow-stands (Clear id sum target ∷ ops) original level entries stands =
 AreLow-past : (level p : ℕ) (ops : List Op) → AreLow level ops → AreLow level (past p ops)
 AreLow-past level p [] low = tt
 AreLow-past level p (op ∷ ops) low = elim (cases_lt p (id_of op)) [
-    inl above ↦ rw (lt-ltb p (id_of op) above) (low.0, AreLow-past level p ops low.1)
+  | inl above ↦ rw (lt-ltb p (id_of op) above) (low.0, AreLow-past level p ops low.1)
   | inr below ↦ rw (le-ltb p (id_of op) below) (AreLow-past level p ops low.1)
-  ]
+]
 
 AreLow-upto : (level p : ℕ) (ops : List Op) → AreLow level ops → AreLow level (upto p ops)
 AreLow-upto level p [] low = tt
 AreLow-upto level p (op ∷ ops) low = elim (cases_lt p (id_of op)) [
-    inl above ↦ rw (lt-leb (id_of op) p above) (AreLow-upto level p ops low.1)
+  | inl above ↦ rw (lt-leb (id_of op) p above) (AreLow-upto level p ops low.1)
   | inr below ↦ rw (le-leb (id_of op) p below) (low.0, AreLow-upto level p ops low.1)
-  ]
+]
 
 later_id-low : (level : ℕ) (a b : Option OpId) → id_or_zero a ≤ level → IfSome b (λ t. t.0 ≤ level) → IfSome (later_id a b) (λ t. t.0 ≤ level)
 later_id-low level None b low others = others
 later_id-low level (Some a) None low others = low
 later_id-low level (Some a) (Some b) low others = elim (cases_lt a.0 b.0) [
-    inl below ↦ rw (lt-ltb a.0 b.0 below) others
+  | inl below ↦ rw (lt-ltb a.0 b.0 below) others
   | inr above ↦ rw (le-ltb a.0 b.0 above) low
-  ]
+]
 
 greatest_target-low : (level : ℕ) (ops : List Op) → AreLow level ops → IfSome (greatest_target ops) (λ t. t.0 ≤ level)
 greatest_target-low level [] low = tt
@@ -152,17 +163,17 @@ within_level log original level low high written stands =
 asked-some : (low high q : ℕ) (ops : List Op) → low < fold (λ a op. id_of op) q (upto high ops) → q ≤ low → 0 < length (upto high (past low ops))
 asked-some low high q [] short begun = absurd (omega arith)
 asked-some low high q (op ∷ ops) short begun = elim (cases_lt high (id_of op)) [
-    inl above ↦
+  | inl above ↦
       let behind = asked-some low high q ops (rw (lt-leb (id_of op) high above) at short) begun in
       elim (cases_lt low (id_of op)) [
-        inl past_low ↦ rw (lt-ltb low (id_of op) past_low, lt-leb (id_of op) high above) behind
-      | inr before ↦ rw (le-ltb low (id_of op) before) behind
+        | inl past_low ↦ rw (lt-ltb low (id_of op) past_low, lt-leb (id_of op) high above) behind
+        | inr before ↦ rw (le-ltb low (id_of op) before) behind
       ]
   | inr within ↦ elim (cases_lt low (id_of op)) [
-        inl past_low ↦ rw (lt-ltb low (id_of op) past_low, le-leb (id_of op) high within) (omega arith)
-      | inr before ↦ rw (le-ltb low (id_of op) before) (asked-some low high (id_of op) ops (rw (le-leb (id_of op) high within) at short) before)
-      ]
+    | inl past_low ↦ rw (lt-ltb low (id_of op) past_low, le-leb (id_of op) high within) (omega arith)
+    | inr before ↦ rw (le-ltb low (id_of op) before) (asked-some low high (id_of op) ops (rw (le-leb (id_of op) high within) at short) before)
   ]
+]
 
 not_empty : (ops : List Op) → 0 < length ops → ops ≢ []
 not_empty [] some none = omega arith
@@ -172,9 +183,9 @@ pub reads_on : (log original : List Op) (level low high : ℕ)
     → StandsFor log original level → AreEntries 0 original → low < newest (upto high original)
     → ((batch_of low high log).ops ≢ []) ⊎ ((batch_of low high log).passed ≢ None)
 reads_on log original level low high stands written short = elim (cases_lt high (cleared log)) [
-    inl passed ↦ rw (lt-ltb high (cleared log) passed) (inr (λ none. cc))
+  | inl passed ↦ rw (lt-ltb high (cleared log) passed) (inr (λ none. cc))
   | inr within ↦
       let same = same_sums log original level high stands written.rising (no_clear original written.entries) within in
       let some = asked-some low high 0 log (omega (arith, same.1)) (omega arith) in
       rw (le-ltb high (cleared log) within) (inl (not_empty (front_of 0 0 (upto high (past low log))) (front-some (upto high (past low log)) some)))
-  ]
+]

@@ -1,7 +1,7 @@
 -- A binary search by id finds where a rising list is cut.
-use Rattle.std.proofs.Common.{◌≡◌, ℕ, zero, suc, ◌+◌, ◌<◌, ◌≤◌, Bool, true, false, not, cond, ltb, leb, ◌||◌, ◌⊎◌, inl, inr, List, [], ◌∷◌, ◌++◌, take, drop, get_or, length, fold, filter, refl, sym, ap, ◌∙◌, arith}
+use Rattle.std.proofs.Common.{◌≡◌, ℕ, zero, suc, ◌<◌, ◌≤◌, true, false, ltb, leb, ◌||◌, inl, inr, List, [], ◌∷◌, ◌++◌, take, drop, get_or, length, fold, refl, ap, ◌∙◌, arith}
 use Rattle.std.proofs.lemmas.List.Folds.{list_any-append}
-use Rattle.std.proofs.lemmas.Bool.{cases_lt, cases_Bool, or_parts, or_from, lt-ltb, le-ltb, lt-leb, le-leb, leb-true, leb-false}
+use Rattle.std.proofs.lemmas.Bool.{cases_Bool, or_parts, or_from, lt-ltb, le-ltb, leb-true, leb-false}
 use Rattle.std.proofs.lemmas.List.Sorted.{IsPartitionedBy-leb}
 use Rattle.std.specs.List.Sorted.{IsNonDecreasingBy, IsPartitionedBy, IsPartitionPoint}
 use Rattle.ps_bucket_log.specs.declared.ops.Op.{Op}
@@ -52,18 +52,18 @@ IsRising-push p (x ∷ xs) op rising newer = (rising.0, IsRising-push (id_of x) 
 one_clear-push : (ops : List Op) (op : Op) → has_clear (rest ops) ≡ false → is_clear op ≡ false → has_clear (rest (ops ++ op ∷ [])) ≡ false
 one_clear-push [] op one_clear no_clear = rw no_clear (rw no_clear refl)
 one_clear-push (x ∷ xs) op one_clear no_clear = elim (cases_Bool (is_clear x)) [
-    inl clear ↦
+  | inl clear ↦
       let behind : has_clear xs ≡ false = rw clear at one_clear in
       rw clear (list_any-append is_clear xs (op ∷ []) ∙ or_from (has_clear xs) (is_clear op || false) behind (or_from (is_clear op) false no_clear refl))
   | inr other ↦
       let all : has_clear (x ∷ xs) ≡ false = rw other at one_clear in
       let behind : has_clear xs ≡ false = (or_parts (is_clear x) (has_clear xs) all).1 in
       rw other (or_from (is_clear x) (has_clear (xs ++ op ∷ [])) other
-        (list_any-append is_clear xs (op ∷ []) ∙ or_from (has_clear xs) (is_clear op || false) behind (or_from (is_clear op) false no_clear refl)))
-  ]
+      (list_any-append is_clear xs (op ∷ []) ∙ or_from (has_clear xs) (is_clear op || false) behind (or_from (is_clear op) false no_clear refl)))
+]
 
 pub IsLog-push : (ops : List Op) (op : Op) → IsLog ops → newest ops < id_of op → is_clear op ≡ false → IsLog (ops ++ op ∷ [])
 IsLog-push ops op log newer no_clear = record {
-    rising = IsRising-push 0 ops op log.rising newer;
-    one_clear = one_clear-push ops op log.one_clear no_clear;
-  }
+  rising = IsRising-push 0 ops op log.rising newer;
+  one_clear = one_clear-push ops op log.one_clear no_clear;
+}

@@ -1,5 +1,5 @@
 -- What one batch has, and what batches have together.
-use Rattle.std.proofs.Common.{◌≡◌, ◌≢◌, ℕ, zero, suc, ◌+◌, ◌<◌, ◌≤◌, Bool, true, false, cond, ltb, leb, eqb, ◌&&◌, ◌||◌, ◌⊎◌, inl, inr, List, [], ◌∷◌, ◌++◌, take, fold, sum_by, length, refl, sym, ap, ◌∙◌, arith, zero-add, length-append}
+use Rattle.std.proofs.Common.{◌≡◌, ℕ, zero, suc, ◌+◌, ◌<◌, ◌≤◌, Bool, true, false, ltb, leb, eqb, ◌&&◌, ◌||◌, ◌⊎◌, inl, inr, List, [], ◌∷◌, ◌++◌, take, fold, sum_by, length, refl, sym, ap, ◌∙◌, arith, zero-add, length-append}
 use Rattle.std.proofs.lemmas.Bool.{lt-ltb, le-ltb, lt-leb, le-leb, cases_lt, cases_Bool, ltb-true, leb-true, and_parts, and_right, and_from, both_ways, ne_eqb}
 use Rattle.std.proofs.lemmas.List.{length-take-le}
 use Rattle.std.proofs.lemmas.List.Sums.{sum_by-cons}
@@ -7,7 +7,7 @@ use Rattle.ps_bucket_log.specs.declared.ops.Op.{Op}
 use Rattle.ps_bucket_log.specs.Ops.{id_of, size_of, upto, past, newest}
 use Rattle.ps_bucket_log.specs.Logs.{IsRising, IsLog, cleared}
 use Rattle.ps_bucket_log.specs.Batches.{most_ops, most_bytes, Fits, IsLongestFront, IsBatch, front_of, batch_of, batches_of}
-use Rattle.ps_bucket_log.proofs.Slices.{past-rising, IsRising-past, upto-past, next, head}
+use Rattle.ps_bucket_log.proofs.Slices.{past-rising, IsRising-past, next, head}
 
 -- whether one more operation is taken, after the first one
 abbrev pub has_room : ℕ → ℕ → ℕ → Bool

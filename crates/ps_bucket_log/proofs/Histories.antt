@@ -1,5 +1,5 @@
 -- How standing logs and honest readers fare when more is written, and what their sums are.
-use Rattle.std.proofs.Common.{◌≡◌, ℕ, ◌+◌, ◌%◌, ◌^◌, ◌<◌, ◌≤◌, Bool, true, false, cond, ltb, leb, eqb, ◌&&◌, ◌||◌, ◌⊎◌, inl, inr, Option, Some, None, List, [], ◌∷◌, ◌++◌, fold, sum_by, length, refl, sym, ap, ◌∙◌, arith, zero-add}
+use Rattle.std.proofs.Common.{◌≡◌, ℕ, ◌+◌, ◌%◌, ◌^◌, ◌≤◌, false, cond, ltb, leb, eqb, ◌&&◌, ◌||◌, inl, inr, List, [], ◌∷◌, ◌++◌, fold, refl, sym, ap, ◌∙◌, arith, zero-add}
 use Rattle.std.proofs.lemmas.Bool.{lt-ltb, le-ltb, lt-leb, le-leb, cases_lt, or_parts, or_from, or_left, and_right}
 use Rattle.std.proofs.lemmas.List.{append-nil}
 use Rattle.std.proofs.lemmas.List.Elements.{filter-append}
@@ -7,17 +7,15 @@ use Rattle.std.proofs.lemmas.List.Folds.{list_any-append}
 use Rattle.std.proofs.lemmas.List.Sums.{fold-append}
 use Rattle.std.proofs.Math.Nat.{mod-add-mod}
 use Rattle.std.specs.List.{AllZip, list_any}
-use Rattle.ps_values.specs.declared.ids.OpId.{OpId}
-use Rattle.ps_checksum.specs.declared.sums.Sum.{Sum}
 use Rattle.ps_bucket_log.specs.declared.ops.Key.{Key}
 use Rattle.ps_bucket_log.specs.declared.ops.Op.{Op}
 use Rattle.ps_bucket_log.specs.declared.ops.Op.TheVariants.{Put, Remove, Move, Clear}
-use Rattle.ps_bucket_log.specs.Ops.{id_of, checksum, id_or_zero, is_clear, is_of, is_entry, upto, past, newest, sum_of, has_id, occurs, occurs_at, has_clear}
+use Rattle.ps_bucket_log.specs.Ops.{id_of, checksum, id_or_zero, is_clear, is_of, upto, past, newest, sum_of, has_id, occurs, occurs_at, has_clear}
 use Rattle.ps_bucket_log.specs.Buckets.{Bucket, total_after, after, fresh, bucket_of}
 use Rattle.ps_bucket_log.specs.Logs.{IsRising, IsLog, cleared, rest}
-use Rattle.ps_bucket_log.specs.Standing.{IsMoveOf, Matches, ClearStands, FirstStands, FrontStands, StandsFor, IsHonestUpTo}
-use Rattle.ps_bucket_log.proofs.Slices.{past-rising, upto-rising, IsRising-lower, IsRising-past, IsRising-upto, upto-past, upto-split, occurs-lower, occurs-rising, has_id-above, newest-known}
-use Rattle.ps_bucket_log.proofs.Readers.{total-small, id_of-Matches, total_after-Matches, AllZip-past, AllZip-upto}
+use Rattle.ps_bucket_log.specs.Standing.{Matches, ClearStands, FirstStands, StandsFor, IsHonestUpTo}
+use Rattle.ps_bucket_log.proofs.Slices.{past-rising, upto-rising, IsRising-past, IsRising-upto, upto-split, occurs-lower, has_id-above, newest-known}
+use Rattle.ps_bucket_log.proofs.Readers.{total-small, id_of-Matches, total_after-Matches, AllZip-upto}
 
 -- what is appended past p is not up to p
 upto-append : (p low : ℕ) (xs more : List Op) → IsRising low more → p ≤ low → upto p (xs ++ more) ≡ upto p xs

@@ -5,3 +5,4 @@ pub mod Fronts
 pub mod Found
 pub mod Steps
 pub mod Entries
+pub mod Examples

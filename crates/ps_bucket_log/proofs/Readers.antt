@@ -1,5 +1,5 @@
 -- What one operation, and what a batch, does to an honest reader.
-use Rattle.std.proofs.Common.{◌≡◌, ℕ, ◌+◌, ◌%◌, ◌^◌, ◌<◌, ◌≤◌, min, Bool, true, false, cond, ltb, leb, ◌&&◌, ◌||◌, ◌⊎◌, inl, inr, Option, Some, None, IfSome, List, [], ◌∷◌, ◌++◌, fold, length, refl, sym, ap, ◌∙◌, arith}
+use Rattle.std.proofs.Common.{◌≡◌, ℕ, ◌+◌, ◌%◌, ◌^◌, ◌<◌, ◌≤◌, min, true, false, inl, inr, Option, Some, None, IfSome, List, [], ◌∷◌, ◌++◌, fold, refl, sym, ap, ◌∙◌, arith}
 use Rattle.std.proofs.lemmas.Bool.{lt-ltb, le-ltb, lt-leb, le-leb, cases_lt, cases_Bool, both_ways}
 use Rattle.std.proofs.lemmas.List.Sums.{fold-append}
 use Rattle.std.specs.List.{AllZip, AllByRecursion}
@@ -8,11 +8,11 @@ use Rattle.ps_checksum.specs.declared.sums.Sum.{Sum}
 use Rattle.ps_bucket_log.specs.declared.ops.Key.{Key}
 use Rattle.ps_bucket_log.specs.declared.ops.Op.{Op}
 use Rattle.ps_bucket_log.specs.declared.ops.Op.TheVariants.{Put, Remove, Move, Clear}
-use Rattle.ps_bucket_log.specs.Ops.{id_of, checksum, target_of, id_or_zero, later_id, greatest_target, is_entry, is_of, same_key, upto, past, occurs, occurs_at}
+use Rattle.ps_bucket_log.specs.Ops.{id_of, checksum, target_of, id_or_zero, later_id, greatest_target, is_entry, is_of, upto, past, occurs}
 use Rattle.ps_bucket_log.specs.Buckets.{Bucket, total_after, held_after, after, fresh, bucket_of}
-use Rattle.ps_bucket_log.specs.Logs.{IsRising, cleared, rest}
-use Rattle.ps_bucket_log.specs.Standing.{IsMoveOf, Matches, ClearStands, StandsFor, IsHonestUpTo, IsHonest}
-use Rattle.ps_bucket_log.proofs.Slices.{next, Next, head, Head, IsRising-past, past-past, occurs-from_at, occurs-lower}
+use Rattle.ps_bucket_log.specs.Logs.{IsRising}
+use Rattle.ps_bucket_log.specs.Standing.{IsMoveOf, Matches, ClearStands, StandsFor, IsHonestUpTo}
+use Rattle.ps_bucket_log.proofs.Slices.{next, Next, head, IsRising-past, past-past, occurs-from_at, occurs-lower}
 
 -- a total is below 2 ^ 32
 total_after-small : (total : ℕ) (op : Op) → total_after total op < 2 ^ 32

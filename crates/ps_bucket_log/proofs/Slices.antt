@@ -1,10 +1,10 @@
 -- Slices of lists whose ids rise.
-use Rattle.std.proofs.Common.{◌≡◌, ℕ, ◌+◌, ◌<◌, ◌≤◌, Bool, true, false, cond, ltb, leb, eqb, ◌&&◌, ◌||◌, ◌⊎◌, inl, inr, List, [], ◌∷◌, ◌++◌, fold, length, refl, sym, ap, ◌∙◌, arith}
-use Rattle.std.proofs.lemmas.Bool.{lt-ltb, le-ltb, le-leb, lt-leb, cases_lt, cases_Bool, and_parts, and_from, or_parts, or_cases, leb-true, eqb-true, eq-eqb, false_from_ne_true, both_ways, or_right, or_from, and_right}
+use Rattle.std.proofs.Common.{◌≡◌, ℕ, ◌<◌, ◌≤◌, true, false, cond, ltb, leb, eqb, ◌&&◌, inl, inr, List, [], ◌∷◌, ◌++◌, fold, refl, sym, ap, ◌∙◌, arith}
+use Rattle.std.proofs.lemmas.Bool.{lt-ltb, le-ltb, le-leb, lt-leb, cases_lt, and_parts, or_cases, leb-true, eqb-true, false_from_ne_true, both_ways, or_right, or_from, and_right}
 use Rattle.std.proofs.lemmas.List.Elements.{filter-append}
 use Rattle.ps_bucket_log.specs.declared.ops.Key.{Key}
 use Rattle.ps_bucket_log.specs.declared.ops.Op.{Op}
-use Rattle.ps_bucket_log.specs.Ops.{id_of, is_of, upto, past, newest, has_id, occurs, occurs_at}
+use Rattle.ps_bucket_log.specs.Ops.{id_of, is_of, upto, past, has_id, occurs, occurs_at}
 use Rattle.ps_bucket_log.specs.Logs.{IsRising}
 
 -- all of a rising list is past where it begins, and nothing of it up to there

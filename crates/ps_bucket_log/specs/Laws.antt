@@ -1,6 +1,6 @@
 -- The laws of one bucket, on which every claim about streams rests. An original is all that was ever written to the bucket;
 -- a log stands for it at the level of its last compaction; a reader has taken fronts of the log past its position.
-use Rattle.std.specs.Prelude.{◌≡◌, ◌≢◌, ℕ, ◌<◌, ◌≤◌, Bool, true, false, if◌then◌else◌, ◌⊎◌, List, [], ◌∷◌, ◌++◌, Option, Some, None, IfSome, fold, length}
+use Rattle.std.specs.Prelude.{◌≡◌, ◌≢◌, ℕ, ◌<◌, ◌≤◌, true, false, if◌then◌else◌, ◌⊎◌, List, [], ◌∷◌, ◌++◌, Some, None, IfSome, fold, length}
 use Rattle.ps_bucket_log.specs.declared.ops.Key.{Key}
 use Rattle.ps_bucket_log.specs.declared.ops.Op.{Op}
 use Rattle.ps_bucket_log.specs.Ops.{is_put, is_of, upto, past, newest, sum_of, has_clear, has_key, greatest_target}
@@ -50,6 +50,11 @@ abbrev pub HonestLater : Type 0
 HonestLater = (original more : List Op) (op c later_op later_c : ℕ) (bucket : Bucket)
     → AreEntries op more → op ≤ later_op → c ≤ later_c
     → IsHonestUpTo bucket original op c → IsHonestUpTo bucket (original ++ more) later_op later_c
+
+-- an original that grows past its newest id is an original
+abbrev pub GrowsLater : Type 0
+GrowsLater = (original more : List Op)
+    → AreEntries 0 original → AreEntries (newest original) more → AreEntries 0 (original ++ more)
 
 -- an untouched log stands for itself
 abbrev pub StandsForItself : Type 0

@@ -1,5 +1,5 @@
 -- What a log is: operations with rising ids, of which only the first may be a CLEAR.
-use Rattle.std.specs.Prelude.{◌≡◌, ℕ, ◌<◌, Bool, true, false, if◌then◌else◌, List, [], ◌∷◌}
+use Rattle.std.specs.Prelude.{◌≡◌, ℕ, ◌<◌, true, false, if◌then◌else◌, List, [], ◌∷◌}
 use Rattle.std.specs.List.{list_all}
 use Rattle.ps_bucket_log.specs.declared.ops.Op.{Op}
 use Rattle.ps_bucket_log.specs.Ops.{id_of, is_entry, is_clear, has_clear}

@@ -1,13 +1,12 @@
 //! The laws of one bucket. Each is the contract of a function that does nothing.
 
-ghost use Rattle.ps_bucket_log.specs.Laws.{LastDecides, NoneIsHeld, StaysHonest, StaysHonestUpTo, WholeAtNewest, FreshIsHonest, HonestLater, StandsLater, StandsForItself, StandingIsLog, WithinLevel, SameSums, TotalIsSum, ReadsLongestFront, BatchesAreTheLog, ReadsOn};
+ghost use Rattle.ps_bucket_log.specs.Laws.{LastDecides, NoneIsHeld, StaysHonest, StaysHonestUpTo, WholeAtNewest, FreshIsHonest, HonestLater, GrowsLater, StandsLater, StandsForItself, StandingIsLog, WithinLevel, SameSums, TotalIsSum, ReadsLongestFront, BatchesAreTheLog, ReadsOn};
 
 /// A law: of a key, the last PUT or REMOVE since the last CLEAR decides what a reader holds.
 pub fn the_last_decides()
     ensures last { LastDecides }
     ensures none { NoneIsHeld }
-{
-}
+{}
 
 /// A law: a reader that is honest stays so over each batch of a standing log; one that is honest up to an
 /// id stays that too, where the batch's target is no later than the id.
@@ -28,10 +27,12 @@ pub fn honest_readers_stay_honest()
     ensures later { HonestLater }
 {}
 
-/// A law: an untouched log stands for itself, and a standing log still stands when the same operations are
+/// A law: what is written past an original's newest id makes it a longer original. An untouched log stands
+/// for itself, and a standing log still stands when the same operations are
 /// appended to it and to its original. It is a log: its ids rise, and only its first operation may be a CLEAR.
 /// Its CLEAR and its targets are no later than its level.
 pub fn standing_logs_stay_standing()
+    ensures grown { GrowsLater }
     ensures untouched { StandsForItself }
     ensures later { StandsLater }
     ensures log { StandingIsLog }

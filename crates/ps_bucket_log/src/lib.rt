@@ -7,6 +7,8 @@ mod logs;
 mod ops;
 mod places;
 mod plain_logs;
+#[cfg(test)]
+mod tests;
 
 pub use batches::Batch;
 pub use laws::{

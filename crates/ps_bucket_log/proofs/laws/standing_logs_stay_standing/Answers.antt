@@ -1,6 +1,9 @@
 use Rattle.ps_bucket_log.proofs.Histories.{stands_for_itself, stands_later, standing_is_log}
-use Rattle.ps_bucket_log.proofs.Entries.{no_clear, within_level}
+use Rattle.ps_bucket_log.proofs.Entries.{no_clear, grows_later, within_level}
 use Rattle.ps_bucket_log.proofs.laws.standing_logs_stay_standing.Goals as goal
+
+pub returns-clause-grown : goal.returns-clause-grown
+returns-clause-grown c = grows_later
 
 pub returns-clause-untouched : goal.returns-clause-untouched
 returns-clause-untouched c original written = stands_for_itself original written.rising (no_clear original written.entries)
