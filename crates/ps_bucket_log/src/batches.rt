@@ -1,6 +1,6 @@
 ghost use Rattle.std.specs.Prelude.{◌≡◌, ◌≤◌, ◌+◌, ◌==◌, ◌||◌, take, length, IfOk};
 ghost use Rattle.ps_bucket_log.specs.Logs.{IsRising};
-ghost use Rattle.ps_bucket_log.specs.Batches.{front_of, takes_next};
+ghost use Rattle.ps_bucket_log.specs.Batches.{batch_of, batch_from, front_of, takes_next};
 
 use crate::Op;
 use crate::places::{back_past, clear_id, copied, front_upto, last_target};
@@ -20,46 +20,41 @@ pub struct Batch {
     pub passed: Option<OpId>,
 }
 
-/// How many operations one batch may have.
+// How many operations one batch may have.
 const MOST_OPS: usize = 1000;
 
-/// How many bytes of data one batch may have, unless it has one operation alone.
+// How many bytes of data one batch may have, unless it has one operation alone.
 const MOST_BYTES: usize = 1048576;
 
-impl Batch {
-    ghost use Rattle.ps_bucket_log.specs.Ops.{upto as up_to, past};
-    ghost use Rattle.ps_bucket_log.specs.Batches.{batch_of, batch_from, front_of};
-
-    // The operations of a log past one id and up to another, as many as one batch may have.
-    pub fn read(alloc: Global, log: &[Op], after: OpId, upto: OpId) -> Result<Batch, Memory>
-        requires { IsRising 0 log.now }
-        ensures { IfOk result (λ batch. batch ≡ batch_of after.0 upto.0 log.now) }
-    {
-        let clear = clear_id(log);
-        if upto.0 < clear.0 {
-            return Ok(Batch {
-                ops: Items::new(alloc),
-                has_more: false,
-                target: None,
-                passed: Some(clear),
-            });
-        }
-        Batch::front(alloc, front_upto(back_past(log, after), upto))
+// The operations of a log past one id and up to another, as many as one batch may have.
+pub fn read_batch(alloc: Global, log: &[Op], after: OpId, upto: OpId) -> Result<Batch, Memory>
+    requires { IsRising 0 log.now }
+    ensures { IfOk result (λ batch. batch ≡ batch_of after.0 upto.0 log.now) }
+{
+    let clear = clear_id(log);
+    if upto.0 < clear.0 {
+        return Ok(Batch {
+            ops: Items::new(alloc),
+            has_more: false,
+            target: None,
+            passed: Some(clear),
+        });
     }
+    front_batch(alloc, front_upto(back_past(log, after), upto))
+}
 
-    // As many of the operations that were asked for as one batch may have.
-    fn front(alloc: Global, asked: &[Op]) -> Result<Batch, Memory>
-        ensures { IfOk result (λ batch. batch ≡ batch_from asked.now (front_of 0 0 asked.now)) }
-    {
-        let count = front_len(asked);
-        let taken = &asked[..count];
-        Ok(Batch {
-            ops: copied(alloc, taken)?,
-            has_more: taken.len() < asked.len(),
-            target: last_target(taken),
-            passed: None,
-        })
-    }
+// As many of the operations that were asked for as one batch may have.
+fn front_batch(alloc: Global, asked: &[Op]) -> Result<Batch, Memory>
+    ensures { IfOk result (λ batch. batch ≡ batch_from asked.now (front_of 0 0 asked.now)) }
+{
+    let count = front_len(asked);
+    let taken = &asked[..count];
+    Ok(Batch {
+        ops: copied(alloc, taken)?,
+        has_more: taken.len() < asked.len(),
+        target: last_target(taken),
+        passed: None,
+    })
 }
 
 // How many of the operations that were asked for one batch may have.

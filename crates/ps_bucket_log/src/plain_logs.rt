@@ -1,6 +1,6 @@
 ghost use Rattle.std.specs.Prelude.{◌≡◌, []};
 
-use crate::batches::Batch;
+use crate::batches::{Batch, read_batch};
 use crate::logs::Log;
 use crate::ops::Op;
 use crate::places::{copied, front_upto, newest_id, place_past, total};
@@ -52,7 +52,7 @@ impl Log for BucketLog {
     }
 
     fn read(&self, alloc: Global, after: OpId, upto: OpId) -> Result<Batch, Memory> {
-        Batch::read(alloc, self.ops.as_slice(), after, upto)
+        read_batch(alloc, self.ops.as_slice(), after, upto)
     }
 
     fn sum_upto(&self, upto: OpId) -> Sum {
