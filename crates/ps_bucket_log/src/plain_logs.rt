@@ -1,4 +1,5 @@
-ghost use Rattle.std.specs.Prelude.{◌≡◌, []};
+ghost use Rattle.std.specs.Prelude.{◌≡◌, [], IsOk, OnOk, OnErr};
+ghost use Rattle.ps_bucket_log.specs.Logs.{IsLog};
 
 use crate::batches::{Batch, read_batch};
 use crate::logs::Log;
@@ -71,7 +72,13 @@ impl Log for BucketLog {
         copied(alloc, self.ops.as_slice())
     }
 
-    fn rebuild(&mut self, replacement: Items<Op>) -> Result<(), Memory> {
+    // It takes no memory, so it never fails.
+    fn rebuild(&mut self, replacement: Items<Op>) -> Result<(), Memory>
+        requires { IsLog replacement }
+        ensures ok { OnOk result (self.new.ops ≡ replacement) }
+        ensures err { OnErr result (self.new.ops ≡ self.old.ops) }
+        ensures made { IsOk result }
+    {
         self.ops = replacement.into_vec();
         Ok(())
     }
