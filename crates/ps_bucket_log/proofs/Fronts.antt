@@ -1,13 +1,16 @@
 -- What one batch has, and what batches have together.
-use Rattle.std.proofs.Common.{◌≡◌, ℕ, zero, suc, ◌+◌, ◌<◌, ◌≤◌, Bool, true, false, ltb, leb, eqb, ◌&&◌, ◌||◌, ◌⊎◌, inl, inr, List, [], ◌∷◌, ◌++◌, take, fold, sum_by, length, refl, sym, ap, ◌∙◌, arith, zero-add, length-append}
+use Rattle.std.proofs.Common.{◌≡◌, ◌≢◌, ℕ, zero, suc, ◌+◌, ◌<◌, ◌≤◌, Bool, true, false, ltb, leb, eqb, ◌&&◌, ◌||◌, ◌⊎◌, inl, inr, List, [], ◌∷◌, ◌++◌, take, fold, sum_by, length, refl, sym, subst, ap, ◌∙◌, arith, zero-add, length-append}
 use Rattle.std.proofs.lemmas.Bool.{lt-ltb, le-ltb, lt-leb, le-leb, cases_lt, cases_Bool, ltb-true, leb-true, and_parts, and_right, and_from, both_ways, ne_eqb}
 use Rattle.std.proofs.lemmas.List.{length-take-le}
 use Rattle.std.proofs.lemmas.List.Sums.{sum_by-cons}
+use Rattle.std.specs.List.{AllByRecursion}
 use Rattle.ps_bucket_log.specs.declared.ops.Op.{Op}
 use Rattle.ps_bucket_log.specs.Ops.{id_of, size_of, upto, past, newest}
+use Rattle.ps_bucket_log.specs.Buckets.{Bucket, after}
 use Rattle.ps_bucket_log.specs.Logs.{IsRising, IsLog, cleared}
 use Rattle.ps_bucket_log.specs.Batches.{most_ops, most_bytes, Fits, IsLongestFront, IsBatch, front_of, batch_of, batches_of}
-use Rattle.ps_bucket_log.proofs.Slices.{past-rising, IsRising-past, next, head}
+use Rattle.ps_bucket_log.proofs.Slices.{past-rising, IsRising-past, IsRising-upto, next, head}
+use Rattle.ps_bucket_log.proofs.Histories.{position-newest}
 
 -- whether one more operation is taken, after the first one
 abbrev pub has_room : ℕ → ℕ → ℕ → Bool
@@ -162,3 +165,50 @@ batches_are_the_log log high n is_log within long =
     let whole : past 0 log ≡ log = past-rising 0 0 log is_log.rising (omega arith) in
     let same : upto high (past 0 log) ≡ upto high log = ap (upto high) whole in
     batches_from n 0 high log is_log.rising within (rw same (omega (arith, length-upto high log))) ∙ same
+
+-- what is read rises, and is up to what was asked for
+
+IsRising-front : (p : ℕ) (ops more : List Op) → IsRising p (ops ++ more) → IsRising p ops
+IsRising-front p [] more rising = tt
+IsRising-front p (op ∷ ops) more rising = (rising.0, IsRising-front (id_of op) ops more rising.1)
+
+abbrev AreUpto : ℕ → List Op → Type 0
+AreUpto high ops = AllByRecursion (λ op. id_of op ≤ high) ops
+
+AreUpto-upto : (high : ℕ) (ops : List Op) → AreUpto high (upto high ops)
+AreUpto-upto high [] = tt
+AreUpto-upto high (op ∷ ops) = elim (cases_lt high (id_of op)) [
+  | inl above ↦ rw (lt-leb (id_of op) high above) (AreUpto-upto high ops)
+  | inr within ↦ rw (le-leb (id_of op) high within) (within, AreUpto-upto high ops)
+]
+
+AreUpto-front : (high : ℕ) (ops more : List Op) → AreUpto high (ops ++ more) → AreUpto high ops
+AreUpto-front high [] more within = tt
+AreUpto-front high (op ∷ ops) more within = (within.0, AreUpto-front high ops more within.1)
+
+upto-AreUpto : (high : ℕ) (ops : List Op) → AreUpto high ops → upto high ops ≡ ops
+upto-AreUpto high [] within = refl
+upto-AreUpto high (op ∷ ops) within = rw (le-leb (id_of op) high within.0) (ap (λ xs. op ∷ xs) (upto-AreUpto high ops within.1))
+
+front_rises : (low high : ℕ) (asked : List Op) → IsRising low asked → AreUpto high asked
+    → IsRising low (front_of 0 0 asked) × (upto high (front_of 0 0 asked) ≡ front_of 0 0 asked)
+front_rises low high asked rising within =
+    let split = front-split 0 0 asked in
+    let front_rising : IsRising low (front_of 0 0 asked ++ split.0) = subst (IsRising low) split.1 rising in
+    let front_within : AreUpto high (front_of 0 0 asked ++ split.0) = subst (AreUpto high) split.1 within in (
+      IsRising-front low (front_of 0 0 asked) split.0 front_rising,
+      upto-AreUpto high (front_of 0 0 asked) (AreUpto-front high (front_of 0 0 asked) split.0 front_within),
+    )
+
+pub batch_rises : (low high : ℕ) (log : List Op) → IsLog log
+    → IsRising low (batch_of low high log).ops × (upto high (batch_of low high log).ops ≡ (batch_of low high log).ops)
+batch_rises low high log is_log = elim (cases_lt high (cleared log)) [
+  | inl passed ↦ rw (lt-ltb high (cleared log) passed) (tt, refl)
+  | inr within ↦ rw (le-ltb high (cleared log) within)
+      (front_rises low high (upto high (past low log)) (IsRising-upto high low (past low log) (IsRising-past low 0 log is_log.rising))
+      (AreUpto-upto high (past low log)))
+]
+
+pub stands_at_newest : (bucket : Bucket) (batch : List Op) → batch ≢ [] → (fold after bucket batch).position ≡ newest batch
+stands_at_newest bucket [] some = absurd (some refl)
+stands_at_newest bucket (op ∷ ops) some = position-newest (after bucket op) ops

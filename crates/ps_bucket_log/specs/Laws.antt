@@ -5,7 +5,7 @@ use Rattle.ps_bucket_log.specs.declared.ops.Key.{Key}
 use Rattle.ps_bucket_log.specs.declared.ops.Op.{Op}
 use Rattle.ps_bucket_log.specs.Ops.{is_put, is_of, upto, past, newest, sum_of, has_clear, has_key, greatest_target}
 use Rattle.ps_bucket_log.specs.Buckets.{Bucket, after, bucket_of, fresh}
-use Rattle.ps_bucket_log.specs.Logs.{AreEntries, IsLog, cleared}
+use Rattle.ps_bucket_log.specs.Logs.{IsRising, AreEntries, IsLog, cleared}
 use Rattle.ps_bucket_log.specs.Batches.{IsBatch, batch_of, batches_of}
 use Rattle.ps_bucket_log.specs.Standing.{StandsFor, IsHonest, IsHonestUpTo}
 
@@ -84,6 +84,15 @@ SameSums = (log original : List Op) (level high : ℕ)
 abbrev pub TotalIsSum : Type 0
 TotalIsSum = (log : List Op) (high : ℕ) → IsLog log
     → ((bucket_of (upto high log)).total ≡ sum_of (upto high log)) × ((bucket_of (upto high log)).position ≡ newest (upto high log))
+
+-- a reader stands at the last id that it took
+abbrev pub StandsAtNewest : Type 0
+StandsAtNewest = (bucket : Bucket) (batch : List Op) → batch ≢ [] → (fold after bucket batch).position ≡ newest batch
+
+-- the ids of what is read rise from past the one that it is read after, up to what was asked for
+abbrev pub BatchRises : Type 0
+BatchRises = (low high : ℕ) (log : List Op) → IsLog log
+    → IsRising low (batch_of low high log).ops × (upto high (batch_of low high log).ops ≡ (batch_of low high log).ops)
 
 -- what is read is the longest front that fits, unless a CLEAR stands past what is asked for
 abbrev pub ReadsLongestFront : Type 0

@@ -1,6 +1,6 @@
 //! The laws of one bucket. Each is the contract of a function that does nothing.
 
-ghost use Rattle.ps_bucket_log.specs.Laws.{LastDecides, NoneIsHeld, StaysHonest, StaysHonestUpTo, WholeAtNewest, FreshIsHonest, HonestLater, GrowsLater, StandsLater, StandsForItself, StandingIsLog, WithinLevel, SameSums, TotalIsSum, ReadsLongestFront, BatchesAreTheLog, ReadsOn};
+ghost use Rattle.ps_bucket_log.specs.Laws.{LastDecides, NoneIsHeld, StaysHonest, StaysHonestUpTo, WholeAtNewest, FreshIsHonest, HonestLater, GrowsLater, StandsLater, StandsForItself, StandingIsLog, WithinLevel, SameSums, TotalIsSum, StandsAtNewest, BatchRises, ReadsLongestFront, BatchesAreTheLog, ReadsOn};
 
 /// A law: of a key, the last PUT or REMOVE since the last CLEAR decides what a reader holds.
 pub fn the_last_decides()
@@ -44,16 +44,20 @@ pub fn standing_logs_have_the_sums_of_their_originals()
     ensures { SameSums }
 {}
 
-/// A law: a reader that takes a log up to an id has its sum as total, and its newest id as position.
+/// A law: a reader that takes a log up to an id has its sum as total and its newest id as position; whatever
+/// it took before, it stands at the last id that it took.
 pub fn totals_are_sums()
-    ensures { TotalIsSum }
+    ensures total { TotalIsSum }
+    ensures position { StandsAtNewest }
 {}
 
-/// A law: a batch is the longest front that fits, and batches that are read one after another, each after
+/// A law: a batch is the longest front that fits, with ids that rise from past the one that it is read after.
+/// Batches that are read one after another, each after
 /// the newest id so far, are the log up to the id that was asked for. A read from before the newest id gives
 /// something to go on with.
 pub fn batches_are_the_log()
     ensures longest { ReadsLongestFront }
+    ensures rising { BatchRises }
     ensures together { BatchesAreTheLog }
     ensures on { ReadsOn }
 {}
