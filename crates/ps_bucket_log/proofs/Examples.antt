@@ -1,5 +1,5 @@
 -- The definitions at work on small logs, by computing.
-use Rattle.std.proofs.Common.{◌≡◌, ℕ, true, false, ◌&&◌, ◌||◌, inl, Some, None, List, [], ◌∷◌, refl, sym, ◌∙◌, codes, arith}
+use Rattle.std.proofs.Common.{◌≡◌, Option, ℕ, true, false, ◌&&◌, ◌||◌, inl, Some, None, List, [], ◌∷◌, refl, sym, ◌∙◌, codes, arith}
 use Rattle.std.proofs.lemmas.Bool.{or_parts}
 use Rattle.std.proofs.Math.Bool.{and-true}
 use Rattle.ps_values.specs.declared.ids.OpId.{OpId}
@@ -8,9 +8,9 @@ use Rattle.ps_bucket_log.specs.declared.ops.Key.{Key}
 use Rattle.ps_bucket_log.specs.declared.ops.Op.{Op}
 use Rattle.ps_bucket_log.specs.declared.ops.Op.TheVariants.{Put, Remove, Clear}
 use Rattle.ps_bucket_log.specs.Ops.{same_key, upto, sum_of}
-use Rattle.ps_bucket_log.specs.Buckets.{bucket_of}
+use Rattle.ps_bucket_log.specs.Buckets.{Bucket, bucket_of}
 use Rattle.ps_bucket_log.specs.Batches.{batch_of}
-use Rattle.ps_bucket_log.specs.Standing.{StandsFor}
+use Rattle.ps_bucket_log.specs.Standing.{StandsFor, IsHonest, IsHonestUpTo}
 
 abbrev key_of : List ℕ → Key
 key_of id = record { kind = codes "t"; id = id; subkey = id }
@@ -83,3 +83,21 @@ the_cleared_log_stands = record {
   };
   pairs = (inl refl, (inl refl, tt));
 }
+
+-- who took the CLEAR alone is honest up to 4, since both keys have operations behind it
+abbrev begun : Bucket
+begun = bucket_of (upto 2 cleared_log)
+
+begun_is_honest_up_to_4 : IsHonest begun written 4
+begun_is_honest_up_to_4 = record {
+  reached = omega arith;
+  total = refl;
+  keys = λ key none. sym (the_cleared_log_stands.front.gone key none);
+}
+
+-- and not up to 3, since it lacks y, which 4 alone puts right
+begun_is_not_honest_up_to_3 : IsHonestUpTo begun written 4 3 → ⊥
+begun_is_not_honest_up_to_3 honest =
+    let nothing : Option Op = None in
+    let lacks : nothing ≡ Some (put 2 (codes "y") 4294967290) = honest.keys (key_of (codes "y")) refl in
+    cc
