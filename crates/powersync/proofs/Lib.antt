@@ -1,1 +1,4 @@
+pub mod Reaching
+pub mod Splitting
+pub mod Standing
 pub mod Words

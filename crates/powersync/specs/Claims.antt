@@ -17,7 +17,7 @@ user_of d = do
   subject ← get (codes "sub") token
   user ← as_str subject
   if passes_if_there (λ parameters. is_some (as_object parameters)) (get (codes "parameters") d) && passes_if_there (λ client. is_some (as_str client)) (get (codes "client_id") d)
-    then Some user else None
+      then Some user else None
 
 unfoldable pub claims_of : List ℕ → Option (List ℕ)
 claims_of bytes = option_and_then user_of (json_of bytes)

@@ -7,9 +7,9 @@ use Rattle.powersync.specs.declared.rules.Rule.{Rule}
 -- the words of SQL that are no names, and the names of the parameters' tables
 abbrev pub reserved_words : List (List ℕ)
 reserved_words =
-  codes "select" ∷ codes "from" ∷ codes "where" ∷ codes "as" ∷ codes "and" ∷ codes "or" ∷ codes "not" ∷ codes "is" ∷ codes "in" ∷ codes "null" ∷ codes "true" ∷ codes "false"
-  ∷ codes "cast" ∷ codes "join" ∷ codes "group" ∷ codes "order" ∷ codes "limit" ∷ codes "union" ∷ codes "distinct" ∷ codes "having" ∷ codes "between" ∷ codes "case"
-  ∷ codes "like" ∷ codes "bucket" ∷ codes "request" ∷ codes "token_parameters" ∷ []
+    codes "select" ∷ codes "from" ∷ codes "where" ∷ codes "as" ∷ codes "and" ∷ codes "or" ∷ codes "not" ∷ codes "is" ∷ codes "in" ∷ codes "null" ∷ codes "true" ∷ codes "false"
+    ∷ codes "cast" ∷ codes "join" ∷ codes "group" ∷ codes "order" ∷ codes "limit" ∷ codes "union" ∷ codes "distinct" ∷ codes "having" ∷ codes "between" ∷ codes "case"
+    ∷ codes "like" ∷ codes "bucket" ∷ codes "request" ∷ codes "token_parameters" ∷ []
 
 -- in any case
 unfoldable pub is_reserved : List ℕ → Bool
@@ -33,11 +33,11 @@ is_word name = begins_as_word name && list_all is_word_byte name && not (is_rese
 
 abbrev pub rule_text : Rule → List ℕ
 rule_text rule =
-  codes "bucket_definitions:\n  " ++ (rule.name
-  ++ (codes ":\n    parameters: SELECT request.user_id() AS " ++ (rule.parameter
-  ++ (codes "\n    data:\n      - SELECT * FROM " ++ (rule.table
-  ++ (codes " WHERE " ++ (rule.column
-  ++ (codes " = bucket." ++ rule.parameter))))))))
+    codes "bucket_definitions:\n  " ++ (rule.name
+    ++ (codes ":\n    parameters: SELECT request.user_id() AS " ++ (rule.parameter
+    ++ (codes "\n    data:\n      - SELECT * FROM " ++ (rule.table
+    ++ (codes " WHERE " ++ (rule.column
+    ++ (codes " = bucket." ++ rule.parameter))))))))
 
 -- the bytes are the text of the rule, with or without a last line feed
 pub record IsRuleText (bytes : List ℕ) (rule : Rule) : Type 0 where

@@ -1,7 +1,10 @@
 //! The program.
 #![tactic(auto)]
 
+mod change_files;
 mod claims;
+mod clients;
+mod faults;
 mod replicas;
 mod rules;
 mod writing;

@@ -11,7 +11,10 @@ pub enum Operation {
         content: Text,
     },
     /// The object has left the bucket.
-    Remove { bucket: Value, id: Text },
+    Remove {
+        bucket: Value,
+        id: Text,
+    },
 }
 
 /// The rows that were replicated: the bucket of each row that is in one, and all operations.

@@ -22,9 +22,32 @@ pub struct Rule {
 
 // The words that SQL keeps for itself, and the names of the parameters' tables, in small letters.
 const RESERVED: [&str; 26] = [
-    "select", "from", "where", "as", "and", "or", "not", "is", "in", "null", "true", "false",
-    "cast", "join", "group", "order", "limit", "union", "distinct", "having", "between", "case",
-    "like", "bucket", "request", "token_parameters",
+    "select",
+    "from",
+    "where",
+    "as",
+    "and",
+    "or",
+    "not",
+    "is",
+    "in",
+    "null",
+    "true",
+    "false",
+    "cast",
+    "join",
+    "group",
+    "order",
+    "limit",
+    "union",
+    "distinct",
+    "having",
+    "between",
+    "case",
+    "like",
+    "bucket",
+    "request",
+    "token_parameters",
 ];
 
 #[tactic(auto, unfolding(crate::specs::Rules::is_reserved))]

@@ -3,12 +3,13 @@ ghost use Rattle.std.specs.BTreeMap.{get};
 ghost use Rattle.std.specs.Cmp.Lexicographic.{slice_cmp};
 ghost use Rattle.std.specs.Ordering.{nat_cmp, is_eq};
 ghost use Rattle.ps_values.specs.Documents.{document_of};
+ghost use Rattle.ps_changes.specs.Source.{Source, after_row, after_changes};
 ghost use Rattle.powersync.specs.Grants.{column_at as value_of_column};
-ghost use Rattle.powersync.specs.Operations.{unless_null as value_unless_null, bucket_of as bucket_of_row, names as names_bucket, removal, arrival, Writes};
+ghost use Rattle.powersync.specs.Operations.{unless_null as value_unless_null, bucket_of as bucket_of_row, names as names_bucket, removal, arrival, StandsFor, Writes};
 
 use crate::replicas::{Operation, Replica};
 use crate::rules::Rule;
-use ps_changes::{Column, Row};
+use ps_changes::{Change, Column, Row, Transaction};
 use ps_values::{Memory, Text, Truth, Value, document, equal_sql};
 use std::alloc::Global;
 
@@ -48,8 +49,8 @@ fn unless_null(alloc: Global, value: &Value) -> Result<Option<Value>, Memory>
     }
 }
 
-// Whether a bucket is that of a parameter's value.
-fn names(bucket: &Value, parameter: &Value) -> bool
+/// Whether a bucket is that of a parameter's value.
+pub fn names(bucket: &Value, parameter: &Value) -> bool
     ensures { result ≡ names_bucket bucket.now parameter.now }
 {
     match equal_sql(bucket, parameter) {
@@ -151,6 +152,38 @@ pub fn write_row(
     match (after, row) {
         (Some(bucket), Some(row)) => arrive(alloc, replica, bucket, id, row)?,
         _ => vanish(replica, id),
+    }
+    Ok(())
+}
+
+// Writes a change, where it is of the rule's table.
+fn write_change(
+    alloc: Global,
+    replica: &mut Replica,
+    rule: &Rule,
+    change: &Change,
+) -> Result<(), Memory>
+    ensures { OnOk result ((position index : ℕ) (source : Source) → StandsFor rule.now replica.old source
+        → StandsFor rule.now replica.new (after_row position index (change.now.table, change.now.id) change.now.row source)) }
+{
+    if change.table.equals(&rule.table) {
+        write_row(alloc, replica, rule, &change.id, &change.row)?;
+    }
+    Ok(())
+}
+
+/// Writes a transaction's changes, in order.
+pub fn write_transaction(
+    alloc: Global,
+    replica: &mut Replica,
+    rule: &Rule,
+    transaction: &Transaction,
+) -> Result<(), Memory>
+    ensures { OnOk result ((source : Source) → StandsFor rule.now replica.old source
+        → StandsFor rule.now replica.new (after_changes transaction.now.position.0 0 transaction.now.changes source)) }
+{
+    'changes: for change in transaction.changes.as_slice() {
+        write_change(alloc, replica, rule, change)?;
     }
     Ok(())
 }

@@ -1,0 +1,84 @@
+ghost use Rattle.std.specs.Prelude.{◌≡◌, ◌==◌, ◌<◌, ◌^◌, ◌∷◌, [], length, IfSome, MatchOption};
+ghost use Rattle.std.specs.List.{position};
+ghost use Rattle.ps_changes.specs.Lines.{line_of};
+ghost use Rattle.powersync.specs.ChangeFiles.{lines_of, is_blank as is_blank_line, rising};
+ghost use Rattle.powersync.specs.Replicating.{Replicates, ReadsRising};
+
+use crate::faults::Fault;
+use crate::replicas::Replica;
+use crate::rules::Rule;
+use crate::writing::write_transaction;
+use ps_changes::{ChangeFault, Transaction, read_line};
+use std::alloc::Global;
+use std::collections::BTreeMap;
+
+// The place of the first line feed.
+fn line_feed(bytes: &[u8]) -> Option<usize>
+    ensures value { result ≡ position (λ b. b == 10) bytes.now }
+    ensures within { IfSome result (λ place. place < length bytes.now) }
+{
+    bytes.iter().position(|byte| *byte == b'\n')
+}
+
+/// The first line, and the lines after it where a line feed ends it.
+pub fn split_line(bytes: &[u8]) -> (&[u8], Option<&[u8]>)
+    ensures { MatchOption result.1 (lines_of bytes.now ≡ result.0.now ∷ [])
+        (λ rest. (lines_of bytes.now ≡ result.0.now ∷ lines_of rest.now) × (length rest.now < length bytes.now)) }
+{
+    match line_feed(bytes) {
+        Some(end) => (&bytes[..end], Some(bytes.split_at(end + 1).1)),
+        None => (bytes, None),
+    }
+}
+
+/// Whether a line is of spaces, tabs and carriage returns alone.
+pub fn is_blank(line: &[u8]) -> bool
+    ensures { result ≡ is_blank_line line.now }
+{
+    line.iter()
+        .all(|byte| *byte == b' ' || *byte == b'\t' || *byte == b'\r')
+}
+
+/// Replicates a change file: the replica of the source after its transactions.
+/// `Change` comes exactly where a line is refused, with the first such line.
+pub fn replicate(alloc: Global, rule: &Rule, changes: &[u8]) -> Result<Replica, Fault>
+    requires { length changes.now < 2 ^ 63 }
+    ensures { Replicates rule.now changes.now result }
+{
+    let mut replica = Replica {
+        live: BTreeMap::new(alloc),
+        operations: Vec::new(alloc),
+    };
+    let mut number = 0u64;
+    let mut last = 0;
+    let mut rest = Some(changes);
+    'lines: while let Some(bytes) = rest {
+        let (line, after) = split_line(bytes);
+        number += 1;
+        rest = after;
+        if is_blank(line) {
+            continue;
+        }
+        let transaction = read_rising(alloc, line, number, last)?;
+        write_transaction(alloc, &mut replica, rule, &transaction)?;
+        last = transaction.position.0;
+    }
+    Ok(replica)
+}
+
+// The transaction of a line, where its position is past the last one.
+fn read_rising(alloc: Global, line: &[u8], number: u64, last: u64) -> Result<Transaction, Fault>
+    ensures { ReadsRising result (rising number last (line_of line.now)) }
+{
+    match read_line(alloc, line) {
+        Ok(transaction) => {
+            if last < transaction.position.0 {
+                Ok(transaction)
+            } else {
+                Err(Fault::Change { line: number })
+            }
+        }
+        Err(ChangeFault::NotYet) => Err(Fault::Change { line: number }),
+        Err(ChangeFault::Memory) => Err(Fault::Memory),
+    }
+}
