@@ -1,0 +1,21 @@
+//! A bucket's log of operations, and what a list of operations means to its readers.
+#![tactic(auto)]
+
+mod batches;
+mod laws;
+mod logs;
+mod ops;
+mod places;
+mod plain_logs;
+#[cfg(test)]
+mod tests;
+
+pub use batches::Batch;
+pub use laws::{
+    batches_are_the_log, batches_keep_readers_honest, honest_readers_stay_honest,
+    readers_are_whole_at_the_newest, standing_logs_have_the_sums_of_their_originals,
+    standing_logs_stay_standing, the_last_decides, totals_are_sums,
+};
+pub use logs::Log;
+pub use ops::{Key, Op};
+pub use plain_logs::BucketLog;

@@ -1,0 +1,85 @@
+ghost use Rattle.std.specs.Prelude.{◌≡◌, [], IsOk, OnOk, OnErr};
+ghost use Rattle.ps_bucket_log.specs.Logs.{IsLog};
+
+use crate::batches::{Batch, read_batch};
+use crate::logs::Log;
+use crate::ops::Op;
+use crate::places::{copied, front_upto, newest_id, place_past, total};
+use ps_checksum::Sum;
+use ps_values::{Items, Memory, OpId};
+use std::alloc::Global;
+use std::marker::Model;
+
+/// The plain log: the list of its operations. A search by id takes a logarithm of their number.
+#[derive(Debug, Drop)]
+pub struct BucketLog {
+    ops: Vec<Op>,
+}
+
+impl Model for BucketLog {
+    ghost use Rattle.std.specs.Prelude.{◌-◌, vec_len, vec_capacity};
+    ghost use Rattle.ps_bucket_log.specs.Logs.{LogState, IsLog};
+
+    ghost Value = { LogState };
+
+    ghost view = { λ log. record { ops = log.ops.items; spare = vec_capacity log.ops - vec_len log.ops } };
+
+    ghost invariant = { λ log. IsLog log.ops.items };
+}
+
+impl BucketLog {
+    /// A log without operations. Takes no memory.
+    pub fn new(alloc: Global) -> BucketLog
+        ensures { result.ops ≡ [] }
+    {
+        BucketLog {
+            ops: Vec::new(alloc),
+        }
+    }
+}
+
+impl Log for BucketLog {
+    ghost ops = { λ log. log.ops };
+
+    ghost spare = { λ log. log.spare };
+
+    fn reserve(&mut self, more: usize) -> Result<(), Memory> {
+        self.ops.reserve(more)?;
+        Ok(())
+    }
+
+    fn append(&mut self, op: Op) {
+        self.ops.push_reserved(op);
+    }
+
+    fn read(&self, alloc: Global, after: OpId, upto: OpId) -> Result<Batch, Memory> {
+        read_batch(alloc, self.ops.as_slice(), after, upto)
+    }
+
+    fn sum_upto(&self, upto: OpId) -> Sum {
+        total(front_upto(self.ops.as_slice(), upto))
+    }
+
+    fn count_upto(&self, upto: OpId) -> u64 {
+        place_past(self.ops.as_slice(), upto) as u64
+    }
+
+    fn newest_upto(&self, upto: OpId) -> OpId {
+        newest_id(front_upto(self.ops.as_slice(), upto))
+    }
+
+    fn ops(&self, alloc: Global) -> Result<Items<Op>, Memory> {
+        copied(alloc, self.ops.as_slice())
+    }
+
+    // It takes no memory, so it never fails.
+    fn rebuild(&mut self, replacement: Items<Op>) -> Result<(), Memory>
+        requires { IsLog replacement }
+        ensures ok { OnOk result (self.new.ops ≡ replacement) }
+        ensures err { OnErr result (self.new.ops ≡ self.old.ops) }
+        ensures made { IsOk result }
+    {
+        self.ops = replacement.into_vec();
+        Ok(())
+    }
+}
