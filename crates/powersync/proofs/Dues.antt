@@ -1,6 +1,6 @@
 -- What a client of the user's bucket holds is what is due to the user.
 use Rattle.std.proofs.Common.{◌≡◌, ℕ, ◌<◌, ◌≤◌, Bool, true, false, ◌&&◌, ◌||◌, not, cond, List, [], ◌∷◌, ◌++◌, Option, Some, None, option_map, Ordering, Less, Equal, Greater, map, refl, sym, ap, ◌∙◌, subst, bytes_eq, arith, leb, ltb, Result, Ok, Err, ◌+◌}
-use Rattle.std.specs.Prelude.{T, option_and_then, filter, filter_map}
+use Rattle.std.specs.Prelude.{T, option_and_then, filter, filter_map, flat_map}
 use Rattle.std.specs.List.{cons_option}
 use Rattle.std.specs.BTreeMap.{BTreeMap, get, IsOrdered}
 use Rattle.std.specs.List.{AllByRecursion, list_any}
@@ -25,7 +25,7 @@ use Rattle.powersync.specs.declared.replicas.Replica.{Replica}
 use Rattle.powersync.specs.Grants.{value_at, is_true, condition_holds, parameter_vectors, Copy, copy_of, granted, Rows, keep_unless, latest, rows_of, due}
 use Rattle.powersync.specs.Operations.{unless_null, bucket_of, names, is_in, held_after, content_in, StandsFor}
 use Rattle.powersync.specs.ChangeFiles.{lines_of, is_blank, rising, transactions_from, transactions_of, last_position, ◌>>=◌}
-use Rattle.powersync.specs.Texts.{shown_as}
+use Rattle.powersync.specs.Texts.{shown_as, row_text, rows_text}
 use Rattle.std.proofs.lemmas.Bool.{le-leb, ltb-true}
 use Rattle.powersync.proofs.Standing.{same_bytes}
 
@@ -299,3 +299,15 @@ pub due_rows : (rule : Rule) (user bytes : List ℕ) (ts : List Transaction) (re
 due_rows rule user bytes ts replica entries read stands ordered held =
     ap (λ source. rows_of (granted rule user source)) (source_at_last bytes ts read)
     ∙ held_is_due rule user (after_transactions ts []) entries (sorted-after_transactions ts [] tt) ordered (λ id. held id ∙ stands.held (Text user) id)
+
+-- printing objects one by one prints all of them
+printed_objects : (kind : List ℕ) (entries : List (List ℕ × List ℕ)) → flat_map (λ row. row_text (shown_as kind row)) entries ≡ rows_text (map (shown_as kind) entries)
+printed_objects kind [] = refl
+printed_objects kind (e ∷ es) = ap (λ rest. row_text (shown_as kind e) ++ rest) (printed_objects kind es)
+
+pub printed_rows : (rule : Rule) (user bytes : List ℕ) (ts : List Transaction) (replica : Replica) (entries : List (List ℕ × List ℕ)) (text : List ℕ) → transactions_of bytes ≡ Ok ts
+  → StandsFor rule replica (after_transactions ts []) → IsStrictlySortedBy (slice_cmp nat_cmp) (keys_of entries)
+  → ((id : List ℕ) → lookup (λ k. is_eq (slice_cmp nat_cmp id k)) entries ≡ held_after (Text user) id None replica.operations.items)
+  → text ≡ flat_map (λ row. row_text (shown_as rule.table row)) entries → text ≡ rows_text (due rule user ts (last_position 0 ts))
+printed_rows rule user bytes ts replica entries text read stands ordered held is =
+    is ∙ printed_objects rule.table entries ∙ ap rows_text (sym (due_rows rule user bytes ts replica entries read stands ordered held))

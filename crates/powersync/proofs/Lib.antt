@@ -1,3 +1,4 @@
+pub mod Causes
 pub mod Dues
 pub mod Reaching
 pub mod Splitting

@@ -6,6 +6,7 @@ mod claims;
 mod clients;
 mod faults;
 mod loading;
+mod plain;
 mod printing;
 mod replicas;
 mod rules;
