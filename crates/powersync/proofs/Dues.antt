@@ -306,8 +306,8 @@ printed_objects kind [] = refl
 printed_objects kind (e ∷ es) = ap (λ rest. row_text (shown_as kind e) ++ rest) (printed_objects kind es)
 
 pub printed_rows : (rule : Rule) (user bytes : List ℕ) (ts : List Transaction) (replica : Replica) (entries : List (List ℕ × List ℕ)) (text : List ℕ) → transactions_of bytes ≡ Ok ts
-  → StandsFor rule replica (after_transactions ts []) → IsStrictlySortedBy (slice_cmp nat_cmp) (keys_of entries)
-  → ((id : List ℕ) → lookup (λ k. is_eq (slice_cmp nat_cmp id k)) entries ≡ held_after (Text user) id None replica.operations.items)
-  → text ≡ flat_map (λ row. row_text (shown_as rule.table row)) entries → text ≡ rows_text (due rule user ts (last_position 0 ts))
+    → StandsFor rule replica (after_transactions ts []) → IsStrictlySortedBy (slice_cmp nat_cmp) (keys_of entries)
+    → ((id : List ℕ) → lookup (λ k. is_eq (slice_cmp nat_cmp id k)) entries ≡ held_after (Text user) id None replica.operations.items)
+    → text ≡ flat_map (λ row. row_text (shown_as rule.table row)) entries → text ≡ rows_text (due rule user ts (last_position 0 ts))
 printed_rows rule user bytes ts replica entries text read stands ordered held is =
     is ∙ printed_objects rule.table entries ∙ ap rows_text (sym (due_rows rule user bytes ts replica entries read stands ordered held))

@@ -1,5 +1,7 @@
 pub mod Causes
 pub mod Dues
+pub mod Exactness
+pub mod FaultLines
 pub mod Reaching
 pub mod Splitting
 pub mod Standing

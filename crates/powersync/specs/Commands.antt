@@ -127,6 +127,16 @@ ExceedsLimit held words seen = ExceedsRules held words seen ⊎ ExceedsClaims he
 
 -- ---- faults
 
+-- the words are a command
+abbrev pub IsCommand : List (List ℕ) → Type 0
+IsCommand words = (names : Names) × (names_of words ≡ Some names)
+
+-- the words are a command that names that file
+pub record NamesFile (words : List (List ℕ)) (name : List ℕ) : Type 0 where
+  pub names : Names
+  pub command : names_of words ≡ Some names
+  pub file : (name ≡ names.rules) ⊎ (name ≡ names.claims) ⊎ (name ≡ names.changes)
+
 -- what is seen of the outside before and after
 pub record Outside : Type 0 where
   pub held : Option Contents
@@ -150,9 +160,9 @@ Caused o words Rules = Kept o × RefusesRules o.held words
 Caused o words (Change line) = Kept o × RefusesChange o.held words line
 Caused o words Claims = Kept o × RefusesClaims o.held words
 Caused o words (TooLong seen) = Kept o × ExceedsLimit o.held words seen
-Caused o words (CannotRead name) = Kept o × Rose o.read_before o.read_now
-Caused o words CannotWrite = GainsAFront o × Rose o.write_before o.write_now
-Caused o words Memory = Kept o
+Caused o words (CannotRead name) = Kept o × NamesFile words name × Rose o.read_before o.read_now
+Caused o words CannotWrite = GainsAFront o × IsCommand words × Rose o.write_before o.write_now
+Caused o words Memory = Kept o × IsCommand words
 
 abbrev pub Outcome : Outside → List (List ℕ) → Result (Unit {0}) Fault → Type 0
 Outcome o words (Ok _) = Prints o.held words o.taken_before o.taken_now

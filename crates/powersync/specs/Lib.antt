@@ -7,4 +7,5 @@ pub mod Operations
 pub mod Parts
 pub mod Replicating
 pub mod Rules
+pub mod Saying
 pub mod Texts

@@ -22,7 +22,7 @@ Loads held name limit before now Finds Refuses (Err Rules) = (bytes : List ℕ) 
 Loads held name limit before now Finds Refuses (Err (Change line)) = (bytes : List ℕ) × HoldsWithin held name limit bytes × Refuses (Change line) bytes
 Loads held name limit before now Finds Refuses (Err Claims) = (bytes : List ℕ) × HoldsWithin held name limit bytes × Refuses Claims bytes
 Loads held name limit before now Finds Refuses (Err (TooLong seen)) = (limit < seen) × HoldsMore held name limit
-Loads held name limit before now Finds Refuses (Err (CannotRead file)) = Rose before now
+Loads held name limit before now Finds Refuses (Err (CannotRead file)) = (file ≡ name) × Rose before now
 Loads held name limit before now Finds Refuses (Err CannotWrite) = ⊥
 Loads held name limit before now Finds Refuses (Err Memory) = Unit {0}
 

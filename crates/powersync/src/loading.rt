@@ -19,12 +19,7 @@ pub const RULES_LIMIT: u64 = 1048576;
 pub const FILE_LIMIT: u64 = 268435456;
 
 // Reads a file within a limit.
-fn load<F: Files>(
-    alloc: Global,
-    files: &mut F,
-    name: &Text,
-    limit: u64,
-) -> Result<Vec<u8>, Fault>
+fn load<F: Files>(alloc: Global, files: &mut F, name: &Text, limit: u64) -> Result<Vec<u8>, Fault>
     ensures loads { Loads (F.held files.old) name.now limit (F.faults files.old) (F.faults files.new) IsContent RefusesNothing result }
     ensures held { F.held files.new ≡ F.held files.old }
     ensures faults { F.faults files.old ≤ F.faults files.new }

@@ -10,6 +10,7 @@ mod plain;
 mod printing;
 mod replicas;
 mod rules;
+mod saying;
 mod writing;
 
 fn main(rt: HostRuntime) {

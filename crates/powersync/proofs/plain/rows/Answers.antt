@@ -65,6 +65,13 @@ returns-in-Ok-write g c = λ word same.
     let second : read_1 ≤ read_2 = c.in-Ok-load_user.ensures.faults in
     let risen : start ≤ read_2 = omega (arith, first, second) in
     let gained : Gains (g.K.Sink.taken c.args.out.now) (g.K.Sink.taken c.write.new.self) c.in-Ok-load_rows.text.items =
-      subst (λ bytes. Gains (g.K.Sink.taken c.args.out.now) (g.K.Sink.taken c.write.new.self) bytes) c.as_slice.ensures.value c.in-Ok-write.ensures.ok in
+    subst (λ bytes. Gains (g.K.Sink.taken c.args.out.now) (g.K.Sink.taken c.write.new.self) bytes) c.as_slice.ensures.value c.in-Ok-write.ensures.ok in
     all_printed held held_2 read_2 (g.F.Files.faults c.load_rows.new.files) words names c.in-Ok.rule c.in-Ok-load_user.user c.in-Ok-load_rows.text (g.K.Sink.taken c.args.out.now) (g.K.Sink.taken c.write.new.self)
-      same_held rules claims c.in-Ok-load_rows.ensures.loads gained
+    same_held rules claims c.in-Ok-load_rows.ensures.loads gained
+
+pub returns : goal.returns
+returns g c = λ word same. (
+  (c.as_slice.result.now, c.in-Err-write.ensures.err),
+  (record { rules = c.args.rules.now; changes = c.args.changes.now; claims = c.args.claims.now }, words_name word c.args.rules.now c.args.changes.now c.args.claims.now same),
+  c.in-Err-write.ensures.failed,
+)
