@@ -1,4 +1,4 @@
-//! The program.
+//! The program `powersync`: docs/FORMATS.md has its commands, and docs/CLAIMS.md what is proved of them.
 #![tactic(auto)]
 
 mod change_files;
@@ -13,6 +13,48 @@ mod rules;
 mod saying;
 mod writing;
 
-fn main(rt: HostRuntime) {
-    let _rt = rt;
+use plain::run_plain;
+use ps_io::{DiskFiles, StdSink};
+use ps_values::Text;
+use std::env;
+use std::io;
+use std::process::ExitCode;
+use std::thread;
+
+// Reading, checking and dropping a hostile file may nest as deep as it is long.
+const STACK: usize = 1073741824;
+
+// The words after the program's name; none where they cannot be had, as where one is not UTF-8.
+fn words_of(rt: &HostRuntime) -> Vec<Text> {
+    let mut words = Vec::new(rt.alloc());
+    let Ok(arguments) = env::args(rt) else {
+        return words;
+    };
+    'words: for argument in arguments.skip(1) {
+        if words.push(Text::from_string(argument)).is_err() {
+            return Vec::new(rt.alloc());
+        }
+    }
+    words
+}
+
+fn run(rt: &HostRuntime) -> u8 {
+    let words = words_of(rt);
+    let stdout = rt.stdout();
+    let stderr = rt.stderr();
+    let mut files = DiskFiles::new(*rt);
+    let mut out = StdSink::new(io::writer(&stdout));
+    let mut err = StdSink::new(io::writer(&stderr));
+    run_plain(rt.alloc(), words.as_slice(), &mut files, &mut out, &mut err)
+}
+
+fn main(rt: HostRuntime) -> ExitCode {
+    let status = match thread::Builder::new()
+        .stack_size(STACK)
+        .spawn(&rt, move || run(&rt))
+    {
+        Ok(handle) => handle.join(&rt),
+        Err(_) => run(&rt),
+    };
+    ExitCode::from(status)
 }
