@@ -2,6 +2,7 @@ pub mod Causes
 pub mod Dues
 pub mod Exactness
 pub mod FaultLines
+pub mod Forms
 pub mod Reaching
 pub mod Splitting
 pub mod Standing

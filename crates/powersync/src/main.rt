@@ -11,6 +11,8 @@ mod printing;
 mod replicas;
 mod rules;
 mod saying;
+#[cfg(test)]
+mod tests;
 mod writing;
 
 use plain::run_plain;

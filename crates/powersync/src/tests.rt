@@ -1,0 +1,204 @@
+use crate::plain::run_plain;
+use ps_io::{Files, MemoryFile, MemoryFiles, MemorySink, SureFiles};
+use ps_values::{Items, Text};
+use std::alloc::Global;
+use std::test::Fail;
+
+const RULES: &str = "bucket_definitions:\n  mine:\n    parameters: SELECT request.user_id() AS u\n    data:\n      - SELECT * FROM items WHERE owner = bucket.u\n";
+
+const CLAIMS: &str = "{\"token\":{\"sub\":\"ann\"}}";
+
+const CHANGES: &str = "{\"pos\":\"1\",\"changes\":[{\"op\":\"PUT\",\"table\":\"items\",\"id\":\"r1\",\"row\":{\"owner\":\"ann\",\"n\":1}}]}
+{\"pos\":\"2\",\"changes\":[{\"op\":\"PUT\",\"table\":\"items\",\"id\":\"r2\",\"row\":{\"owner\":\"bob\",\"n\":1}}]}
+{\"pos\":\"3\",\"changes\":[{\"op\":\"PUT\",\"table\":\"items\",\"id\":\"r3\",\"row\":{\"owner\":\"ann\",\"n\":2}}]}
+{\"pos\":\"4\",\"changes\":[{\"op\":\"DELETE\",\"table\":\"items\",\"id\":\"r1\"}]}
+";
+
+const ROW: &str = "\"items\" \"r3\" {\"id\":\"r3\",\"n\":2,\"owner\":\"ann\"}\n";
+
+// What a command answered, printed and said.
+struct Answer {
+    status: u8,
+    printed: Vec<u8>,
+    said: Vec<u8>,
+}
+
+fn file(alloc: Global, name: &str, content: &str) -> Result<MemoryFile, Fail> {
+    Ok(MemoryFile {
+        name: Text::from_str(alloc, name)?,
+        content: Items::from_vec(Vec::from_slice(alloc, content.as_bytes())?),
+    })
+}
+
+// Files with the names that the command of the tests has.
+fn three_files(
+    alloc: Global,
+    rules: &str,
+    changes: &str,
+    claims: &str,
+) -> Result<Items<MemoryFile>, Fail> {
+    let mut files = Vec::new(alloc);
+    files.push(file(alloc, "r", rules)?)?;
+    files.push(file(alloc, "c", changes)?)?;
+    files.push(file(alloc, "u", claims)?)?;
+    Ok(Items::from_vec(files))
+}
+
+// Does the command of the words, with as many calls of the output failing and as much room as is said.
+fn answer<F: Files>(
+    alloc: Global,
+    words: &[&str],
+    files: &mut F,
+    room: usize,
+    failing: Items<u64>,
+) -> Result<Answer, Fail> {
+    let mut texts = Vec::new(alloc);
+    'words: for word in words {
+        texts.push(Text::from_str(alloc, word)?)?;
+    }
+    let mut out = MemorySink::new(alloc, room, failing)?;
+    let mut err = MemorySink::new(alloc, 4096, Items::new(alloc))?;
+    let status = run_plain(alloc, texts.as_slice(), files, &mut out, &mut err);
+    Ok(Answer {
+        status,
+        printed: Vec::from_slice(alloc, out.bytes())?,
+        said: Vec::from_slice(alloc, err.bytes())?,
+    })
+}
+
+// Prints the rows of three files in memory.
+fn rows(alloc: Global, rules: &str, changes: &str, claims: &str) -> Result<Answer, Fail> {
+    let mut files = SureFiles::new(three_files(alloc, rules, changes, claims)?);
+    answer(
+        alloc,
+        &["rows", "r", "c", "u"],
+        &mut files,
+        4194304,
+        Items::new(alloc),
+    )
+}
+
+#[test]
+fn prints_the_rows_that_are_due(rt: HostRuntime) -> Result<(), Fail> {
+    let worked = rows(rt.alloc(), RULES, CHANGES, CLAIMS)?;
+    assert_eq!(rt; worked.status, 0);
+    assert_eq!(rt; worked.printed.as_slice(), ROW.as_bytes());
+    assert_eq!(rt; worked.said.len(), 0);
+    let last_is_open = rows(rt.alloc(), RULES, CHANGES.trim_end(), CLAIMS)?;
+    assert_eq!(rt; last_is_open.printed.as_slice(), ROW.as_bytes());
+    let empty = rows(rt.alloc(), RULES, "", CLAIMS)?;
+    assert_eq!(rt; empty.status, 0);
+    assert_eq!(rt; empty.printed.len(), 0);
+    let rules_are_open = rows(rt.alloc(), RULES.trim_end(), CHANGES, CLAIMS)?;
+    assert_eq!(rt; rules_are_open.printed.as_slice(), ROW.as_bytes());
+    Ok(())
+}
+
+#[test]
+fn each_refusal_has_its_status_and_text(rt: HostRuntime) -> Result<(), Fail> {
+    let blank_lines = "\n \t\r\n{\"pos\":\"1\",\"changes\":[]}\n\n{\"pos\":\"1\",\"changes\":[]}";
+    'table: for (rules, changes, claims, status, said) in [
+        ("", CHANGES, CLAIMS, 2, "powersync: rules 1:1 not-yet\n"),
+        (RULES, "{}", CLAIMS, 3, "powersync: change 1 not-yet\n"),
+        (RULES, blank_lines, CLAIMS, 3, "powersync: change 5 not-yet\n"),
+        (RULES, CHANGES, "{}", 4, "powersync: claims\n"),
+        ("", "{}", "{}", 2, "powersync: rules 1:1 not-yet\n"),
+        (RULES, "{}", "{}", 4, "powersync: claims\n"),
+    ] {
+        let refused = rows(rt.alloc(), rules, changes, claims)?;
+        assert_eq!(rt; refused.status, status);
+        assert_eq!(rt; refused.said.as_slice(), said.as_bytes());
+        assert_eq!(rt; refused.printed.len(), 0);
+    }
+    Ok(())
+}
+
+#[test]
+fn long_rules_exceed_the_limit(rt: HostRuntime) -> Result<(), Fail> {
+    let mut long = String::new(rt.alloc());
+    'bytes: for _ in 0..1048577 {
+        long.push_str("a")?;
+    }
+    let refused = rows(rt.alloc(), long.as_str(), CHANGES, CLAIMS)?;
+    assert_eq!(rt; refused.status, 5);
+    assert_eq!(rt;
+        refused.said.as_slice(),
+        b"powersync: limit file-bytes 1048577\n"
+    );
+    Ok(())
+}
+
+#[test]
+fn other_words_are_no_command(rt: HostRuntime) -> Result<(), Fail> {
+    let mut files = SureFiles::new(Items::new(rt.alloc()));
+    let none: [&str; 0] = [];
+    let row: [&str; 4] = ["row", "r", "c", "u"];
+    let three: [&str; 3] = ["rows", "r", "c"];
+    let five: [&str; 5] = ["rows", "r", "c", "u", "u"];
+    'words: for words in [&none[..], &row[..], &three[..], &five[..]] {
+        let refused = answer(rt.alloc(), words, &mut files, 64, Items::new(rt.alloc()))?;
+        assert_eq!(rt; refused.status, 1);
+        assert_eq!(rt; refused.said.as_slice(), b"powersync: usage\n");
+    }
+    Ok(())
+}
+
+#[test]
+fn files_that_fail_cannot_be_read(rt: HostRuntime) -> Result<(), Fail> {
+    'calls: for (call, said) in [
+        (1, "powersync: cannot read r\n"),
+        (2, "powersync: cannot read u\n"),
+        (3, "powersync: cannot read c\n"),
+    ] {
+        let files = three_files(rt.alloc(), RULES, CHANGES, CLAIMS)?;
+        let failing = Items::from_vec(vec![in rt.alloc(); call]?);
+        let mut files = MemoryFiles::new(files, failing);
+        let refused = answer(
+            rt.alloc(),
+            &["rows", "r", "c", "u"],
+            &mut files,
+            64,
+            Items::new(rt.alloc()),
+        )?;
+        assert_eq!(rt; refused.status, 6);
+        assert_eq!(rt; refused.said.as_slice(), said.as_bytes());
+    }
+    Ok(())
+}
+
+#[test]
+fn outputs_that_fail_cannot_be_written(rt: HostRuntime) -> Result<(), Fail> {
+    'rooms: for (room, call, printed) in [(4096, 1, 0), (10, 2, 10)] {
+        let mut files = SureFiles::new(three_files(rt.alloc(), RULES, CHANGES, CLAIMS)?);
+        let refused = answer(
+            rt.alloc(),
+            &["rows", "r", "c", "u"],
+            &mut files,
+            room,
+            Items::from_vec(vec![in rt.alloc(); call]?),
+        )?;
+        assert_eq!(rt; refused.status, 7);
+        assert_eq!(rt; refused.said.as_slice(), b"powersync: cannot write\n");
+        assert_eq!(rt; refused.printed.len(), printed);
+    }
+    Ok(())
+}
+
+// Ten thousand changes of a hundred rows, of which the last change of each is the user's where its number is even.
+#[test]
+fn ten_thousand_changes(rt: HostRuntime) -> Result<(), Fail> {
+    let mut changes = String::new(rt.alloc());
+    'changes: for position in 1..10001 {
+        let row = position % 100;
+        let owner = if position % 2 == 0 { "ann" } else { "bob" };
+        let line = format!(in rt.alloc(); "{{\"pos\":\"{position}\",\"changes\":[{{\"op\":\"PUT\",\"table\":\"items\",\"id\":\"r{row}\",\"row\":{{\"owner\":\"{owner}\"}}}}]}}\n")?;
+        changes.push_str(line.as_str())?;
+    }
+    let printed = rows(rt.alloc(), RULES, changes.as_str(), CLAIMS)?;
+    assert_eq!(rt; printed.status, 0);
+    let lines = printed.printed.iter().filter(|byte| **byte == b'\n').count();
+    assert_eq!(rt; lines, 50);
+    let first = "\"items\" \"r0\" {\"id\":\"r0\",\"owner\":\"ann\"}\n";
+    assert!(rt; printed.printed.as_slice().starts_with(first.as_bytes()));
+    Ok(())
+}
