@@ -17,6 +17,7 @@ const CHANGES: &str = "{\"pos\":\"1\",\"changes\":[{\"op\":\"PUT\",\"table\":\"i
 const ROW: &str = "\"items\" \"r3\" {\"id\":\"r3\",\"n\":2,\"owner\":\"ann\"}\n";
 
 // What a command answered, printed and said.
+#[derive(Drop)]
 struct Answer {
     status: u8,
     printed: Vec<u8>,
@@ -45,7 +46,7 @@ fn three_files(
 }
 
 // Does the command of the words, with as many calls of the output failing and as much room as is said.
-fn answer<F: Files>(
+fn do_command<F: Files>(
     alloc: Global,
     words: &[&str],
     files: &mut F,
@@ -69,7 +70,7 @@ fn answer<F: Files>(
 // Prints the rows of three files in memory.
 fn rows(alloc: Global, rules: &str, changes: &str, claims: &str) -> Result<Answer, Fail> {
     let mut files = SureFiles::new(three_files(alloc, rules, changes, claims)?);
-    answer(
+    do_command(
         alloc,
         &["rows", "r", "c", "u"],
         &mut files,
@@ -123,7 +124,7 @@ fn long_rules_exceed_the_limit(rt: HostRuntime) -> Result<(), Fail> {
     assert_eq!(rt; refused.status, 5);
     assert_eq!(rt;
         refused.said.as_slice(),
-        b"powersync: limit file-bytes 1048577\n"
+        "powersync: limit file-bytes 1048577\n".as_bytes()
     );
     Ok(())
 }
@@ -136,9 +137,9 @@ fn other_words_are_no_command(rt: HostRuntime) -> Result<(), Fail> {
     let three: [&str; 3] = ["rows", "r", "c"];
     let five: [&str; 5] = ["rows", "r", "c", "u", "u"];
     'words: for words in [&none[..], &row[..], &three[..], &five[..]] {
-        let refused = answer(rt.alloc(), words, &mut files, 64, Items::new(rt.alloc()))?;
+        let refused = do_command(rt.alloc(), words, &mut files, 64, Items::new(rt.alloc()))?;
         assert_eq!(rt; refused.status, 1);
-        assert_eq!(rt; refused.said.as_slice(), b"powersync: usage\n");
+        assert_eq!(rt; refused.said.as_slice(), "powersync: usage\n".as_bytes());
     }
     Ok(())
 }
@@ -153,7 +154,7 @@ fn files_that_fail_cannot_be_read(rt: HostRuntime) -> Result<(), Fail> {
         let files = three_files(rt.alloc(), RULES, CHANGES, CLAIMS)?;
         let failing = Items::from_vec(vec![in rt.alloc(); call]?);
         let mut files = MemoryFiles::new(files, failing);
-        let refused = answer(
+        let refused = do_command(
             rt.alloc(),
             &["rows", "r", "c", "u"],
             &mut files,
@@ -170,7 +171,7 @@ fn files_that_fail_cannot_be_read(rt: HostRuntime) -> Result<(), Fail> {
 fn outputs_that_fail_cannot_be_written(rt: HostRuntime) -> Result<(), Fail> {
     'rooms: for (room, call, printed) in [(4096, 1, 0), (10, 2, 10)] {
         let mut files = SureFiles::new(three_files(rt.alloc(), RULES, CHANGES, CLAIMS)?);
-        let refused = answer(
+        let refused = do_command(
             rt.alloc(),
             &["rows", "r", "c", "u"],
             &mut files,
@@ -178,7 +179,7 @@ fn outputs_that_fail_cannot_be_written(rt: HostRuntime) -> Result<(), Fail> {
             Items::from_vec(vec![in rt.alloc(); call]?),
         )?;
         assert_eq!(rt; refused.status, 7);
-        assert_eq!(rt; refused.said.as_slice(), b"powersync: cannot write\n");
+        assert_eq!(rt; refused.said.as_slice(), "powersync: cannot write\n".as_bytes());
         assert_eq!(rt; refused.printed.len(), printed);
     }
     Ok(())
