@@ -11,7 +11,7 @@ use Rattle.serde_json.specs.View.{view, members_view}
 use Rattle.serde_json.specs.declared.value.Value.{Value as Json, the_lemmas}
 use Rattle.serde_json.specs.declared.value.Value.TheVariants.{String as StringOf}
 use Rattle.serde_json.proofs.Views.{members_view-insert_entry}
-use Rattle.ps_values.specs.Types.{Column}
+use Rattle.ps_values.specs.declared.columns.Column.{Column}
 use Rattle.ps_values.specs.Documents.{json_of, data_of, with_columns}
 
 pub json_some : (bs : List ℕ) (d : Data) → IsUtf8 bs → read bs ≡ Some d → Some d ≡ json_of bs
