@@ -6,9 +6,10 @@ use Rattle.serde_json.specs.Data.{Num, unsigned, negative, float, Data, null, bo
 use Rattle.serde_json.specs.Written.{has_float, items_have_float, members_have_float, compact_text}
 use Rattle.ps_values.specs.declared.conversions.ValueFault.{ValueFault}
 use Rattle.ps_values.specs.declared.values.Value.TheVariants.{Text}
-use Rattle.ps_values.specs.Conversions.{number_fault, value_of, first_fault, fault_of_items, fault_of_members, plain_number, plain_of, plain_items, plain_members}
+use Rattle.ps_values.specs.Conversions.{number_fault, value_of, first_fault, numbers_of, numbers_of_items, numbers_of_members, plain_number, plain_of, plain_items, plain_members}
 use Rattle.ps_values.proofs.Floats.{neither}
-use Rattle.std.proofs.Common.{String, string_bytes, string_cmp, map}
+use Rattle.std.proofs.Common.{String, string_bytes, string_cmp, map, drop, get_or, length, ◌+◌, ◌<◌}
+use Rattle.std.proofs.lemmas.List.{drop_more}
 use Rattle.std.specs.List.Sorted.{IsStrictlySortedBy}
 use Rattle.std.specs.Map.{keys_of}
 use Rattle.std.specs.Ordering.{nat_cmp, match_ordering}
@@ -19,18 +20,30 @@ use Rattle.serde_json.specs.View.{view, items_of, items_view, members_view}
 use Rattle.serde_json.specs.declared.value.Value.{Value as Json}
 use Rattle.serde_json.proofs.Views.{Entry, put_last}
 
+either : {X : Type 0} (p q r : Option X) → option_or p (option_or q r) ≡ option_or (option_or p q) r
+either None q r = refl
+either (Some x) q r = refl
+
+-- of more numbers, those of the front come first
+pub first_fault_append : (ns ms : List Num) → first_fault (ns ++ ms) ≡ option_or (first_fault ns) (first_fault ms)
+first_fault_append [] ms = refl
+first_fault_append (n ∷ ns) ms = ap (option_or (number_fault n)) (first_fault_append ns ms) ∙ either (number_fault n) (first_fault ns) (first_fault ms)
+
 none_before : (p q : Option ValueFault) → option_or p q ≡ None → (p ≡ None) × (q ≡ None)
 none_before None q h = (refl, h)
 none_before (Some fault) q h = cc
 
-number_floatless : (n : Num) → number_fault n ≡ None → has_float (number n) ≡ false
+none_of : (ns ms : List Num) → first_fault (ns ++ ms) ≡ None → (first_fault ns ≡ None) × (first_fault ms ≡ None)
+none_of ns ms h = none_before (first_fault ns) (first_fault ms) (sym (first_fault_append ns ms) ∙ h)
+
+number_floatless : (n : Num) → first_fault (n ∷ []) ≡ None → has_float (number n) ≡ false
 number_floatless (unsigned n) h = refl
 number_floatless (negative z) h = refl
 number_floatless (float x) h = cc
 
 -- JSON without a fault has no float
 mutual
-  pub floatless : (d : Data) → first_fault d ≡ None → has_float d ≡ false
+  pub floatless : (d : Data) → first_fault (numbers_of d) ≡ None → has_float d ≡ false
   floatless null h = refl
   floatless (boolean truth) h = refl
   floatless (number n) h = number_floatless n h
@@ -38,23 +51,23 @@ mutual
   floatless (array ds) h = items_floatless ds h
   floatless (object ms) h = members_floatless ms h
 
-  items_floatless : (ds : Items) → fault_of_items ds ≡ None → items_have_float ds ≡ false
+  items_floatless : (ds : Items) → first_fault (numbers_of_items ds) ≡ None → items_have_float ds ≡ false
   items_floatless no_items h = refl
   items_floatless (item d ds) h =
-      let none = none_before (first_fault d) (fault_of_items ds) h in
+      let none = none_of (numbers_of d) (numbers_of_items ds) h in
       neither (has_float d) (items_have_float ds) (floatless d none.0) (items_floatless ds none.1)
 
-  members_floatless : (ms : Members) → fault_of_members ms ≡ None → members_have_float ms ≡ false
+  members_floatless : (ms : Members) → first_fault (numbers_of_members ms) ≡ None → members_have_float ms ≡ false
   members_floatless no_members h = refl
   members_floatless (member name d ms) h =
-      let none = none_before (first_fault d) (fault_of_members ms) h in
+      let none = none_of (numbers_of d) (numbers_of_members ms) h in
       neither (has_float d) (members_have_float ms) (floatless d none.0) (members_floatless ms none.1)
 
 -- the text of an array or an object without a fault
-pub text_of_array : (d : Data) (ds : Items) (text : List ℕ) → d ≡ array ds → first_fault d ≡ None → (has_float d ≡ false → text ≡ compact_text d) → Text text ≡ value_of d
+pub text_of_array : (d : Data) (ds : Items) (text : List ℕ) → d ≡ array ds → first_fault (numbers_of d) ≡ None → (has_float d ≡ false → text ≡ compact_text d) → Text text ≡ value_of d
 text_of_array d ds text is none written = ap Text (written (floatless d none)) ∙ sym (ap value_of is ∙ ap (λ x. Text (compact_text x)) (sym is))
 
-pub text_of_object : (d : Data) (ms : Members) (text : List ℕ) → d ≡ object ms → first_fault d ≡ None → (has_float d ≡ false → text ≡ compact_text d) → Text text ≡ value_of d
+pub text_of_object : (d : Data) (ms : Members) (text : List ℕ) → d ≡ object ms → first_fault (numbers_of d) ≡ None → (has_float d ≡ false → text ≡ compact_text d) → Text text ≡ value_of d
 text_of_object d ms text is none written = ap Text (written (floatless d none)) ∙ sym (ap value_of is ∙ ap (λ x. Text (compact_text x)) (sym is))
 
 null_or : (b : Bool) (n : ℕ) → has_float (cond b (number (unsigned n)) null) ≡ false
@@ -104,3 +117,12 @@ plain_put k d (member l e ms) =
 pub plain_more : (done left : List Entry) (e : Entry) → IsStrictlySortedBy string_cmp (keys_of (done ++ e ∷ left))
     → put (string_bytes e.0) (plain_of (view e.1)) (plain_members (members_view done)) ≡ plain_members (members_view (done ++ e ∷ []))
 plain_more done left e sorted = plain_put (string_bytes e.0) (view e.1) (members_view done) ∙ ap plain_members (put_last done e left sorted)
+
+-- an item more: its fault, or else the first one of what is left
+pub item_more : (all : Option ValueFault) (xs : List Json) (i : ℕ) (x : Json) (own : Option ValueFault)
+    → all ≡ first_fault (numbers_of_items (items_view (drop i xs))) → i < length xs → x ≡ get_or xs i x → first_fault (numbers_of (view x)) ≡ own
+    → all ≡ option_or own (first_fault (numbers_of_items (items_view (drop (i + 1) xs))))
+item_more all xs i x own left within is fault =
+    let rest = numbers_of_items (items_view (drop (i + 1) xs)) in
+    left ∙ ap (λ js. first_fault (numbers_of_items (items_view js))) (drop_more xs i x within ∙ ap (λ y. y ∷ drop (i + 1) xs) (sym is))
+    ∙ first_fault_append (numbers_of (view x)) rest ∙ ap (λ o. option_or o (first_fault rest)) fault

@@ -1,5 +1,5 @@
 -- JSON as a value, and JSON made plain: each of its numbers a whole number of signed 64 bits.
-use Rattle.std.specs.Prelude.{◌≡◌, ℕ, ◌^◌, pos, List, Option, Some, None, option_map, unwrap_or, Result, Ok, Err, nat_lt, if◌then◌else◌}
+use Rattle.std.specs.Prelude.{◌≡◌, ℕ, ◌^◌, pos, List, [], ◌∷◌, ◌++◌, Option, Some, None, option_map, unwrap_or, Result, Ok, Err, nat_lt, if◌then◌else◌}
 use Rattle.std.specs.Option.{option_or}
 use Rattle.serde_json.specs.Data.{Num, unsigned, negative, float, Data, null, boolean, number, string, array, object, Items, no_items, item, Members, no_members, member}
 use Rattle.serde_json.specs.Find.{as_i64}
@@ -17,23 +17,28 @@ number_fault (unsigned n) = if nat_lt n (2 ^ 63) then None else Some TooBig
 number_fault (negative z) = None
 number_fault (float x) = Some NotWhole
 
--- the fault of the first such number, in the order of the compact text
+-- the fault of the first number that has one
+abbrev pub first_fault : List Num → Option ValueFault
+first_fault [] = None
+first_fault (n ∷ ns) = option_or (number_fault n) (first_fault ns)
+
+-- the numbers of JSON at any depth, in the order of the compact text
 abbrev mutual
-  pub first_fault : Data → Option ValueFault
-  first_fault null = None
-  first_fault (boolean truth) = None
-  first_fault (number n) = number_fault n
-  first_fault (string text) = None
-  first_fault (array ds) = fault_of_items ds
-  first_fault (object ms) = fault_of_members ms
+  pub numbers_of : Data → List Num
+  numbers_of null = []
+  numbers_of (boolean truth) = []
+  numbers_of (number n) = n ∷ []
+  numbers_of (string text) = []
+  numbers_of (array ds) = numbers_of_items ds
+  numbers_of (object ms) = numbers_of_members ms
 
-  pub fault_of_items : Items → Option ValueFault
-  fault_of_items no_items = None
-  fault_of_items (item d ds) = option_or (first_fault d) (fault_of_items ds)
+  pub numbers_of_items : Items → List Num
+  numbers_of_items no_items = []
+  numbers_of_items (item d ds) = numbers_of d ++ numbers_of_items ds
 
-  pub fault_of_members : Members → Option ValueFault
-  fault_of_members no_members = None
-  fault_of_members (member name d ms) = option_or (first_fault d) (fault_of_members ms)
+  pub numbers_of_members : Members → List Num
+  numbers_of_members no_members = []
+  numbers_of_members (member name d ms) = numbers_of d ++ numbers_of_members ms
 
 -- the value that JSON is: an array or an object is the text of its compact JSON
 abbrev pub value_of : Data → Value
@@ -44,11 +49,11 @@ value_of (string text) = Text text
 value_of (array ds) = Text (compact_text (array ds))
 value_of (object ms) = Text (compact_text (object ms))
 
--- JSON is a value exactly where no number in it has a fault; else the first one's fault is told
+-- JSON is a value exactly where none of its numbers has a fault; else the fault is that of the first one that has
 abbrev pub IsValueOf : Data → Result Value ValueFault → Type 0
-IsValueOf d (Ok value) = (first_fault d ≡ None) × (value ≡ value_of d)
-IsValueOf d (Err NotWhole) = first_fault d ≡ Some NotWhole
-IsValueOf d (Err TooBig) = first_fault d ≡ Some TooBig
+IsValueOf d (Ok value) = (first_fault (numbers_of d) ≡ None) × (value ≡ value_of d)
+IsValueOf d (Err NotWhole) = first_fault (numbers_of d) ≡ Some NotWhole
+IsValueOf d (Err TooBig) = first_fault (numbers_of d) ≡ Some TooBig
 IsValueOf d (Err Memory) = Unit {0}
 
 -- ---- plain JSON

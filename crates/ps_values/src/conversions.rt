@@ -1,9 +1,9 @@
-ghost use Rattle.std.specs.Prelude.{◌≡◌, false, IfOk, IfSome, OnOk, option_map, string_bytes};
+ghost use Rattle.std.specs.Prelude.{◌≡◌, [], ◌∷◌, false, IfOk, IfSome, OnOk, option_map, string_bytes};
 ghost use Rattle.serde_json.specs.Data.{put};
 ghost use Rattle.serde_json.specs.View.{view, number_view, items_view, members_view};
 ghost use Rattle.serde_json.specs.Written.{has_float};
 ghost use Rattle.ps_values.specs.Documents.{json_of};
-ghost use Rattle.ps_values.specs.Conversions.{number_fault, first_fault as first_fault_of, fault_of_items, fault_of_members, value_of, IsValueOf, plain_of, plain_number as plain_number_of, plain_items as plain_items_of, plain_members as plain_members_of};
+ghost use Rattle.ps_values.specs.Conversions.{first_fault as first_fault_of, numbers_of, numbers_of_items, numbers_of_members, IsValueOf, plain_of, plain_number as plain_number_of, plain_items as plain_items_of, plain_members as plain_members_of};
 
 use crate::documents::{put_member, read_json, text_of_json};
 use crate::{Memory, Text, Value};
@@ -75,7 +75,7 @@ pub fn value_of_json(alloc: Global, json: &Json) -> Result<Value, ValueFault>
 }
 
 fn fault_of_number(number: &Number) -> Option<ValueFault>
-    ensures { result ≡ number_fault (number_view number.now) }
+    ensures { result ≡ first_fault_of (number_view number.now ∷ []) }
 {
     if number.is_i64() {
         None
@@ -88,7 +88,7 @@ fn fault_of_number(number: &Number) -> Option<ValueFault>
 
 #[cycle(faults)]
 fn first_fault(json: &Json) -> Option<ValueFault>
-    ensures { result ≡ first_fault_of (view json.now) }
+    ensures { result ≡ first_fault_of (numbers_of (view json.now)) }
 {
     match json {
         Json::Null | Json::Bool(_) | Json::String(_) => None,
@@ -100,7 +100,7 @@ fn first_fault(json: &Json) -> Option<ValueFault>
 
 #[cycle(faults)]
 fn first_fault_of_items(items: &Vec<Json>) -> Option<ValueFault>
-    ensures { result ≡ fault_of_items (items_view items.now.items) }
+    ensures { result ≡ first_fault_of (numbers_of_items (items_view items.now.items)) }
 {
     'items: for item in items {
         if let Some(fault) = first_fault(item) {
@@ -111,8 +111,9 @@ fn first_fault_of_items(items: &Vec<Json>) -> Option<ValueFault>
 }
 
 #[cycle(faults)]
+#[tactic(auto, using(crate::proofs::Faults::first_fault_append))]
 fn first_fault_of_members(members: &Map<String, Json>) -> Option<ValueFault>
-    ensures { result ≡ fault_of_members (members_view members.now.entries) }
+    ensures { result ≡ first_fault_of (numbers_of_members (members_view members.now.entries)) }
 {
     'members: for (_, member) in members.iter() {
         if let Some(fault) = first_fault(member) {
@@ -170,10 +171,7 @@ fn plain_items(alloc: Global, items: &Vec<Json>) -> Result<Vec<Json>, Memory>
 }
 
 #[cycle(plain)]
-fn plain_members(
-    alloc: Global,
-    members: &Map<String, Json>,
-) -> Result<Map<String, Json>, Memory>
+fn plain_members(alloc: Global, members: &Map<String, Json>) -> Result<Map<String, Json>, Memory>
     ensures { IfOk result (λ made. members_view made.entries
         ≡ plain_members_of (members_view members.now.entries)) }
 {

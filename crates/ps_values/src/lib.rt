@@ -10,6 +10,8 @@ mod laws;
 mod lists;
 mod numbers;
 mod shortage;
+#[cfg(test)]
+mod tests;
 mod texts;
 mod values;
 
