@@ -1,6 +1,5 @@
 -- What `parse` reads of a text that begins as a decimal does.
-use Rattle.std.proofs.Common.{◌≡◌, ◌≢◌, ℕ, ◌<◌, ◌≤◌, ◌^◌, ◌&&◌, Bool, true, false, List, [], ◌∷◌, Option, Some, None, Result, Ok, Err, length, get_or, arith, refl, leb, cond, sym, ap, ◌∙◌, subst, inl, inr, le-leb, leb-true}
-use Rattle.std.specs.Result.{OkIff, MatchResult}
+use Rattle.std.proofs.Common.{◌≡◌, ◌≢◌, ℕ, ◌<◌, ◌≤◌, ◌^◌, ◌&&◌, Bool, true, false, List, [], ◌∷◌, Some, None, Result, Ok, Err, length, get_or, arith, refl, leb, cond, sym, ap, ◌∙◌, subst, inl, inr, le-leb, leb-true}
 use Rattle.std.specs.Str.{all_ascii_digits}
 use Rattle.std.specs.Str.Parse.{digits_value, ParsesUnsigned}
 use Rattle.std.proofs.lemmas.Bool.Decides.{nat_tests}

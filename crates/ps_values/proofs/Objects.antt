@@ -1,5 +1,5 @@
 -- Bytes that hold JSON, and the members of an object as columns go in.
-use Rattle.std.proofs.Common.{◌≡◌, ℕ, suc, ◌+◌, ◌<◌, Bool, true, false, List, [], ◌∷◌, Option, Some, None, String, string_bytes, string_cmp, length, get_or, drop, cond, refl, sym, ap, ◌∙◌, add-one, rules}
+use Rattle.std.proofs.Common.{◌≡◌, ℕ, suc, ◌+◌, ◌<◌, Bool, true, false, List, ◌∷◌, Some, None, String, string_bytes, string_cmp, length, get_or, drop, cond, refl, sym, ap, ◌∙◌, add-one, rules}
 use Rattle.std.proofs.Math.Seq.{drop-cons}
 use Rattle.std.specs.Str.{is_utf8, IsUtf8}
 use Rattle.std.proofs.lemmas.Str.{IsUtf8-from_is_utf8, is_utf8-from_IsUtf8}
