@@ -1,16 +1,18 @@
 -- What is written has no float.
-use Rattle.std.proofs.Common.{◌≡◌, ℕ, Bool, true, false, ◌||◌, List, [], ◌∷◌, refl, sym, ap, ◌∙◌, codes}
+use Rattle.std.proofs.Common.{◌≡◌, ℕ, Bool, true, false, ◌||◌, List, [], ◌∷◌, refl, ap, ◌∙◌, codes}
 use Rattle.std.specs.Ordering.{nat_cmp, match_ordering}
 use Rattle.std.specs.declared.cmp.Ordering.TheVariants.{Less, Equal, Greater}
 use Rattle.std.specs.Cmp.Lexicographic.{slice_cmp}
-use Rattle.serde_json.specs.Data.{Data, null, number, string, object, Members, no_members, member, put}
+use Rattle.serde_json.specs.Data.{Data, string, object, Members, no_members, member, put}
 use Rattle.serde_json.specs.Written.{has_float, members_have_float, compact_text}
-use Rattle.ps_values.specs.Types.{Value, Null, Int, Text, Column}
+use Rattle.ps_values.specs.declared.columns.Column.{Column}
+use Rattle.ps_values.specs.declared.values.Value.{Value}
+use Rattle.ps_values.specs.declared.values.Value.TheVariants.{Null, Int, Text}
 use Rattle.std.proofs.Common.{pos, negsuc}
 use Rattle.ps_values.specs.Documents.{data_of, with_columns, members_of, document_of}
 
 -- no member is a float where none of both sides is
-neither : (a b : Bool) → a ≡ false → b ≡ false → (a || b) ≡ false
+pub neither : (a b : Bool) → a ≡ false → b ≡ false → (a || b) ≡ false
 neither false b ha hb = hb
 neither true b ha hb = ha
 

@@ -1,3 +1,5 @@
 pub mod Decimals
+pub mod Faults
 pub mod Floats
 pub mod Objects
+pub mod Orders

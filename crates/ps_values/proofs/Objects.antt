@@ -1,5 +1,5 @@
 -- Bytes that hold JSON, and the members of an object as columns go in.
-use Rattle.std.proofs.Common.{◌≡◌, ℕ, suc, ◌+◌, ◌<◌, Bool, true, false, List, [], ◌∷◌, Option, Some, None, String, string_bytes, string_cmp, length, get_or, drop, cond, refl, sym, ap, ◌∙◌, add-one, rules}
+use Rattle.std.proofs.Common.{◌≡◌, ℕ, suc, ◌+◌, ◌<◌, Bool, true, false, List, ◌∷◌, Some, None, String, string_bytes, string_cmp, length, get_or, drop, cond, refl, sym, ap, ◌∙◌, add-one, rules}
 use Rattle.std.proofs.Math.Seq.{drop-cons}
 use Rattle.std.specs.Str.{is_utf8, IsUtf8}
 use Rattle.std.proofs.lemmas.Str.{IsUtf8-from_is_utf8, is_utf8-from_IsUtf8}
@@ -11,7 +11,7 @@ use Rattle.serde_json.specs.View.{view, members_view}
 use Rattle.serde_json.specs.declared.value.Value.{Value as Json, the_lemmas}
 use Rattle.serde_json.specs.declared.value.Value.TheVariants.{String as StringOf}
 use Rattle.serde_json.proofs.Views.{members_view-insert_entry}
-use Rattle.ps_values.specs.Types.{Column}
+use Rattle.ps_values.specs.declared.columns.Column.{Column}
 use Rattle.ps_values.specs.Documents.{json_of, data_of, with_columns}
 
 pub json_some : (bs : List ℕ) (d : Data) → IsUtf8 bs → read bs ≡ Some d → Some d ≡ json_of bs

@@ -79,7 +79,7 @@ pub fn document(alloc: Global, id: &Text, columns: &[Column]) -> Result<Text, Me
 }
 
 // Puts a value into an object, in the place of a member of that name.
-fn put_member(
+pub(crate) fn put_member(
     object: &mut Map<String, serde_json::Value>,
     name: String,
     value: serde_json::Value,

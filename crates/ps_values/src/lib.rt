@@ -3,18 +3,24 @@
 
 mod boxes;
 mod columns;
+mod conversions;
 mod documents;
 mod ids;
+mod laws;
 mod lists;
 mod numbers;
 mod shortage;
+#[cfg(test)]
+mod tests;
 mod texts;
 mod values;
 
 pub use boxes::Boxed;
 pub use columns::Column;
+pub use conversions::{ValueFault, plain_json, value_of_json};
 pub use documents::{document, json_of_value, object_of_columns, quoted, read_json, text_of_json};
 pub use ids::{OpId, Position};
+pub use laws::{compare_is_a_total_order, decimals_read_back, equal_where_both_are_present};
 pub use lists::Items;
 pub use numbers::{GREATEST, decimal, read_decimal};
 pub use shortage::Memory;

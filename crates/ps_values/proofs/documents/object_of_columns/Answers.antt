@@ -1,7 +1,5 @@
-use Rattle.std.proofs.Common.{◌≡◌, ◌∙◌, ap, drop, ◌+◌, string_bytes}
-use Rattle.serde_json.specs.Data.{put}
-use Rattle.serde_json.specs.View.{view, members_view}
-use Rattle.ps_values.specs.Documents.{with_columns, data_of}
+use Rattle.std.proofs.Common.{◌≡◌, ◌∙◌, string_bytes}
+use Rattle.serde_json.specs.View.{members_view}
 use Rattle.ps_values.proofs.Objects.{column_more}
 use Rattle.ps_values.proofs.documents.object_of_columns.Goals as goal
 

@@ -1,0 +1,18 @@
+use Rattle.std.proofs.Common.{◌≡◌, inl, inr, ap, ◌∙◌, None, rules}
+use Rattle.serde_json.specs.View.{view}
+use Rattle.serde_json.proofs.Views.{view-Array, view-Object}
+use Rattle.ps_values.specs.Conversions.{first_fault as first_fault_of, numbers_of}
+use Rattle.ps_values.proofs.Faults.{text_of_array, text_of_object}
+use Rattle.ps_values.proofs.conversions.value_of_json.Goals as goal
+
+pub returns-in_ok-text_of_json-in-Array : goal.returns-in_ok-text_of_json-in-Array
+returns-in_ok-text_of_json-in-Array c =
+    let json = c.args.json.now in
+    let none : first_fault_of (numbers_of (view json)) ≡ None = search rules in
+    let text = c.in_ok-text_of_json-in-Array in (
+      none,
+      elim c.in-Array.is [
+        | inl array ↦ text_of_array (view json) _ text.field-0 (ap view array.1 ∙ view-Array array.0) none text.ensures
+        | inr object ↦ text_of_object (view json) _ text.field-0 (ap view object.1 ∙ view-Object object.0) none text.ensures
+      ],
+    )
