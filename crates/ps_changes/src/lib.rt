@@ -6,6 +6,8 @@ mod faults;
 mod lines;
 mod rows;
 mod shown;
+#[cfg(test)]
+mod tests;
 
 pub use changes::{Change, Transaction};
 pub use faults::ChangeFault;

@@ -1,0 +1,270 @@
+use crate::{ChangeFault, Column, Row, Shown, Transaction, read_line};
+use ps_values::{GREATEST, Text, Value};
+use std::alloc::{AllocError, Global};
+use std::process::Abort;
+use std::test::Fail;
+
+fn show_column(out: &mut String, column: &Column) -> Result<(), AllocError> {
+    let name = column.name.as_str();
+    match &column.value {
+        Value::Null => write!(out, " {name}=null"),
+        Value::Int(number) => write!(out, " {name}={number}"),
+        Value::Text(text) => {
+            let text = text.as_str();
+            write!(out, " {name}='{text}'")
+        }
+    }
+}
+
+fn show_row(out: &mut String, row: &Row) -> Result<(), AllocError> {
+    for column in row.columns() {
+        show_column(out, column)?;
+    }
+    Ok(())
+}
+
+// A transaction as a line of text: its position, and each change with its table, its id and the columns of its row.
+fn show(out: &mut String, transaction: &Transaction) -> Result<(), AllocError> {
+    write!(out, "{}", transaction.position.0)?;
+    for change in transaction.changes.as_slice() {
+        let (table, id) = (change.table.as_str(), change.id.as_str());
+        match &change.row {
+            Some(row) => {
+                write!(out, "; put {table} {id}")?;
+                show_row(out, row)?;
+            }
+            None => write!(out, "; delete {table} {id}")?,
+        }
+    }
+    Ok(())
+}
+
+fn shown(alloc: Global, line: &[u8]) -> Result<String, Fail> {
+    let mut out = String::new(alloc);
+    match read_line(alloc, line) {
+        Ok(transaction) => show(&mut out, &transaction)?,
+        Err(fault) => write!(out, "{fault:?}")?,
+    }
+    Ok(out)
+}
+
+fn agree(rt: &(impl Abort + AllocGlobal), rows: &[(&str, &str)]) -> Result<(), Fail> {
+    for (line, want) in rows {
+        let got = shown(rt.alloc(), line.as_bytes())?;
+        assert_eq!(rt; got.as_str(), *want, "at {line}");
+    }
+    Ok(())
+}
+
+// Whether each of these is refused as the middle of a line.
+fn refused(
+    rt: &(impl Abort + AllocGlobal),
+    before: &str,
+    middles: &[&str],
+    after: &str,
+) -> Result<(), Fail> {
+    for middle in middles {
+        let line = format!(in rt.alloc(); "{before}{middle}{after}")?;
+        let got = read_line(rt.alloc(), line.as_bytes()).err();
+        assert_eq!(rt; got, Some(ChangeFault::NotYet), "at {line}");
+    }
+    Ok(())
+}
+
+#[test]
+fn puts_and_deletes_are_read_in_order(rt: HostRuntime) -> Result<(), Fail> {
+    agree(
+        &rt,
+        &[
+            (
+                r#"{"pos":"1","changes":[{"op":"PUT","table":"items","id":"r1","row":{"owner":"ann","n":1}}]}"#,
+                "1; put items r1 n=1 owner='ann'",
+            ),
+            (
+                r#"{"pos":"4","changes":[{"op":"DELETE","table":"items","id":"r1"}]}"#,
+                "4; delete items r1",
+            ),
+            (
+                r#"{"pos":"12","changes":[{"op":"PUT","table":"b","id":"2","row":{"x":1}},{"op":"DELETE","table":"a","id":"2"},{"op":"PUT","table":"b","id":"2","row":{"x":2}},{"op":"PUT","table":"b","id":"1","row":{}}]}"#,
+                "12; put b 2 x=1; delete a 2; put b 2 x=2; put b 1",
+            ),
+            (r#"{"pos":"17","changes":[]}"#, "17"),
+            // Of a DELETE the row is ignored, whatever it is.
+            (
+                r#"{"pos":"5","changes":[{"op":"DELETE","table":"t","id":"a","row":{"n":1.5}},{"op":"DELETE","table":"t","id":"","row":7}]}"#,
+                "5; delete t a; delete t ",
+            ),
+        ],
+    )
+}
+
+#[test]
+fn members_stand_in_any_order_and_the_last_of_a_name_counts(rt: HostRuntime) -> Result<(), Fail> {
+    agree(
+        &rt,
+        &[
+            (
+                " { \"changes\" : [ { \"row\" : { \"n\" : 2 } , \"id\" : \"r\" , \"table\" : \"t\" , \"op\" : \"PUT\" } ] ,\t\"pos\" : \"3\" }\r",
+                "3; put t r n=2",
+            ),
+            (
+                r#"{"at":1.5,"pos":"3","more":{"pos":"4"},"changes":[{"by":[null],"op":"DELETE","table":"t","id":"r"}]}"#,
+                "3; delete t r",
+            ),
+            (
+                r#"{"pos":"0","changes":null,"pos":"3","changes":[{"op":"PUT","op":"DELETE","table":"","table":"t","id":7,"id":"r"}]}"#,
+                "3; delete t r",
+            ),
+            (
+                r#"{"pos":"3","changes":[{"op":"PUT","table":"t","id":"r","row":{"n":[],"m":1,"n":2}}]}"#,
+                "3; put t r m=1 n=2",
+            ),
+            (
+                r#"{"p\u006fs":"\u0033","changes":[{"op":"PUT","table":"\"\u00e9","id":"a\/b","row":{"\u006e":"\\"}}]}"#,
+                "3; put \"é a/b n='\\'",
+            ),
+        ],
+    )
+}
+
+#[test]
+fn columns_hold_texts_whole_numbers_truth_values_and_null(rt: HostRuntime) -> Result<(), Fail> {
+    agree(
+        &rt,
+        &[
+            (
+                r#"{"pos":"1","changes":[{"op":"PUT","table":"t","id":"r","row":{"t":true,"f":false,"none":null,"text":"","number":"7"}}]}"#,
+                "1; put t r f=0 none=null number='7' t=1 text=''",
+            ),
+            (
+                r#"{"pos":"1","changes":[{"op":"PUT","table":"t","id":"r","row":{"least":-9223372036854775808,"most":9223372036854775807,"zero":0}}]}"#,
+                "1; put t r least=-9223372036854775808 most=9223372036854775807 zero=0",
+            ),
+            // The column `id` is the change's id, and so no member of the row; other spellings are.
+            (
+                r#"{"pos":"1","changes":[{"op":"PUT","table":"t","id":"r","row":{"id":[1.5],"Id":1,"id2":2}}]}"#,
+                "1; put t r Id=1 id2=2",
+            ),
+            // In the order of the names' bytes.
+            (
+                r#"{"pos":"1","changes":[{"op":"PUT","table":"t","id":"r","row":{"é":1,"z":2,"ab":3,"a":4,"Z":5,"_":6,"":7}}]}"#,
+                "1; put t r =7 Z=5 _=6 a=4 ab=3 z=2 é=1",
+            ),
+        ],
+    )?;
+    refused(
+        &rt,
+        r#"{"pos":"1","changes":[{"op":"PUT","table":"t","id":"r","row":{"n":"#,
+        &[
+            "1.5",
+            "1.0",
+            "1e2",
+            "-0",
+            "9223372036854775808",
+            "-9223372036854775809",
+            "[]",
+            "{}",
+        ],
+        "}}]}",
+    )
+}
+
+#[test]
+fn a_position_is_a_decimal_text_from_1(rt: HostRuntime) -> Result<(), Fail> {
+    let line = br#"{"pos":"9223372036854775807","changes":[]}"#;
+    let read = read_line(rt.alloc(), line)?;
+    assert_eq!(rt; read.position.0, GREATEST);
+    assert!(rt; read.changes.is_empty());
+    refused(
+        &rt,
+        r#"{"pos":"#,
+        &[
+            "\"0\"",
+            "\"9223372036854775808\"",
+            "\"18446744073709551617\"",
+            "\"01\"",
+            "\"\"",
+            "\"-1\"",
+            "\"+1\"",
+            "\" 1\"",
+            "\"1.0\"",
+            "\"x\"",
+            "1",
+            "null",
+            "[\"1\"]",
+        ],
+        r#","changes":[]}"#,
+    )
+}
+
+#[test]
+fn lines_of_another_form_are_refused(rt: HostRuntime) -> Result<(), Fail> {
+    refused(
+        &rt,
+        "",
+        &[
+            "",
+            " ",
+            "null",
+            "[]",
+            "{}",
+            "\"\"",
+            r#"{"pos":"1"}"#,
+            r#"{"changes":[]}"#,
+            r#"{"Pos":"1","changes":[]}"#,
+            r#"{"pos":"1","changes":null}"#,
+            r#"{"pos":"1","changes":{}}"#,
+            r#"{"pos":"1","changes":[]"#,
+            r#"{"pos":"1","changes":[],}"#,
+            r#"{"pos":"1","changes":[]}{}"#,
+            r#"[{"pos":"1","changes":[]}]"#,
+        ],
+        "",
+    )?;
+    refused(
+        &rt,
+        r#"{"pos":"1","changes":["#,
+        &[
+            "null",
+            "[]",
+            "{}",
+            r#"{"op":"UPDATE","table":"t","id":"r","row":{}}"#,
+            r#"{"op":"put","table":"t","id":"r","row":{}}"#,
+            r#"{"op":"delete","table":"t","id":"r"}"#,
+            r#"{"op":"","table":"t","id":"r","row":{}}"#,
+            r#"{"op":1,"table":"t","id":"r","row":{}}"#,
+            r#"{"table":"t","id":"r","row":{}}"#,
+            r#"{"op":"PUT","table":"","id":"r","row":{}}"#,
+            r#"{"op":"DELETE","table":"","id":"r"}"#,
+            r#"{"op":"DELETE","table":1,"id":"r"}"#,
+            r#"{"op":"DELETE","id":"r"}"#,
+            r#"{"op":"DELETE","table":"t","id":1}"#,
+            r#"{"op":"DELETE","table":"t"}"#,
+            r#"{"op":"PUT","table":"t","id":"r"}"#,
+            r#"{"op":"PUT","table":"t","id":"r","row":null}"#,
+            r#"{"op":"PUT","table":"t","id":"r","row":[]}"#,
+            r#"{"op":"DELETE","table":"t","id":"r"},{}"#,
+        ],
+        "]}",
+    )?;
+    let cut = read_line(rt.alloc(), b"{\"pos\":\"1\",\"changes\":[],\"x\":\"\xff\"}").err();
+    assert_eq!(rt; cut, Some(ChangeFault::NotYet));
+    Ok(())
+}
+
+fn row_shown(alloc: Global, kind: &str, id: &str, content: &str) -> Result<Shown, Fail> {
+    let kind = Text::from_str(alloc, kind)?;
+    let id = Text::from_str(alloc, id)?;
+    let content = Text::from_str(alloc, content)?;
+    Ok(Shown { kind, id, content })
+}
+
+#[test]
+fn rows_shown_are_equal_where_all_their_texts_are(rt: HostRuntime) -> Result<(), Fail> {
+    let row = row_shown(rt.alloc(), "items", "r1", "{}")?;
+    assert_eq!(rt; row, row_shown(rt.alloc(), "items", "r1", "{}")?);
+    assert_ne!(rt; row, row_shown(rt.alloc(), "item", "r1", "{}")?);
+    assert_ne!(rt; row, row_shown(rt.alloc(), "items", "r", "{}")?);
+    assert_ne!(rt; row, row_shown(rt.alloc(), "items", "r1", "[]")?);
+    Ok(())
+}
