@@ -1,0 +1,143 @@
+-- Maps and lists: which node the lines of a document give.
+use Rattle.std.specs.Prelude.{ℕ, zero, suc, ◌+◌, List, [], ◌∷◌, ◌++◌, Bool, true, false, ◌==◌, ◌||◌, ◌&&◌, nat_lt, nat_le, length, take, drop, slice_index, Option, Some, None, Result, Ok, Err, bytes_eq, not, if◌then◌else◌}
+use Rattle.std.specs.List.{prefix_len, list_any}
+use Rattle.std.specs.Str.{is_utf8}
+use Rattle.ps_yaml.specs.declared.faults.YamlFault.{YamlFault}
+use Rattle.ps_yaml.specs.declared.faults.YamlFault.TheVariants.{BadIndent, BadScalar, DuplicateKey, Unsupported}
+use Rattle.ps_yaml.specs.declared.nodes.Node.{Node}
+use Rattle.ps_yaml.specs.declared.nodes.Node.TheVariants.{Scalar, Map, List as Sequence}
+use Rattle.ps_yaml.specs.declared.nodes.Pair.{Pair}
+use Rattle.ps_yaml.specs.Faults.{◌>>=◌}
+use Rattle.ps_yaml.specs.Lines.{Line, lines_of, begins, spaces, content, kind_of, from_content}
+use Rattle.ps_yaml.specs.Scalars.{bad_scalar, is_empty, is_line_end, is_tabbed, scalar_at}
+
+-- ---- the first bytes of an entry and of an item
+
+abbrev pub is_letter : ℕ → Bool
+is_letter b = (nat_lt 64 b && nat_lt b 91) || (nat_lt 96 b && nat_lt b 123) || b == 95
+
+abbrev pub is_name_byte : ℕ → Bool
+is_name_byte b = is_letter b || (nat_lt 47 b && nat_lt b 58) || b == 45
+
+-- a NAME begins with a letter or `_`, and goes on with letters, digits, `_` and `-`
+unfoldable pub name_len : List ℕ → ℕ
+name_len text = if is_letter (slice_index text 0) then prefix_len is_name_byte text else 0
+
+-- a NAME, a colon, and then a space or the line's end
+unfoldable pub is_entry : List ℕ → Bool
+is_entry text =
+    let after = drop (name_len text) text in
+    nat_lt 0 (name_len text) && begins 58 after && (is_empty (drop 1 after) || begins 32 (drop 1 after))
+
+-- a `-`, spaces, and what is neither a comment nor the line's end
+unfoldable pub is_item : List ℕ → Bool
+is_item text =
+    let after = drop (spaces (drop 1 text)) (drop 1 text) in
+    begins 45 text && nat_lt 0 (spaces (drop 1 text)) && not (is_empty after) && not (begins 35 after)
+
+-- ---- lists
+
+-- the next line of a map or a list that is open at this indent, and the lines after it; none where it ends
+abbrev pub next_in : ℕ → List Line → Result (Option (Line × List Line)) YamlFault
+next_in indent [] = Ok None
+next_in indent (line ∷ lines) =
+    if is_tabbed (kind_of line.text) then Err (BadIndent line.number (spaces line.text + 1))
+    else if nat_lt (spaces line.text) indent then Ok None
+    else if nat_lt indent (spaces line.text) then Err (BadIndent line.number 1)
+    else Ok (Some (line, lines))
+
+-- an item that begins another item or a map
+abbrev pub is_nested : List ℕ → Bool
+is_nested text = (begins 45 text && begins 32 (drop 1 text)) || is_entry text
+
+-- where an item's scalar begins
+abbrev pub item_offset : Line → ℕ
+item_offset line = spaces line.text + 1 + spaces (drop 1 (content line))
+
+unfoldable pub item_at : Line → List Line → Result (Node × List Line) YamlFault
+item_at line lines =
+    if is_nested (drop (item_offset line) line.text) then Err (Unsupported line.number (item_offset line + 1))
+    else scalar_at (spaces line.text) line (item_offset line) lines
+
+abbrev pub item_then : (List Line → Result (List Node × List Line) YamlFault) → Bool → List Line → Option (Line × List Line) → Result (List Node × List Line) YamlFault
+item_then others shared lines None = Ok ([], lines)
+item_then others shared lines (Some x) =
+    if is_item (content x.0) then (do
+      item ← item_at x.0 x.1
+      rest ← others item.1
+      Ok (item.0 ∷ rest.0, rest.1))
+    else if shared then Ok ([], lines)
+    else bad_scalar x.0 (spaces x.0.text)
+
+-- the items of a list at this indent, which it may share with a map, and the lines after it; no more items than turns
+abbrev pub items_at : ℕ → Bool → ℕ → List Line → Result (List Node × List Line) YamlFault
+items_at zero shared indent lines = Ok ([], lines)
+items_at (suc turns) shared indent lines = do
+  next ← next_in indent (from_content lines)
+  item_then (items_at turns shared indent) shared (from_content lines) next
+
+-- ---- maps
+
+unfoldable pub name_of : Line → List ℕ
+name_of line = take (name_len (content line)) (content line)
+
+-- where what follows the colon begins
+abbrev pub value_offset : Line → ℕ
+value_offset line = spaces line.text + name_len (content line) + 1
+
+-- the node below a NAME that no scalar follows: a deeper map, a list at the same or a deeper indent, or the empty scalar
+abbrev pub below : (ℕ → List Line → Result (List Pair × List Line) YamlFault) → ℕ → Line → List Line → Result (Node × List Line) YamlFault
+below maps turns line [] = Ok (Scalar [] line.number (value_offset line + 1) true, [])
+below maps turns line (next ∷ lines) =
+    if is_tabbed (kind_of next.text) then Err (BadIndent next.number (spaces next.text + 1))
+    else if is_item (content next) && nat_le (spaces line.text) (spaces next.text) then (do
+      items ← items_at turns (spaces line.text == spaces next.text) (spaces next.text) (next ∷ lines)
+      Ok (Sequence items.0 next.number (spaces next.text + 1), items.1))
+    else if nat_lt (spaces line.text) (spaces next.text) then
+      (if is_entry (content next) then (do
+        pairs ← maps (spaces next.text) (next ∷ lines)
+        Ok (Map pairs.0 next.number (spaces next.text + 1), pairs.1))
+      else Err (BadIndent next.number 1))
+    else Ok (Scalar [] line.number (value_offset line + 1) true, next ∷ lines)
+
+-- the node of an entry, and the lines after it
+unfoldable pub value_at : (ℕ → List Line → Result (List Pair × List Line) YamlFault) → ℕ → Line → List Line → Result (Node × List Line) YamlFault
+value_at maps turns line lines =
+    let after = drop (value_offset line) line.text in
+    if is_line_end after then below maps turns line (from_content lines)
+    else scalar_at (spaces line.text) line (value_offset line + spaces after) lines
+
+abbrev pub is_named : List ℕ → List (List ℕ) → Bool
+is_named name names = list_any (λ n. bytes_eq n name) names
+
+abbrev pub pair_of : Line → Node → Pair
+pair_of line node = record { name = name_of line; node = node; line = line.number; column = spaces line.text + 1 }
+
+abbrev pub pair_then : (List (List ℕ) → List Line → Result (List Pair × List Line) YamlFault) → (Line → List Line → Result (Node × List Line) YamlFault) → List (List ℕ) → List Line → Option (Line × List Line) → Result (List Pair × List Line) YamlFault
+pair_then others value names lines None = Ok ([], lines)
+pair_then others value names lines (Some x) =
+    if not (is_entry (content x.0)) then bad_scalar x.0 (spaces x.0.text)
+    else if is_named (name_of x.0) names then Err (DuplicateKey x.0.number (spaces x.0.text + 1))
+    else (do
+      node ← value x.0 x.1
+      rest ← others (names ++ name_of x.0 ∷ []) node.1
+      Ok (pair_of x.0 node.0 ∷ rest.0, rest.1))
+
+-- the pairs of a map at this indent behind pairs of these names, and the lines after it; no more pairs than turns
+abbrev pub pairs_at : ℕ → ℕ → List (List ℕ) → List Line → Result (List Pair × List Line) YamlFault
+pairs_at zero indent names lines = Ok ([], lines)
+pairs_at (suc turns) indent names lines = do
+  next ← next_in indent (from_content lines)
+  pair_then (pairs_at turns indent) (value_at (λ deeper. pairs_at turns deeper []) turns) names (from_content lines) next
+
+-- ---- documents
+
+-- the document is a map at indent 0, which is empty where there is no content
+abbrev pub root : List Line → Result Node YamlFault
+root [] = Ok (Map [] 1 1)
+root (line ∷ lines) = do
+  pairs ← pairs_at (length (line ∷ lines)) 0 [] (line ∷ lines)
+  Ok (Map pairs.0 line.number 1)
+
+unfoldable pub document_of : List ℕ → Result Node YamlFault
+document_of bytes = if is_utf8 bytes then root (from_content (lines_of bytes)) else Err (BadScalar 1 1)

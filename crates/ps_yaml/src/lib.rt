@@ -1,0 +1,9 @@
+//! The YAML of rules files, read exactly.
+#![tactic(auto)]
+
+mod faults;
+mod lines;
+mod nodes;
+
+pub use faults::YamlFault;
+pub use nodes::{Node, Pair};

@@ -1,0 +1,235 @@
+ghost use Rattle.std.specs.Prelude.{◌≡◌, ◌+◌, ◌<◌, ◌≤◌, length, drop, IfOk, IfSome};
+ghost use Rattle.std.specs.List.{list_all, position};
+ghost use Rattle.ps_yaml.specs.declared.faults.YamlFault.TheVariants as faults;
+ghost use Rattle.ps_yaml.specs.Lines as words;
+
+use crate::YamlFault;
+use ps_values::Memory;
+use std::alloc::Global;
+use std::marker::Model;
+
+/// What a line is outside of block scalars.
+#[derive(Clone, Copy, Debug, PartialEq, Eq)]
+pub(crate) enum Kind {
+    /// Spaces and tabs alone.
+    Blank,
+    /// A `#` behind its indent.
+    Comment,
+    /// A tab in its indentation.
+    Tabbed,
+    /// Anything else.
+    Content,
+}
+
+/// A line of a document, without its end.
+#[derive(Debug, Drop)]
+pub(crate) struct Line<'a> {
+    number: u32,
+    indent: usize,
+    kind: Kind,
+    text: &'a [u8],
+}
+
+impl<'a> Model for Line<'a> {
+    ghost use Rattle.std.specs.Prelude.{◌<◌, ◌≤◌, ◌≡◌, length};
+    ghost use Rattle.ps_yaml.specs.Lines.{Line as TextLine, spaces, kind_of};
+
+    ghost Value = { TextLine };
+
+    ghost view = { λ line. record { number = line.number; text = line.text.now } };
+
+    ghost invariant = { λ line. (line.indent ≡ spaces line.text.now) × (line.kind ≡ kind_of line.text.now) × (line.indent ≤ length line.text.now) × (length line.text.now < 4294967295) };
+}
+
+impl<'a> Line<'a> {
+    /// The number of spaces that it begins with.
+    pub(crate) fn indent(&self) -> usize
+        ensures value { result ≡ words.spaces self.now.text }
+        ensures within { result ≤ length self.now.text }
+    {
+        self.indent
+    }
+
+    /// What it is outside of block scalars.
+    pub(crate) fn kind(&self) -> Kind
+        ensures { result ≡ words.kind_of self.now.text }
+    {
+        self.kind
+    }
+
+    /// Whether it is passed over outside of block scalars.
+    pub(crate) fn is_passed(&self) -> bool
+        ensures { result ≡ words.is_passed (words.kind_of self.now.text) }
+    {
+        match self.kind() {
+            Kind::Blank | Kind::Comment => true,
+            Kind::Tabbed | Kind::Content => false,
+        }
+    }
+
+    /// Its bytes.
+    pub(crate) fn text(&self) -> &'a [u8]
+        ensures value { result.now ≡ self.now.text }
+        ensures short { length self.now.text < 4294967295 }
+    {
+        self.text
+    }
+
+    /// Its bytes behind the indent.
+    #[tactic(auto, unfolding(crate::specs::Lines::content))]
+    pub(crate) fn content(&self) -> &'a [u8]
+        ensures { result.now ≡ words.content self.now }
+    {
+        &self.text[self.indent..]
+    }
+
+    /// Its number, from 1.
+    pub(crate) fn number(&self) -> u32
+        ensures { result ≡ self.now.number }
+    {
+        self.number
+    }
+
+    /// The column of an offset, which counts from 0.
+    pub(crate) fn column(&self, offset: usize) -> u32
+        requires { offset ≤ length self.now.text }
+        ensures { result ≡ offset + 1 }
+    {
+        prove!(offset <= self.text.len());
+        offset as u32 + 1
+    }
+
+    /// `BadScalar` at an offset.
+    pub(crate) fn bad_scalar(&self, offset: usize) -> YamlFault
+        requires { offset ≤ length self.now.text }
+        ensures { result ≡ faults.BadScalar self.now.number (offset + 1) }
+    {
+        YamlFault::BadScalar {
+            line: self.number(),
+            column: self.column(offset),
+        }
+    }
+
+    /// `Unsupported` at an offset.
+    pub(crate) fn unsupported(&self, offset: usize) -> YamlFault
+        requires { offset ≤ length self.now.text }
+        ensures { result ≡ faults.Unsupported self.now.number (offset + 1) }
+    {
+        YamlFault::Unsupported {
+            line: self.number(),
+            column: self.column(offset),
+        }
+    }
+
+    /// `BadIndent` at the tab behind its spaces.
+    pub(crate) fn bad_tab(&self) -> YamlFault
+        ensures { result ≡ faults.BadIndent self.now.number (words.spaces self.now.text + 1) }
+    {
+        YamlFault::BadIndent {
+            line: self.number(),
+            column: self.column(self.indent()),
+        }
+    }
+
+    /// `BadIndent` at its first byte.
+    pub(crate) fn bad_indent(&self) -> YamlFault
+        ensures { result ≡ faults.BadIndent self.now.number 1 }
+    {
+        YamlFault::BadIndent {
+            line: self.number(),
+            column: 1,
+        }
+    }
+}
+
+/// The number of spaces at the front.
+#[tactic(auto, using(crate::proofs::Places::place_or_len), unfolding(crate::specs::Lines::spaces))]
+pub(crate) fn spaces(text: &[u8]) -> usize
+    ensures value { result ≡ words.spaces text.now }
+    ensures within { result ≤ length text.now }
+{
+    let count = text.len();
+    first_other(text).unwrap_or(count)
+}
+
+fn first_other(text: &[u8]) -> Option<usize>
+    ensures value { result ≡ position words.is_other text.now }
+    ensures within { IfSome result (λ place. place < length text.now) }
+{
+    text.iter().position(|b| *b != b' ')
+}
+
+/// Whether the first byte is there and is this one.
+pub(crate) fn begins(byte: u8, text: &[u8]) -> bool
+    ensures { result ≡ words.begins byte text.now }
+{
+    match text.split_first() {
+        Some((first, _)) => *first == byte,
+        None => false,
+    }
+}
+
+/// What a line of these bytes is.
+#[tactic(auto, unfolding(crate::specs::Lines::kind_of))]
+fn kind_of(text: &[u8], indent: usize) -> Kind
+    requires front { indent ≡ words.spaces text.now }
+    requires within { indent ≤ length text.now }
+    ensures { result ≡ words.kind_of text.now }
+{
+    kind_behind_indent(&text[indent..])
+}
+
+fn is_all_blank(text: &[u8]) -> bool
+    ensures { result ≡ list_all words.is_space_or_tab text.now }
+{
+    text.iter().all(|b| *b == b' ' || *b == b'\t')
+}
+
+fn kind_behind_indent(text: &[u8]) -> Kind
+    ensures { result ≡ words.kind_behind_indent text.now }
+{
+    match text.split_first() {
+        None => Kind::Blank,
+        Some((b'\t', others)) => {
+            if is_all_blank(others) {
+                Kind::Blank
+            } else {
+                Kind::Tabbed
+            }
+        }
+        Some((b'#', _)) => Kind::Comment,
+        Some(_) => Kind::Content,
+    }
+}
+
+/// A line of these bytes.
+fn line_of(number: u32, text: &[u8]) -> Line<'_>
+    requires { length text.now < 4294967295 }
+    ensures { result ≡ record { number = number; text = text.now } }
+{
+    let indent = spaces(text);
+    Line {
+        number,
+        indent,
+        kind: kind_of(text, indent),
+        text,
+    }
+}
+
+/// The lines from the first that is neither blank nor a comment.
+#[tactic(auto, using(crate::proofs::Places::place_or_len))]
+pub(crate) fn from_content<'l, 'a>(lines: &'l [Line<'a>]) -> &'l [Line<'a>]
+    ensures value { result.now ≡ words.from_content lines.now }
+    ensures shorter { length result.now ≤ length lines.now }
+{
+    let count = lines.len();
+    let passed = first_content(lines).unwrap_or(count);
+    &lines[passed..]
+}
+
+fn first_content(lines: &[Line<'_>]) -> Option<usize>
+    ensures value { result ≡ position words.is_met lines.now }
+    ensures within { IfSome result (λ place. place < length lines.now) }
+{
+    lines.iter().position(|line| !line.is_passed())
+}
