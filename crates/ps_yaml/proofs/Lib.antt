@@ -1,1 +1,4 @@
+pub mod LineEnds
 pub mod Places
+pub mod Rests
+pub mod Parts

@@ -1,5 +1,5 @@
 -- The lines of a document.
-use Rattle.std.specs.Prelude.{ℕ, ◌+◌, List, [], ◌∷◌, Bool, true, false, ◌==◌, ◌||◌, ◌&&◌, not, bytes_eq, codes, drop, if◌then◌else◌}
+use Rattle.std.specs.Prelude.{ℕ, ◌+◌, List, [], ◌∷◌, Bool, true, false, ◌==◌, ◌||◌, ◌&&◌, not, bytes_eq, codes, length, drop, if◌then◌else◌}
 use Rattle.std.specs.List.{position_or_len, list_all, onto_first}
 use Rattle.ps_yaml.specs.declared.lines.Kind.{Kind}
 use Rattle.ps_yaml.specs.declared.lines.Kind.TheVariants.{Blank, Comment, Tabbed, Content}
@@ -14,22 +14,33 @@ abbrev pub begins : ℕ → List ℕ → Bool
 begins byte [] = false
 begins byte (b ∷ bytes) = b == byte
 
+abbrev pub is_feed : ℕ → Bool
+is_feed b = b == 10
+
 -- bytes are cut at each line feed; a carriage return before a line feed belongs to the line's end
 abbrev pub split_lines : List ℕ → List (List ℕ)
 split_lines [] = [] ∷ []
 split_lines (b ∷ bytes) =
-    if b == 10 then [] ∷ split_lines bytes
+    if is_feed b then [] ∷ split_lines bytes
     else if b == 13 && begins 10 bytes then split_lines bytes
     else onto_first b (split_lines bytes)
+
+-- a line without the carriage return at its end
+abbrev pub without_return : List ℕ → List ℕ
+without_return [] = []
+without_return (b ∷ bytes) = if b == 13 && length bytes == 0 then [] else b ∷ without_return bytes
 
 abbrev pub numbered : ℕ → List (List ℕ) → List Line
 numbered number [] = []
 numbered number (text ∷ texts) = record { number = number; text = text } ∷ numbered (number + 1) texts
 
+abbrev pub has_marker : List Line → Bool
+has_marker [] = false
+has_marker (first ∷ others) = bytes_eq first.text (codes "---")
+
 -- a first line `---` is left out
 abbrev pub after_marker : List Line → List Line
-after_marker [] = []
-after_marker (first ∷ others) = if bytes_eq first.text (codes "---") then others else first ∷ others
+after_marker lines = drop (if has_marker lines then 1 else 0) lines
 
 unfoldable pub lines_of : List ℕ → List Line
 lines_of bytes = after_marker (numbered 1 (split_lines bytes))

@@ -14,11 +14,10 @@ use Rattle.ps_yaml.specs.Lines.{Line, begins, is_space, spaces, content, kind_of
 abbrev pub bad_scalar : {X : Type 0} → Line → ℕ → Result X YamlFault
 bad_scalar line offset = Err (BadScalar line.number (offset + 1))
 
--- spaces, or spaces and a comment, count as the line's end
 abbrev pub is_empty : List ℕ → Bool
-is_empty [] = true
-is_empty (b ∷ bytes) = false
+is_empty text = length text == 0
 
+-- spaces, or spaces and a comment, count as the line's end
 unfoldable pub is_line_end : List ℕ → Bool
 is_line_end text = is_empty (drop (spaces text) text) || (nat_lt 0 (spaces text) && begins 35 (drop (spaces text) text))
 

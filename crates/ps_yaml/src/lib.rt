@@ -4,6 +4,7 @@
 mod faults;
 mod lines;
 mod nodes;
+mod scalars;
 
 pub use faults::YamlFault;
 pub use nodes::{Node, Pair};

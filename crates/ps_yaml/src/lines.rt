@@ -1,4 +1,4 @@
-ghost use Rattle.std.specs.Prelude.{◌≡◌, ◌+◌, ◌<◌, ◌≤◌, length, drop, IfOk, IfSome};
+ghost use Rattle.std.specs.Prelude.{◌≡◌, ◌+◌, ◌<◌, ◌≤◌, [], ◌∷◌, length, drop, MatchOption, IfOk, IfSome, IsTrue};
 ghost use Rattle.std.specs.List.{list_all, position};
 ghost use Rattle.ps_yaml.specs.declared.faults.YamlFault.TheVariants as faults;
 ghost use Rattle.ps_yaml.specs.Lines as words;
@@ -232,4 +232,81 @@ fn first_content(lines: &[Line<'_>]) -> Option<usize>
     ensures within { IfSome result (λ place. place < length lines.now) }
 {
     lines.iter().position(|line| !line.is_passed())
+}
+
+/// The text without a carriage return at its end.
+#[tactic(auto, using(crate::proofs::LineEnds::return_at_end))]
+fn without_return(text: &[u8]) -> &[u8]
+    ensures value { result.now ≡ words.without_return text.now }
+    ensures shorter { length result.now ≤ length text.now }
+{
+    match text.split_last() {
+        Some((b'\r', front)) => front,
+        _ => text,
+    }
+}
+
+fn line_feed(text: &[u8]) -> Option<usize>
+    ensures value { result ≡ position words.is_feed text.now }
+    ensures within { IfSome result (λ place. place < length text.now) }
+{
+    text.iter().position(|b| *b == b'\n')
+}
+
+/// The first line of a text that has a line feed, and what follows its end.
+#[tactic(auto, using(crate::proofs::LineEnds::first_line, crate::proofs::LineEnds::last_line))]
+fn cut_line(text: &[u8]) -> Option<(&[u8], &[u8])>
+    ensures cut { MatchOption result (words.split_lines text.now ≡ text.now ∷ []) (λ x. words.split_lines text.now ≡ x.0.now ∷ words.split_lines x.1.now) }
+    ensures shorter { IfSome result (λ x. length x.0.now + length x.1.now < length text.now) }
+{
+    let end = line_feed(text)?;
+    let (line, after) = text.split_at(end);
+    Some((without_return(line), past_first(after)))
+}
+
+/// What follows the first byte.
+fn past_first(text: &[u8]) -> &[u8]
+    ensures value { result.now ≡ drop 1 text.now }
+    ensures shorter { 0 < length text.now → length result.now < length text.now }
+{
+    match text.split_first() {
+        Some((_, after)) => after,
+        None => text,
+    }
+}
+
+/// All lines of a text.
+pub(crate) fn split_lines<'a>(alloc: Global, bytes: &'a [u8]) -> Result<Vec<Line<'a>>, Memory>
+    requires { length bytes.now < 4294967295 }
+    ensures { IfOk result (λ lines. lines.items ≡ words.numbered 1 (words.split_lines bytes.now)) }
+{
+    let mut lines = Vec::new(alloc);
+    let mut number = 1u32;
+    let mut rest = bytes;
+    'ends: while let Some((text, after)) = cut_line(rest) {
+        lines.push(line_of(number, text))?;
+        rest = after;
+        number += 1;
+    }
+    lines.push(line_of(number, rest))?;
+    Ok(lines)
+}
+
+/// Whether the first line is `---`.
+fn has_marker(lines: &[Line<'_>]) -> bool
+    ensures value { result ≡ words.has_marker lines.now }
+    ensures some { IsTrue result → 0 < length lines.now }
+{
+    match lines.split_first() {
+        Some((first, _)) => first.text() == b"---".as_slice(),
+        None => false,
+    }
+}
+
+/// The lines without a first line `---`.
+pub(crate) fn after_marker<'l, 'a>(lines: &'l [Line<'a>]) -> &'l [Line<'a>]
+    ensures { result.now ≡ words.after_marker lines.now }
+{
+    let skipped = if has_marker(lines) { 1 } else { 0 };
+    &lines[skipped..]
 }
