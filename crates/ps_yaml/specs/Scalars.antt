@@ -3,6 +3,7 @@ use Rattle.std.specs.Prelude.{ℕ, ◌+◌, ◌-◌, List, [], ◌∷◌, ◌++�
 use Rattle.std.specs.List.{suffix_len, flat_map}
 use Rattle.ps_yaml.specs.declared.lines.Kind.{Kind}
 use Rattle.ps_yaml.specs.declared.lines.Kind.TheVariants.{Blank, Comment, Tabbed, Content}
+use Rattle.ps_yaml.specs.declared.scalars.Style.{Style}
 use Rattle.ps_yaml.specs.declared.faults.YamlFault.{YamlFault}
 use Rattle.ps_yaml.specs.declared.faults.YamlFault.TheVariants.{BadIndent, BadScalar, Unsupported}
 use Rattle.ps_yaml.specs.declared.nodes.Node.{Node}
@@ -141,14 +142,10 @@ double_scalar line offset lines = double_closed line offset lines (double_quoted
 
 -- ---- block scalars
 
--- how a mark joins its lines, and whether a line feed ends them
-pub record Style : Type 0 where
-  pub joint : ℕ
-  pub ends : Bool
-
 abbrev pub style : ℕ → Bool → Option Style
 style joint ends = Some (record { joint = joint; ends = ends })
 
+-- how a mark joins the block's lines, and whether a line feed ends them
 abbrev pub style_of : List ℕ → Option Style
 style_of mark =
     if bytes_eq mark (codes "|") then style 10 true
@@ -227,7 +224,7 @@ begins_none b = b == 37 || b == 64 || b == 44 || b == 93 || b == 125 || b == 63 
 -- the scalar at an offset of a line, of a NAME or an item at this indent, and the lines after it
 unfoldable pub scalar_at : ℕ → Line → ℕ → List Line → Result (Node × List Line) YamlFault
 scalar_at indent line offset lines =
-    let first = slice_index (drop offset line.text) 0 in
+    let first = slice_index line.text offset in
     if first == 39 then single_scalar line offset lines
     else if first == 34 then double_scalar line offset lines
     else if first == 124 || first == 62 then block_scalar indent line offset lines

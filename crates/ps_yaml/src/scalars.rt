@@ -1,4 +1,4 @@
-ghost use Rattle.std.specs.Prelude.{◌≡◌, ◌+◌, ◌<◌, ◌≤◌, ◌==◌, ◌&&◌, ◌++◌, nat_lt, length, take, drop, option_map, IfOk, IfSome};
+ghost use Rattle.std.specs.Prelude.{◌≡◌, ◌+◌, ◌<◌, ◌≤◌, ◌==◌, ◌&&◌, ◌++◌, nat_lt, length, take, drop, option_map, IfOk, IfSome, OnOk};
 ghost use Rattle.ps_yaml.specs.declared.nodes.Node.TheVariants as nodes;
 ghost use Rattle.ps_yaml.specs.Faults.{Reads};
 ghost use Rattle.ps_yaml.specs.Lines as lines_of;
@@ -151,4 +151,304 @@ fn plain_scalar<'l, 'a>(
         return Err(line.bad_scalar(offset));
     }
     Ok((scalar(alloc, line, offset, true, &text)?, rest))
+}
+
+/// A node, where nothing but the line's end follows it.
+#[tactic(auto, unfolding(crate::specs::Scalars::closed))]
+fn closed<'l, 'a>(
+    alloc: Global,
+    line: &Line<'a>,
+    offset: usize,
+    lines: &'l [Line<'a>],
+    text: &[u8],
+    after: &[u8],
+) -> Result<(Node, &'l [Line<'a>]), YamlFault>
+    requires place { offset ≤ length line.now.text }
+    requires within { length after.now ≤ length line.now.text }
+    ensures { Reads (λ x. (x.0, x.1.now)) result (words.closed line.now offset lines.now text.now after.now) }
+{
+    if !is_line_end(after) {
+        let front = spaces(after);
+        return Err(line.bad_scalar(line.text().len() - (after.len() - front)));
+    }
+    Ok((scalar(alloc, line, offset, false, text)?, lines))
+}
+
+/// The text behind an opening single quote, and what follows the closing one.
+fn single_quoted<'t>(alloc: Global, text: &'t [u8]) -> Result<Option<(Vec<u8>, &'t [u8])>, Memory>
+    ensures value { IfOk result (λ found. option_map (λ x. (x.0.items, x.1.now)) found ≡ words.single_quoted text.now) }
+    ensures shorter { IfOk result (λ found. IfSome found (λ x. length x.1.now ≤ length text.now)) }
+{
+    let mut read = Vec::new(alloc);
+    let mut rest = text;
+    'bytes: while let Some((first, others)) = rest.split_first() {
+        if *first != b'\'' {
+            read.push(*first)?;
+            rest = others;
+            continue;
+        }
+        match others.split_first() {
+            Some((b'\'', after)) => {
+                read.push(b'\'')?;
+                rest = after;
+            }
+            _ => return Ok(Some((read, others))),
+        }
+    }
+    Ok(None)
+}
+
+#[tactic(auto, unfolding(crate::specs::Scalars::single_scalar))]
+fn single_scalar<'l, 'a>(
+    alloc: Global,
+    line: &Line<'a>,
+    offset: usize,
+    lines: &'l [Line<'a>],
+) -> Result<(Node, &'l [Line<'a>]), YamlFault>
+    requires { offset < length line.now.text }
+    ensures { Reads (λ x. (x.0, x.1.now)) result (words.single_scalar line.now offset lines.now) }
+{
+    match single_quoted(alloc, &line.text()[offset + 1..])? {
+        Some((text, after)) => closed(alloc, line, offset, lines, &text, after),
+        None => Err(line.bad_scalar(offset)),
+    }
+}
+
+/// How many bytes stand between an opening double quote and the closing one.
+fn double_quoted(text: &[u8]) -> Option<usize>
+    ensures value { result ≡ words.double_quoted text.now }
+    ensures within { IfSome result (λ n. n < length text.now) }
+{
+    let mut taken = 0;
+    let mut rest = text;
+    'bytes: while let Some((first, others)) = rest.split_first() {
+        if *first == b'"' {
+            return Some(taken);
+        }
+        if *first != b'\\' {
+            taken += 1;
+            rest = others;
+            continue;
+        }
+        let (_, after) = others.split_first()?;
+        taken += 2;
+        rest = after;
+    }
+    None
+}
+
+/// What the byte behind a backslash stands for.
+fn escaped(byte: u8) -> Option<u8>
+    ensures { result ≡ words.escaped byte }
+{
+    match byte {
+        b'"' | b'\\' | b'/' => Some(byte),
+        b'n' => Some(b'\n'),
+        b't' => Some(b'\t'),
+        _ => None,
+    }
+}
+
+/// The text of what stands between double quotes at an offset of a line.
+fn unescaped(
+    alloc: Global,
+    line: &Line<'_>,
+    offset: usize,
+    text: &[u8],
+) -> Result<Vec<u8>, YamlFault>
+    requires { offset + length text.now ≤ length line.now.text }
+    ensures { Reads (λ read. read.items) result (words.unescaped line.now offset text.now) }
+{
+    prove!(offset <= line.text().len() - text.len());
+    let mut read = Vec::new(alloc);
+    let mut place = offset;
+    let mut rest = text;
+    'bytes: while let Some((first, others)) = rest.split_first() {
+        if *first != b'\\' {
+            read.push(*first)?;
+            place += 1;
+            rest = others;
+            continue;
+        }
+        let Some((second, after)) = others.split_first() else {
+            return Err(line.bad_scalar(place));
+        };
+        let Some(meant) = escaped(*second) else {
+            return Err(line.bad_scalar(place));
+        };
+        read.push(meant)?;
+        place += 2;
+        rest = after;
+    }
+    Ok(read)
+}
+
+#[tactic(auto, unfolding(crate::specs::Scalars::double_scalar))]
+fn double_scalar<'l, 'a>(
+    alloc: Global,
+    line: &Line<'a>,
+    offset: usize,
+    lines: &'l [Line<'a>],
+) -> Result<(Node, &'l [Line<'a>]), YamlFault>
+    requires { offset < length line.now.text }
+    ensures { Reads (λ x. (x.0, x.1.now)) result (words.double_scalar line.now offset lines.now) }
+{
+    let body = &line.text()[offset + 1..];
+    let Some(taken) = double_quoted(body) else {
+        return Err(line.bad_scalar(offset));
+    };
+    let text = unescaped(alloc, line, offset + 1, &body[..taken])?;
+    closed(alloc, line, offset, lines, &text, &body[taken + 1..])
+}
+
+/// How a block scalar joins its lines, and whether a line feed ends it.
+#[derive(Clone, Copy, Debug)]
+struct Style {
+    joint: u8,
+    ends: bool,
+}
+
+/// The style of a block mark.
+fn style_of(mark: &[u8]) -> Option<Style>
+    ensures { result ≡ words.style_of mark.now }
+{
+    let (joint, ends) = match mark {
+        b"|" => (b'\n', true),
+        b"|-" => (b'\n', false),
+        b">" => (b' ', true),
+        b">-" => (b' ', false),
+        _ => return None,
+    };
+    Some(Style { joint, ends })
+}
+
+/// The indent of the block below a line at an indent, where one is there.
+fn block_indent(indent: usize, lines: &[Line<'_>]) -> Option<usize>
+    ensures { result ≡ words.block_indent indent lines.now }
+{
+    'lines: for line in lines {
+        match line.kind() {
+            Kind::Blank => continue,
+            Kind::Tabbed => return None,
+            Kind::Comment | Kind::Content => {
+                return (indent < line.indent()).then_some(line.indent());
+            }
+        }
+    }
+    None
+}
+
+/// How many lines a block of this depth has below a line at an indent, the blank ones at its end left out.
+fn block_len(indent: usize, depth: usize, lines: &[Line<'_>]) -> Result<usize, YamlFault>
+    ensures value { Reads (λ n. n) result (words.block_len indent depth lines.now) }
+    ensures within { IfOk result (λ n. n ≤ length lines.now) }
+{
+    let mut kept = 0;
+    'lines: for (place, line) in lines.iter().enumerate() {
+        if line.kind() == Kind::Blank {
+            continue;
+        }
+        if line.indent() < depth {
+            if line.kind() == Kind::Tabbed || line.indent() <= indent {
+                return Ok(kept);
+            }
+            return Err(line.bad_indent());
+        }
+        kept = place + 1;
+    }
+    Ok(kept)
+}
+
+/// Adds the bytes of a line that stand behind a block's indent.
+fn push_line(text: &mut Vec<u8>, depth: usize, line: &Line<'_>) -> Result<(), Memory>
+    ensures { OnOk result (text.new.items ≡ text.old.items ++ drop depth line.now.text) }
+{
+    let bytes = line.text();
+    text.extend_from_slice(&bytes[depth.min(bytes.len())..])?;
+    Ok(())
+}
+
+/// The lines without a block's indent, joined.
+fn joined(alloc: Global, joint: u8, depth: usize, lines: &[Line<'_>]) -> Result<Vec<u8>, Memory>
+    ensures { IfOk result (λ text. text.items ≡ words.joined joint depth lines.now) }
+{
+    let mut text = Vec::new(alloc);
+    let Some((first, others)) = lines.split_first() else {
+        return Ok(text);
+    };
+    push_line(&mut text, depth, first)?;
+    'lines: for line in others {
+        text.push(joint)?;
+        push_line(&mut text, depth, line)?;
+    }
+    Ok(text)
+}
+
+/// The text with the line feed that ends a block.
+fn ended(text: Vec<u8>, ends: bool) -> Result<Vec<u8>, Memory>
+    ensures { IfOk result (λ made. made.items ≡ words.ended ends text.items) }
+{
+    let mut text = text;
+    if ends {
+        text.push(b'\n')?;
+    }
+    Ok(text)
+}
+
+/// The text of a block below a line at an indent, and the lines after it.
+fn block_lines<'l, 'a>(
+    alloc: Global,
+    style: Style,
+    indent: usize,
+    lines: &'l [Line<'a>],
+) -> Result<(Vec<u8>, &'l [Line<'a>]), YamlFault>
+    ensures { Reads (λ x. (x.0.items, x.1.now)) result (words.block_lines style indent lines.now (words.block_indent indent lines.now)) }
+{
+    let Some(depth) = block_indent(indent, lines) else {
+        return Ok((ended(Vec::new(alloc), style.ends)?, lines));
+    };
+    let count = block_len(indent, depth, lines)?;
+    let (block, after) = lines.split_at(count);
+    let text = ended(joined(alloc, style.joint, depth, block)?, style.ends)?;
+    Ok((text, after))
+}
+
+#[tactic(auto, unfolding(crate::specs::Scalars::block_scalar))]
+fn block_scalar<'l, 'a>(
+    alloc: Global,
+    indent: usize,
+    line: &Line<'a>,
+    offset: usize,
+    lines: &'l [Line<'a>],
+) -> Result<(Node, &'l [Line<'a>]), YamlFault>
+    requires { offset ≤ length line.now.text }
+    ensures { Reads (λ x. (x.0, x.1.now)) result (words.block_scalar indent line.now offset lines.now) }
+{
+    let Some(style) = style_of(trimmed(&line.text()[offset..])) else {
+        return Err(line.unsupported(offset));
+    };
+    let (text, after) = block_lines(alloc, style, indent, lines)?;
+    Ok((scalar(alloc, line, offset, false, &text)?, after))
+}
+
+/// The scalar at an offset of a line, which has a NAME or an item at this indent, and the lines after it.
+#[tactic(auto, unfolding(crate::specs::Scalars::scalar_at))]
+pub(crate) fn scalar_at<'l, 'a>(
+    alloc: Global,
+    indent: usize,
+    line: &Line<'a>,
+    offset: usize,
+    lines: &'l [Line<'a>],
+) -> Result<(Node, &'l [Line<'a>]), YamlFault>
+    requires { offset < length line.now.text }
+    ensures { Reads (λ x. (x.0, x.1.now)) result (words.scalar_at indent line.now offset lines.now) }
+{
+    match line.text()[offset] {
+        b'\'' => single_scalar(alloc, line, offset, lines),
+        b'"' => double_scalar(alloc, line, offset, lines),
+        b'|' | b'>' => block_scalar(alloc, indent, line, offset, lines),
+        b'{' | b'[' | b'&' | b'*' | b'!' => Err(line.unsupported(offset)),
+        b'%' | b'@' | b',' | b']' | b'}' | b'?' | b':' | b'`' => Err(line.bad_scalar(offset)),
+        _ => plain_scalar(alloc, indent, line, offset, lines),
+    }
 }
