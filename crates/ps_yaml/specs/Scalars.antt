@@ -18,6 +18,10 @@ bad_scalar line offset = Err (BadScalar line.number (offset + 1))
 abbrev pub is_empty : List ℕ → Bool
 is_empty text = length text == 0
 
+-- the end, or a space
+abbrev pub is_break : List ℕ → Bool
+is_break text = is_empty text || begins 32 text
+
 -- spaces, or spaces and a comment, count as the line's end
 unfoldable pub is_line_end : List ℕ → Bool
 is_line_end text = is_empty (drop (spaces text) text) || (nat_lt 0 (spaces text) && begins 35 (drop (spaces text) text))
@@ -40,7 +44,7 @@ plain_part text = trimmed (before_comment text)
 -- whether a colon stands before a space or at the end
 abbrev pub has_colon : List ℕ → Bool
 has_colon [] = false
-has_colon (b ∷ bytes) = (b == 58 && (is_empty bytes || begins 32 bytes)) || has_colon bytes
+has_colon (b ∷ bytes) = (b == 58 && is_break bytes) || has_colon bytes
 
 abbrev pub is_content : Kind → Bool
 is_content Blank = false

@@ -1,6 +1,7 @@
 -- Maps and lists: which node the lines of a document give.
 use Rattle.std.specs.Prelude.{ℕ, zero, suc, ◌+◌, List, [], ◌∷◌, ◌++◌, Bool, true, false, ◌==◌, ◌||◌, ◌&&◌, nat_lt, nat_le, length, take, drop, slice_index, Option, Some, None, Result, Ok, Err, bytes_eq, not, if◌then◌else◌}
-use Rattle.std.specs.List.{prefix_len, list_any}
+use Rattle.std.specs.List.{position_or_len, list_any}
+use Rattle.std.specs.Char.{is_ascii_alphabetic, is_ascii_digit}
 use Rattle.std.specs.Str.{is_utf8}
 use Rattle.ps_yaml.specs.declared.faults.YamlFault.{YamlFault}
 use Rattle.ps_yaml.specs.declared.faults.YamlFault.TheVariants.{BadIndent, BadScalar, DuplicateKey, Unsupported}
@@ -9,25 +10,29 @@ use Rattle.ps_yaml.specs.declared.nodes.Node.TheVariants.{Scalar, Map, List as S
 use Rattle.ps_yaml.specs.declared.nodes.Pair.{Pair}
 use Rattle.ps_yaml.specs.Faults.{◌>>=◌}
 use Rattle.ps_yaml.specs.Lines.{Line, lines_of, begins, spaces, content, kind_of, from_content}
-use Rattle.ps_yaml.specs.Scalars.{bad_scalar, is_empty, is_line_end, is_tabbed, scalar_at}
+use Rattle.ps_yaml.specs.Scalars.{bad_scalar, is_empty, is_break, is_line_end, is_tabbed, scalar_at}
 
 -- ---- the first bytes of an entry and of an item
 
-abbrev pub is_letter : ℕ → Bool
-is_letter b = (nat_lt 64 b && nat_lt b 91) || (nat_lt 96 b && nat_lt b 123) || b == 95
+abbrev pub begins_name : List ℕ → Bool
+begins_name [] = false
+begins_name (b ∷ bytes) = is_ascii_alphabetic b || b == 95
 
-abbrev pub is_name_byte : ℕ → Bool
-is_name_byte b = is_letter b || (nat_lt 47 b && nat_lt b 58) || b == 45
+abbrev pub is_in_name : ℕ → Bool
+is_in_name b = is_ascii_alphabetic b || is_ascii_digit b || b == 95 || b == 45
+
+abbrev pub ends_name : ℕ → Bool
+ends_name b = not (is_in_name b)
 
 -- a NAME begins with a letter or `_`, and goes on with letters, digits, `_` and `-`
 unfoldable pub name_len : List ℕ → ℕ
-name_len text = if is_letter (slice_index text 0) then prefix_len is_name_byte text else 0
+name_len text = if begins_name text then position_or_len ends_name text else 0
 
 -- a NAME, a colon, and then a space or the line's end
 unfoldable pub is_entry : List ℕ → Bool
 is_entry text =
     let after = drop (name_len text) text in
-    nat_lt 0 (name_len text) && begins 58 after && (is_empty (drop 1 after) || begins 32 (drop 1 after))
+    nat_lt 0 (name_len text) && begins 58 after && is_break (drop 1 after)
 
 -- a `-`, spaces, and what is neither a comment nor the line's end
 unfoldable pub is_item : List ℕ → Bool
@@ -59,22 +64,22 @@ item_at line lines =
     if is_nested (drop (item_offset line) line.text) then Err (Unsupported line.number (item_offset line + 1))
     else scalar_at (spaces line.text) line (item_offset line) lines
 
-abbrev pub item_then : (List Line → Result (List Node × List Line) YamlFault) → Bool → List Line → Option (Line × List Line) → Result (List Node × List Line) YamlFault
-item_then others shared lines None = Ok ([], lines)
-item_then others shared lines (Some x) =
+abbrev pub item_then : (List Node → List Line → Result (List Node × List Line) YamlFault) → Bool → List Node → List Line → Option (Line × List Line) → Result (List Node × List Line) YamlFault
+item_then others shared items lines None = Ok (items, lines)
+item_then others shared items lines (Some x) =
     if is_item (content x.0) then (do
       item ← item_at x.0 x.1
-      rest ← others item.1
-      Ok (item.0 ∷ rest.0, rest.1))
-    else if shared then Ok ([], lines)
+      others (items ++ item.0 ∷ []) item.1)
+    else if shared then Ok (items, lines)
     else bad_scalar x.0 (spaces x.0.text)
 
--- the items of a list at this indent, which it may share with a map, and the lines after it; no more items than turns
-abbrev pub items_at : ℕ → Bool → ℕ → List Line → Result (List Node × List Line) YamlFault
-items_at zero shared indent lines = Ok ([], lines)
-items_at (suc turns) shared indent lines = do
+-- the items of a list at this indent, which it may share with a map, behind those that are read, and the lines after it;
+-- no more items than turns
+abbrev pub items_at : ℕ → Bool → ℕ → List Node → List Line → Result (List Node × List Line) YamlFault
+items_at zero shared indent items lines = Ok (items, lines)
+items_at (suc turns) shared indent items lines = do
   next ← next_in indent (from_content lines)
-  item_then (items_at turns shared indent) shared (from_content lines) next
+  item_then (items_at turns shared indent) shared items (from_content lines) next
 
 -- ---- maps
 
@@ -91,7 +96,7 @@ below maps turns line [] = Ok (Scalar [] line.number (value_offset line + 1) tru
 below maps turns line (next ∷ lines) =
     if is_tabbed (kind_of next.text) then Err (BadIndent next.number (spaces next.text + 1))
     else if is_item (content next) && nat_le (spaces line.text) (spaces next.text) then (do
-      items ← items_at turns (spaces line.text == spaces next.text) (spaces next.text) (next ∷ lines)
+      items ← items_at turns (spaces line.text == spaces next.text) (spaces next.text) [] (next ∷ lines)
       Ok (Sequence items.0 next.number (spaces next.text + 1), items.1))
     else if nat_lt (spaces line.text) (spaces next.text) then
       (if is_entry (content next) then (do
@@ -107,28 +112,32 @@ value_at maps turns line lines =
     if is_line_end after then below maps turns line (from_content lines)
     else scalar_at (spaces line.text) line (value_offset line + spaces after) lines
 
-abbrev pub is_named : List ℕ → List (List ℕ) → Bool
-is_named name names = list_any (λ n. bytes_eq n name) names
+abbrev pub is_named : List ℕ → List Pair → Bool
+is_named name pairs = list_any (λ (p : Pair). bytes_eq p.name name) pairs
 
-abbrev pub pair_of : Line → Node → Pair
-pair_of line node = record { name = name_of line; node = node; line = line.number; column = spaces line.text + 1 }
+-- the name of a line that begins the next entry of a map with these pairs
+unfoldable pub new_name : List Pair → Line → Result (List ℕ) YamlFault
+new_name pairs line =
+    if not (is_entry (content line)) then bad_scalar line (spaces line.text)
+    else if is_named (name_of line) pairs then Err (DuplicateKey line.number (spaces line.text + 1))
+    else Ok (name_of line)
 
-abbrev pub pair_then : (List (List ℕ) → List Line → Result (List Pair × List Line) YamlFault) → (Line → List Line → Result (Node × List Line) YamlFault) → List (List ℕ) → List Line → Option (Line × List Line) → Result (List Pair × List Line) YamlFault
-pair_then others value names lines None = Ok ([], lines)
-pair_then others value names lines (Some x) =
-    if not (is_entry (content x.0)) then bad_scalar x.0 (spaces x.0.text)
-    else if is_named (name_of x.0) names then Err (DuplicateKey x.0.number (spaces x.0.text + 1))
-    else (do
-      node ← value x.0 x.1
-      rest ← others (names ++ name_of x.0 ∷ []) node.1
-      Ok (pair_of x.0 node.0 ∷ rest.0, rest.1))
+abbrev pub pair_of : List ℕ → Node → Line → Pair
+pair_of name node line = record { name = name; node = node; line = line.number; column = spaces line.text + 1 }
 
--- the pairs of a map at this indent behind pairs of these names, and the lines after it; no more pairs than turns
-abbrev pub pairs_at : ℕ → ℕ → List (List ℕ) → List Line → Result (List Pair × List Line) YamlFault
-pairs_at zero indent names lines = Ok ([], lines)
-pairs_at (suc turns) indent names lines = do
+abbrev pub pair_then : (List Pair → List Line → Result (List Pair × List Line) YamlFault) → (Line → List Line → Result (Node × List Line) YamlFault) → List Pair → List Line → Option (Line × List Line) → Result (List Pair × List Line) YamlFault
+pair_then others value pairs lines None = Ok (pairs, lines)
+pair_then others value pairs lines (Some x) = do
+  name ← new_name pairs x.0
+  node ← value x.0 x.1
+  others (pairs ++ pair_of name node.0 x.0 ∷ []) node.1
+
+-- the pairs of a map at this indent behind those that are read, and the lines after it; no more pairs than turns
+abbrev pub pairs_at : ℕ → ℕ → List Pair → List Line → Result (List Pair × List Line) YamlFault
+pairs_at zero indent pairs lines = Ok (pairs, lines)
+pairs_at (suc turns) indent pairs lines = do
   next ← next_in indent (from_content lines)
-  pair_then (pairs_at turns indent) (value_at (λ deeper. pairs_at turns deeper []) turns) names (from_content lines) next
+  pair_then (pairs_at turns indent) (value_at (λ deeper. pairs_at turns deeper []) turns) pairs (from_content lines) next
 
 -- ---- documents
 

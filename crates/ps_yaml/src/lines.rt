@@ -21,31 +21,32 @@ pub(crate) enum Kind {
     Content,
 }
 
-/// A line of a document, without its end.
+/// A line of a document, without its end. It owns its bytes, so that a list of lines has no lifetime.
 #[derive(Debug, Drop)]
-pub(crate) struct Line<'a> {
+pub(crate) struct Line {
     number: u32,
     indent: usize,
     kind: Kind,
-    text: &'a [u8],
+    text: Vec<u8>,
 }
 
-impl<'a> Model for Line<'a> {
+impl Model for Line {
     ghost use Rattle.std.specs.Prelude.{◌<◌, ◌≤◌, ◌≡◌, length};
     ghost use Rattle.ps_yaml.specs.Lines.{Line as TextLine, spaces, kind_of};
 
     ghost Value = { TextLine };
 
-    ghost view = { λ line. record { number = line.number; text = line.text.now } };
+    ghost view = { λ line. record { number = line.number; text = line.text.items } };
 
-    ghost invariant = { λ line. (line.indent ≡ spaces line.text.now) × (line.kind ≡ kind_of line.text.now) × (line.indent ≤ length line.text.now) × (length line.text.now < 4294967295) };
+    ghost invariant = { λ line. (line.indent ≡ spaces line.text.items) × (line.kind ≡ kind_of line.text.items) × (line.indent ≤ length line.text.items) × (length line.text.items < 4294967295) };
 }
 
-impl<'a> Line<'a> {
+impl Line {
     /// The number of spaces that it begins with.
     pub(crate) fn indent(&self) -> usize
         ensures value { result ≡ words.spaces self.now.text }
         ensures within { result ≤ length self.now.text }
+        ensures short { length self.now.text < 4294967295 }
     {
         self.indent
     }
@@ -68,19 +69,19 @@ impl<'a> Line<'a> {
     }
 
     /// Its bytes.
-    pub(crate) fn text(&self) -> &'a [u8]
+    pub(crate) fn text(&self) -> &[u8]
         ensures value { result.now ≡ self.now.text }
         ensures short { length self.now.text < 4294967295 }
     {
-        self.text
+        self.text.as_slice()
     }
 
     /// Its bytes behind the indent.
     #[tactic(auto, unfolding(crate::specs::Lines::content))]
-    pub(crate) fn content(&self) -> &'a [u8]
+    pub(crate) fn content(&self) -> &[u8]
         ensures { result.now ≡ words.content self.now }
     {
-        &self.text[self.indent..]
+        &self.text()[self.indent()..]
     }
 
     /// Its number, from 1.
@@ -203,22 +204,22 @@ fn kind_behind_indent(text: &[u8]) -> Kind
 }
 
 /// A line of these bytes.
-fn line_of(number: u32, text: &[u8]) -> Line<'_>
+fn line_of(alloc: Global, number: u32, text: &[u8]) -> Result<Line, Memory>
     requires { length text.now < 4294967295 }
-    ensures { result ≡ record { number = number; text = text.now } }
+    ensures { IfOk result (λ line. line ≡ record { number = number; text = text.now }) }
 {
     let indent = spaces(text);
-    Line {
+    Ok(Line {
         number,
         indent,
         kind: kind_of(text, indent),
-        text,
-    }
+        text: Vec::from_slice(alloc, text)?,
+    })
 }
 
 /// The lines from the first that is neither blank nor a comment.
 #[tactic(auto, using(crate::proofs::Places::place_or_len))]
-pub(crate) fn from_content<'l, 'a>(lines: &'l [Line<'a>]) -> &'l [Line<'a>]
+pub(crate) fn from_content(lines: &[Line]) -> &[Line]
     ensures value { result.now ≡ words.from_content lines.now }
     ensures shorter { length result.now ≤ length lines.now }
 {
@@ -227,7 +228,7 @@ pub(crate) fn from_content<'l, 'a>(lines: &'l [Line<'a>]) -> &'l [Line<'a>]
     &lines[passed..]
 }
 
-fn first_content(lines: &[Line<'_>]) -> Option<usize>
+fn first_content(lines: &[Line]) -> Option<usize>
     ensures value { result ≡ position words.is_met lines.now }
     ensures within { IfSome result (λ place. place < length lines.now) }
 {
@@ -265,7 +266,7 @@ fn cut_line(text: &[u8]) -> Option<(&[u8], &[u8])>
 }
 
 /// What follows the first byte.
-fn past_first(text: &[u8]) -> &[u8]
+pub(crate) fn past_first(text: &[u8]) -> &[u8]
     ensures value { result.now ≡ drop 1 text.now }
     ensures shorter { 0 < length text.now → length result.now < length text.now }
 {
@@ -276,7 +277,7 @@ fn past_first(text: &[u8]) -> &[u8]
 }
 
 /// All lines of a text.
-pub(crate) fn split_lines<'a>(alloc: Global, bytes: &'a [u8]) -> Result<Vec<Line<'a>>, Memory>
+pub(crate) fn split_lines(alloc: Global, bytes: &[u8]) -> Result<Vec<Line>, Memory>
     requires { length bytes.now < 4294967295 }
     ensures { IfOk result (λ lines. lines.items ≡ words.numbered 1 (words.split_lines bytes.now)) }
 {
@@ -284,16 +285,16 @@ pub(crate) fn split_lines<'a>(alloc: Global, bytes: &'a [u8]) -> Result<Vec<Line
     let mut number = 1u32;
     let mut rest = bytes;
     'ends: while let Some((text, after)) = cut_line(rest) {
-        lines.push(line_of(number, text))?;
+        lines.push(line_of(alloc, number, text)?)?;
         rest = after;
         number += 1;
     }
-    lines.push(line_of(number, rest))?;
+    lines.push(line_of(alloc, number, rest)?)?;
     Ok(lines)
 }
 
 /// Whether the first line is `---`.
-fn has_marker(lines: &[Line<'_>]) -> bool
+fn has_marker(lines: &[Line]) -> bool
     ensures value { result ≡ words.has_marker lines.now }
     ensures some { IsTrue result → 0 < length lines.now }
 {
@@ -304,7 +305,7 @@ fn has_marker(lines: &[Line<'_>]) -> bool
 }
 
 /// The lines without a first line `---`.
-pub(crate) fn after_marker<'l, 'a>(lines: &'l [Line<'a>]) -> &'l [Line<'a>]
+pub(crate) fn after_marker(lines: &[Line]) -> &[Line]
     ensures { result.now ≡ words.after_marker lines.now }
 {
     let skipped = if has_marker(lines) { 1 } else { 0 };

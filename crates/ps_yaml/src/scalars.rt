@@ -10,9 +10,9 @@ use ps_values::{Memory, Text, TextFault};
 use std::alloc::Global;
 
 /// The node of a text that begins at an offset of a line.
-fn scalar(
+pub(crate) fn scalar(
     alloc: Global,
-    line: &Line<'_>,
+    line: &Line,
     offset: usize,
     plain: bool,
     text: &[u8],
@@ -29,6 +29,13 @@ fn scalar(
         }),
         Err(_) => Err(Memory),
     }
+}
+
+/// Whether nothing is left, or a space comes.
+pub(crate) fn is_break(text: &[u8]) -> bool
+    ensures { result ≡ words.is_break text.now }
+{
+    text.is_empty() || begins(b' ', text)
 }
 
 /// Whether spaces, or spaces and a comment, are all that is left of a line.
@@ -90,7 +97,7 @@ fn has_colon(text: &[u8]) -> bool
 {
     let mut rest = text;
     'bytes: while let Some((first, others)) = rest.split_first() {
-        if *first == b':' && (others.is_empty() || begins(b' ', others)) {
+        if *first == b':' && is_break(others) {
             return true;
         }
         rest = others;
@@ -99,7 +106,7 @@ fn has_colon(text: &[u8]) -> bool
 }
 
 /// Whether a line that is not passed over continues a plain scalar of a line at an indent.
-fn continues(line: &Line<'_>, indent: usize) -> bool
+fn continues(line: &Line, indent: usize) -> bool
     ensures { result ≡ (words.is_content (lines_of.kind_of line.now.text) && nat_lt indent (lines_of.spaces line.now.text)) }
 {
     match line.kind() {
@@ -109,11 +116,11 @@ fn continues(line: &Line<'_>, indent: usize) -> bool
 }
 
 /// Adds the lines that continue a plain scalar, and answers the lines after them.
-fn continued<'l, 'a>(
+fn continued<'l>(
     indent: usize,
-    lines: &'l [Line<'a>],
+    lines: &'l [Line],
     text: &mut Vec<u8>,
-) -> Result<&'l [Line<'a>], Memory>
+) -> Result<&'l [Line], Memory>
     ensures { IfOk result (λ rest. (text.new.items ≡ text.old.items ++ (words.continued indent lines.now).0) × (rest.now ≡ (words.continued indent lines.now).1)) }
 {
     let mut place = 0;
@@ -134,13 +141,13 @@ fn continued<'l, 'a>(
 }
 
 #[tactic(auto, unfolding(crate::specs::Scalars::plain_scalar))]
-fn plain_scalar<'l, 'a>(
+fn plain_scalar<'l>(
     alloc: Global,
     indent: usize,
-    line: &Line<'a>,
+    line: &Line,
     offset: usize,
-    lines: &'l [Line<'a>],
-) -> Result<(Node, &'l [Line<'a>]), YamlFault>
+    lines: &'l [Line],
+) -> Result<(Node, &'l [Line]), YamlFault>
     requires { offset ≤ length line.now.text }
     ensures { Reads (λ x. (x.0, x.1.now)) result (words.plain_scalar indent line.now offset lines.now) }
 {
@@ -155,14 +162,14 @@ fn plain_scalar<'l, 'a>(
 
 /// A node, where nothing but the line's end follows it.
 #[tactic(auto, unfolding(crate::specs::Scalars::closed))]
-fn closed<'l, 'a>(
+fn closed<'l>(
     alloc: Global,
-    line: &Line<'a>,
+    line: &Line,
     offset: usize,
-    lines: &'l [Line<'a>],
+    lines: &'l [Line],
     text: &[u8],
     after: &[u8],
-) -> Result<(Node, &'l [Line<'a>]), YamlFault>
+) -> Result<(Node, &'l [Line]), YamlFault>
     requires place { offset ≤ length line.now.text }
     requires within { length after.now ≤ length line.now.text }
     ensures { Reads (λ x. (x.0, x.1.now)) result (words.closed line.now offset lines.now text.now after.now) }
@@ -175,7 +182,7 @@ fn closed<'l, 'a>(
 }
 
 /// The text behind an opening single quote, and what follows the closing one.
-fn single_quoted<'t>(alloc: Global, text: &'t [u8]) -> Result<Option<(Vec<u8>, &'t [u8])>, Memory>
+fn single_quoted(alloc: Global, text: &[u8]) -> Result<Option<(Vec<u8>, &[u8])>, Memory>
     ensures value { IfOk result (λ found. option_map (λ x. (x.0.items, x.1.now)) found ≡ words.single_quoted text.now) }
     ensures shorter { IfOk result (λ found. IfSome found (λ x. length x.1.now ≤ length text.now)) }
 {
@@ -199,12 +206,12 @@ fn single_quoted<'t>(alloc: Global, text: &'t [u8]) -> Result<Option<(Vec<u8>, &
 }
 
 #[tactic(auto, unfolding(crate::specs::Scalars::single_scalar))]
-fn single_scalar<'l, 'a>(
+fn single_scalar<'l>(
     alloc: Global,
-    line: &Line<'a>,
+    line: &Line,
     offset: usize,
-    lines: &'l [Line<'a>],
-) -> Result<(Node, &'l [Line<'a>]), YamlFault>
+    lines: &'l [Line],
+) -> Result<(Node, &'l [Line]), YamlFault>
     requires { offset < length line.now.text }
     ensures { Reads (λ x. (x.0, x.1.now)) result (words.single_scalar line.now offset lines.now) }
 {
@@ -252,7 +259,7 @@ fn escaped(byte: u8) -> Option<u8>
 /// The text of what stands between double quotes at an offset of a line.
 fn unescaped(
     alloc: Global,
-    line: &Line<'_>,
+    line: &Line,
     offset: usize,
     text: &[u8],
 ) -> Result<Vec<u8>, YamlFault>
@@ -284,12 +291,12 @@ fn unescaped(
 }
 
 #[tactic(auto, unfolding(crate::specs::Scalars::double_scalar))]
-fn double_scalar<'l, 'a>(
+fn double_scalar<'l>(
     alloc: Global,
-    line: &Line<'a>,
+    line: &Line,
     offset: usize,
-    lines: &'l [Line<'a>],
-) -> Result<(Node, &'l [Line<'a>]), YamlFault>
+    lines: &'l [Line],
+) -> Result<(Node, &'l [Line]), YamlFault>
     requires { offset < length line.now.text }
     ensures { Reads (λ x. (x.0, x.1.now)) result (words.double_scalar line.now offset lines.now) }
 {
@@ -323,7 +330,7 @@ fn style_of(mark: &[u8]) -> Option<Style>
 }
 
 /// The indent of the block below a line at an indent, where one is there.
-fn block_indent(indent: usize, lines: &[Line<'_>]) -> Option<usize>
+fn block_indent(indent: usize, lines: &[Line]) -> Option<usize>
     ensures { result ≡ words.block_indent indent lines.now }
 {
     'lines: for line in lines {
@@ -339,7 +346,7 @@ fn block_indent(indent: usize, lines: &[Line<'_>]) -> Option<usize>
 }
 
 /// How many lines a block of this depth has below a line at an indent, the blank ones at its end left out.
-fn block_len(indent: usize, depth: usize, lines: &[Line<'_>]) -> Result<usize, YamlFault>
+fn block_len(indent: usize, depth: usize, lines: &[Line]) -> Result<usize, YamlFault>
     ensures value { Reads (λ n. n) result (words.block_len indent depth lines.now) }
     ensures within { IfOk result (λ n. n ≤ length lines.now) }
 {
@@ -360,7 +367,7 @@ fn block_len(indent: usize, depth: usize, lines: &[Line<'_>]) -> Result<usize, Y
 }
 
 /// Adds the bytes of a line that stand behind a block's indent.
-fn push_line(text: &mut Vec<u8>, depth: usize, line: &Line<'_>) -> Result<(), Memory>
+fn push_line(text: &mut Vec<u8>, depth: usize, line: &Line) -> Result<(), Memory>
     ensures { OnOk result (text.new.items ≡ text.old.items ++ drop depth line.now.text) }
 {
     let bytes = line.text();
@@ -369,7 +376,7 @@ fn push_line(text: &mut Vec<u8>, depth: usize, line: &Line<'_>) -> Result<(), Me
 }
 
 /// The lines without a block's indent, joined.
-fn joined(alloc: Global, joint: u8, depth: usize, lines: &[Line<'_>]) -> Result<Vec<u8>, Memory>
+fn joined(alloc: Global, joint: u8, depth: usize, lines: &[Line]) -> Result<Vec<u8>, Memory>
     ensures { IfOk result (λ text. text.items ≡ words.joined joint depth lines.now) }
 {
     let mut text = Vec::new(alloc);
@@ -396,12 +403,12 @@ fn ended(text: Vec<u8>, ends: bool) -> Result<Vec<u8>, Memory>
 }
 
 /// The text of a block below a line at an indent, and the lines after it.
-fn block_lines<'l, 'a>(
+fn block_lines<'l>(
     alloc: Global,
     style: Style,
     indent: usize,
-    lines: &'l [Line<'a>],
-) -> Result<(Vec<u8>, &'l [Line<'a>]), YamlFault>
+    lines: &'l [Line],
+) -> Result<(Vec<u8>, &'l [Line]), YamlFault>
     ensures { Reads (λ x. (x.0.items, x.1.now)) result (words.block_lines style indent lines.now (words.block_indent indent lines.now)) }
 {
     let Some(depth) = block_indent(indent, lines) else {
@@ -414,13 +421,13 @@ fn block_lines<'l, 'a>(
 }
 
 #[tactic(auto, unfolding(crate::specs::Scalars::block_scalar))]
-fn block_scalar<'l, 'a>(
+fn block_scalar<'l>(
     alloc: Global,
     indent: usize,
-    line: &Line<'a>,
+    line: &Line,
     offset: usize,
-    lines: &'l [Line<'a>],
-) -> Result<(Node, &'l [Line<'a>]), YamlFault>
+    lines: &'l [Line],
+) -> Result<(Node, &'l [Line]), YamlFault>
     requires { offset ≤ length line.now.text }
     ensures { Reads (λ x. (x.0, x.1.now)) result (words.block_scalar indent line.now offset lines.now) }
 {
@@ -433,13 +440,13 @@ fn block_scalar<'l, 'a>(
 
 /// The scalar at an offset of a line, which has a NAME or an item at this indent, and the lines after it.
 #[tactic(auto, unfolding(crate::specs::Scalars::scalar_at))]
-pub(crate) fn scalar_at<'l, 'a>(
+pub(crate) fn scalar_at<'l>(
     alloc: Global,
     indent: usize,
-    line: &Line<'a>,
+    line: &Line,
     offset: usize,
-    lines: &'l [Line<'a>],
-) -> Result<(Node, &'l [Line<'a>]), YamlFault>
+    lines: &'l [Line],
+) -> Result<(Node, &'l [Line]), YamlFault>
     requires { offset < length line.now.text }
     ensures { Reads (λ x. (x.0, x.1.now)) result (words.scalar_at indent line.now offset lines.now) }
 {
