@@ -4,3 +4,4 @@ pub mod Rests
 pub mod Parts
 pub mod Offsets
 pub mod Turns
+pub mod Names
