@@ -9,6 +9,9 @@ mod open;
 mod scalars;
 mod trees;
 
+#[cfg(test)]
+mod tests;
+
 pub use faults::YamlFault;
 pub use nodes::{Node, Pair};
 pub use trees::read_yaml;
