@@ -1,11 +1,10 @@
 -- How the lines of a text follow from its first line feed.
-use Rattle.std.proofs.Common.{◌≡◌, ℕ, ◌+◌, ◌<◌, ◌≤◌, List, [], ◌∷◌, ◌++◌, Bool, true, false, ◌==◌, ◌&&◌, not, cond, if◌then◌else◌, length, get_or, take, drop, suc, nat_lt, refl, sym, ap, subst, ◌∙◌, drop-cons, take_all, Some, None, Option, arith}
-use Rattle.std.proofs.lemmas.Grind.{common_steps}
+use Rattle.std.proofs.Common.{◌≡◌, ℕ, ◌<◌, ◌≤◌, List, [], ◌∷◌, ◌++◌, Bool, true, false, ◌==◌, not, cond, if◌then◌else◌, length, get_or, take, drop, suc, nat_lt, refl, sym, ap, subst, ◌∙◌, drop-cons, take_all, Some, None, arith}
 use Rattle.std.proofs.lemmas.Bool.Decides.{nat_tests}
 use Rattle.std.proofs.lemmas.List.{take-append-drop}
-use Rattle.std.proofs.lemmas.List.Sums.{split_at_first, passes_at_first, take_while-cons}
-use Rattle.std.specs.List.{position, position_or_len, before_first, after_first, take_while, list_all, onto_first}
-use Rattle.ps_yaml.specs.Lines.{Line, begins, is_feed, split_lines, without_return, numbered}
+use Rattle.std.proofs.lemmas.List.Sums.{passes_at_first, take_while-cons}
+use Rattle.std.specs.List.{position, position_or_len, take_while, list_all}
+use Rattle.ps_yaml.specs.Lines.{is_feed, split_lines, without_return}
 
 nonempty : (front : List ℕ) (x : ℕ) → (length (front ++ x ∷ []) == 0) ≡ false
 nonempty [] x = refl

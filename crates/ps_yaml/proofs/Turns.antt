@@ -1,5 +1,5 @@
 -- One turn of the loops over the lines of a list and of a map, and their end.
-use Rattle.std.proofs.Common.{◌≡◌, ℕ, zero, suc, ◌-◌, ◌<◌, ◌≤◌, List, [], Bool, Ok, refl, sym, ap, sub-one, arith}
+use Rattle.std.proofs.Common.{◌≡◌, ℕ, zero, suc, ◌-◌, ◌<◌, ◌≤◌, List, [], Bool, Ok, refl, sym, ap, arith}
 use Rattle.ps_yaml.specs.declared.nodes.Node.{Node}
 use Rattle.ps_yaml.specs.declared.nodes.Pair.{Pair}
 use Rattle.ps_yaml.specs.Faults.{◌>>=◌}

@@ -1,5 +1,5 @@
 -- Maps and lists: which node the lines of a document give.
-use Rattle.std.specs.Prelude.{ℕ, zero, suc, ◌+◌, List, [], ◌∷◌, ◌++◌, Bool, true, false, ◌==◌, ◌||◌, ◌&&◌, nat_lt, nat_le, length, take, drop, slice_index, Option, Some, None, Result, Ok, Err, bytes_eq, not, if◌then◌else◌}
+use Rattle.std.specs.Prelude.{ℕ, zero, suc, ◌+◌, List, [], ◌∷◌, ◌++◌, Bool, true, false, ◌==◌, ◌||◌, ◌&&◌, nat_lt, nat_le, length, take, drop, Option, Some, None, Result, Ok, Err, bytes_eq, not, if◌then◌else◌}
 use Rattle.std.specs.List.{position_or_len, list_any}
 use Rattle.std.specs.Char.{is_ascii_alphabetic, is_ascii_digit}
 use Rattle.std.specs.Str.{is_utf8}
@@ -99,10 +99,10 @@ below maps turns line (next ∷ lines) =
       items ← items_at turns (spaces line.text == spaces next.text) (spaces next.text) [] (next ∷ lines)
       Ok (Sequence items.0 next.number (spaces next.text + 1), items.1))
     else if nat_lt (spaces line.text) (spaces next.text) then
-      (if is_entry (content next) then (do
-        pairs ← maps (spaces next.text) (next ∷ lines)
-        Ok (Map pairs.0 next.number (spaces next.text + 1), pairs.1))
-      else Err (BadIndent next.number 1))
+    (if is_entry (content next) then (do
+      pairs ← maps (spaces next.text) (next ∷ lines)
+      Ok (Map pairs.0 next.number (spaces next.text + 1), pairs.1))
+    else Err (BadIndent next.number 1))
     else Ok (Scalar [] line.number (value_offset line + 1) true, next ∷ lines)
 
 -- the node of an entry, and the lines after it

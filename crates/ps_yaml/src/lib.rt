@@ -7,10 +7,9 @@ mod lines;
 mod nodes;
 mod open;
 mod scalars;
-mod trees;
-
 #[cfg(test)]
 mod tests;
+mod trees;
 
 pub use faults::YamlFault;
 pub use nodes::{Node, Pair};

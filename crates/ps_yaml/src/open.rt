@@ -21,7 +21,6 @@ impl Model for OpenMap {
     ghost use Rattle.std.specs.BTreeSet.{contains};
     ghost use Rattle.ps_yaml.specs.declared.nodes.Pair.{Pair};
     ghost use Rattle.ps_yaml.specs.Trees.{is_named as names_one};
-
     ghost use Rattle.std.specs.Coded.{codes};
     ghost use Rattle.ps_yaml.specs.contracts.nodes.Node as node;
     ghost use Rattle.ps_yaml.specs.contracts.nodes.Pair as pair;

@@ -116,11 +116,7 @@ fn continues(line: &Line, indent: usize) -> bool
 }
 
 /// Adds the lines that continue a plain scalar, and answers the lines after them.
-fn continued<'l>(
-    indent: usize,
-    lines: &'l [Line],
-    text: &mut Vec<u8>,
-) -> Result<&'l [Line], Memory>
+fn continued<'l>(indent: usize, lines: &'l [Line], text: &mut Vec<u8>) -> Result<&'l [Line], Memory>
     ensures { IfOk result (λ rest. (text.new.items ≡ text.old.items ++ (words.continued indent lines.now).0) × (rest.now ≡ (words.continued indent lines.now).1)) }
 {
     let mut place = 0;
@@ -257,12 +253,7 @@ fn escaped(byte: u8) -> Option<u8>
 }
 
 /// The text of what stands between double quotes at an offset of a line.
-fn unescaped(
-    alloc: Global,
-    line: &Line,
-    offset: usize,
-    text: &[u8],
-) -> Result<Vec<u8>, YamlFault>
+fn unescaped(alloc: Global, line: &Line, offset: usize, text: &[u8]) -> Result<Vec<u8>, YamlFault>
     requires { offset + length text.now ≤ length line.now.text }
     ensures { Reads (λ read. read.items) result (words.unescaped line.now offset text.now) }
 {

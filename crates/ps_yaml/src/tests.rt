@@ -52,6 +52,9 @@ fn show(out: &mut String, node: &Node) -> Result<(), AllocError> {
 
 fn shown(alloc: Global, text: &[u8]) -> Result<String, Fail> {
     let mut out = String::new(alloc);
+    if 0xFFFF_FFFF <= text.len() {
+        return Ok(out);
+    }
     match read_yaml(alloc, text) {
         Ok(node) => show(&mut out, &node)?,
         Err(YamlFault::BadIndent { line, column }) => write!(out, "indent {line}:{column}")?,
@@ -89,7 +92,10 @@ fn reads_documents(rt: HostRuntime) -> Result<(), Fail> {
             (" a: b\n", "indent 1:1"),
             ("- a\n", "scalar 1:1"),
             ("just text\n", "scalar 1:1"),
-            ("a: b\r\nc:\r\n  d: e\r\n", "{ a@1:1=b@1:4 c@2:1={ d@3:3=e@3:6 }@3:3 }@1:1"),
+            (
+                "a: b\r\nc:\r\n  d: e\r\n",
+                "{ a@1:1=b@1:4 c@2:1={ d@3:3=e@3:6 }@3:3 }@1:1",
+            ),
             ("a: b\r", "{ a@1:1=b\r@1:4 }@1:1"),
         ],
     )
@@ -110,10 +116,16 @@ fn reads_maps(rt: HostRuntime) -> Result<(), Fail> {
             ("a:   \n", "{ a@1:1=@1:3 }@1:1"),
             ("a: # note\n", "{ a@1:1=@1:3 }@1:1"),
             ("a:\nb: c\n", "{ a@1:1=@1:3 b@2:1=c@2:4 }@1:1"),
-            ("a:\n   b: c\n   d:\n     e: f\ng: h\n", "{ a@1:1={ b@2:4=c@2:7 d@3:4={ e@4:6=f@4:9 }@4:6 }@2:4 g@5:1=h@5:4 }@1:1"),
+            (
+                "a:\n   b: c\n   d:\n     e: f\ng: h\n",
+                "{ a@1:1={ b@2:4=c@2:7 d@3:4={ e@4:6=f@4:9 }@4:6 }@2:4 g@5:1=h@5:4 }@1:1",
+            ),
             ("a: b\na: c\n", "twice 2:1"),
             ("a:\n  b: c\n  d: e\n  b: [\n", "twice 4:3"),
-            ("a: b\nc:\n  a: b\n", "{ a@1:1=b@1:4 c@2:1={ a@3:3=b@3:6 }@3:3 }@1:1"),
+            (
+                "a: b\nc:\n  a: b\n",
+                "{ a@1:1=b@1:4 c@2:1={ a@3:3=b@3:6 }@3:3 }@1:1",
+            ),
             ("a:\n    b: c\n  d: e\n", "indent 3:1"),
             ("a:\n  b: c\n    d: 'e'\n", "scalar 2:6"),
             ("a:\n  b: 'c'\n    d: e\n", "indent 3:1"),
@@ -133,8 +145,14 @@ fn reads_lists(rt: HostRuntime) -> Result<(), Fail> {
     agree(
         &rt,
         &[
-            ("a:\n- b\n-  c\nd: e\n", "{ a@1:1=[ b@2:3 c@3:4 ]@2:1 d@4:1=e@4:4 }@1:1"),
-            ("a:\n  - b\n  - 'c'\n", "{ a@1:1=[ b@2:5 \"c\"@3:5 ]@2:3 }@1:1"),
+            (
+                "a:\n- b\n-  c\nd: e\n",
+                "{ a@1:1=[ b@2:3 c@3:4 ]@2:1 d@4:1=e@4:4 }@1:1",
+            ),
+            (
+                "a:\n  - b\n  - 'c'\n",
+                "{ a@1:1=[ b@2:5 \"c\"@3:5 ]@2:3 }@1:1",
+            ),
             ("a:\n  - b\n  c: d\n", "scalar 3:3"),
             ("a:\n  - b\n - c\n", "indent 3:1"),
             ("a:\n  - 'b'\n    - c\n", "indent 3:1"),
@@ -147,8 +165,14 @@ fn reads_lists(rt: HostRuntime) -> Result<(), Fail> {
             ("a:\n- b:\n", "unsupported 2:3"),
             ("a:\n- b:c\n", "{ a@1:1=[ b:c@2:3 ]@2:1 }@1:1"),
             ("a:\n- -b\n", "{ a@1:1=[ -b@2:3 ]@2:1 }@1:1"),
-            ("a:\n  - b\n    c\n  - d\n", "{ a@1:1=[ b c@2:5 d@4:5 ]@2:3 }@1:1"),
-            ("a:\n  - |\n    b\n  - >-\n   c\n   d\n", "{ a@1:1=[ \"b\\n\"@2:5 \"c d\"@4:5 ]@2:3 }@1:1"),
+            (
+                "a:\n  - b\n    c\n  - d\n",
+                "{ a@1:1=[ b c@2:5 d@4:5 ]@2:3 }@1:1",
+            ),
+            (
+                "a:\n  - |\n    b\n  - >-\n   c\n   d\n",
+                "{ a@1:1=[ \"b\\n\"@2:5 \"c d\"@4:5 ]@2:3 }@1:1",
+            ),
         ],
     )
 }
@@ -162,7 +186,10 @@ fn reads_plain_scalars(rt: HostRuntime) -> Result<(), Fail> {
             ("a:   b\n", "{ a@1:1=b@1:6 }@1:1"),
             ("a: b # c\n", "{ a@1:1=b@1:4 }@1:1"),
             ("a: b#c\n", "{ a@1:1=b#c@1:4 }@1:1"),
-            ("a: b\n  c # d\n\n  # e\n   f  \n", "{ a@1:1=b c f@1:4 }@1:1"),
+            (
+                "a: b\n  c # d\n\n  # e\n   f  \n",
+                "{ a@1:1=b c f@1:4 }@1:1",
+            ),
             ("a: b # c\n  d\n", "{ a@1:1=b d@1:4 }@1:1"),
             ("a: b: c\n", "scalar 1:4"),
             ("a: b:\n", "scalar 1:4"),
@@ -203,7 +230,10 @@ fn reads_quoted_scalars(rt: HostRuntime) -> Result<(), Fail> {
             ("a: 'b'#c\n", "scalar 1:7"),
             ("a: 'b\n  c'\n", "scalar 1:4"),
             ("a: 'b'\n  c\n", "indent 2:1"),
-            ("a: \"b\\\"c\\\\d\\/e\\nf\\tg\"\n", "{ a@1:1=\"b\\\"c\\\\d/e\\nf\\tg\"@1:4 }@1:1"),
+            (
+                "a: \"b\\\"c\\\\d\\/e\\nf\\tg\"\n",
+                "{ a@1:1=\"b\\\"c\\\\d/e\\nf\\tg\"@1:4 }@1:1",
+            ),
             ("a: \"\"\n", "{ a@1:1=\"\"@1:4 }@1:1"),
             ("a: \"b\\qc\"\n", "scalar 1:6"),
             ("a: \"b\\qc\n", "scalar 1:4"),
@@ -211,7 +241,10 @@ fn reads_quoted_scalars(rt: HostRuntime) -> Result<(), Fail> {
             ("a: \"b\\\n", "scalar 1:4"),
             ("a: \"b\\q\" c\n", "scalar 1:6"),
             ("a: \"b\" c\n", "scalar 1:8"),
-            ("a: \"b: [c] # d\"   # e\n", "{ a@1:1=\"b: [c] # d\"@1:4 }@1:1"),
+            (
+                "a: \"b: [c] # d\"   # e\n",
+                "{ a@1:1=\"b: [c] # d\"@1:4 }@1:1",
+            ),
             ("a: 'é' x\n", "scalar 1:9"),
         ],
     )
@@ -222,7 +255,10 @@ fn reads_block_scalars(rt: HostRuntime) -> Result<(), Fail> {
     agree(
         &rt,
         &[
-            ("a: |\n  b\n\n    c\n  # d\n\ne: f\n", "{ a@1:1=\"b\\n\\n  c\\n# d\\n\"@1:4 e@7:1=f@7:4 }@1:1"),
+            (
+                "a: |\n  b\n\n    c\n  # d\n\ne: f\n",
+                "{ a@1:1=\"b\\n\\n  c\\n# d\\n\"@1:4 e@7:1=f@7:4 }@1:1",
+            ),
             ("a: |-\n  b\n  c\n", "{ a@1:1=\"b\\nc\"@1:4 }@1:1"),
             ("a: >\n  b\n\n  c\n", "{ a@1:1=\"b  c\\n\"@1:4 }@1:1"),
             ("a: >-\n  b\n  c\n\n\n", "{ a@1:1=\"b c\"@1:4 }@1:1"),
@@ -236,13 +272,19 @@ fn reads_block_scalars(rt: HostRuntime) -> Result<(), Fail> {
             ("a: >\n\n\nb: c\n", "{ a@1:1=\"\\n\"@1:4 b@4:1=c@4:4 }@1:1"),
             ("a: |\n    b\n  c\n", "indent 3:1"),
             ("a: |\n    b\n  # c\n", "indent 3:1"),
-            ("a: |\n  b\n# c\nd: e\n", "{ a@1:1=\"b\\n\"@1:4 d@4:1=e@4:4 }@1:1"),
+            (
+                "a: |\n  b\n# c\nd: e\n",
+                "{ a@1:1=\"b\\n\"@1:4 d@4:1=e@4:4 }@1:1",
+            ),
             ("a: |\n  b\n# c\n  d\n", "indent 4:1"),
             ("a: |\n  \tb\n", "indent 2:3"),
             ("a: |\n  b\n  \tc\n \td\n", "indent 4:2"),
             ("a: |\n  b\n  \tc\n", "{ a@1:1=\"b\\n\\tc\\n\"@1:4 }@1:1"),
             ("a: |-\n\n   \n  b\n", "{ a@1:1=\"\\n \\nb\"@1:4 }@1:1"),
-            ("a:\n  b: |\n    c: [\n  d: e\n", "{ a@1:1={ b@2:3=\"c: [\\n\"@2:6 d@4:3=e@4:6 }@2:3 }@1:1"),
+            (
+                "a:\n  b: |\n    c: [\n  d: e\n",
+                "{ a@1:1={ b@2:3=\"c: [\\n\"@2:6 d@4:3=e@4:6 }@2:3 }@1:1",
+            ),
         ],
     )
 }
@@ -255,7 +297,15 @@ fn refuses_bytes_that_are_no_text(rt: HostRuntime) -> Result<(), Fail> {
 
 #[test]
 fn reads_the_rules_of_the_first_example(rt: HostRuntime) -> Result<(), Fail> {
-    let text = "bucket_definitions:\n  mine:\n    parameters: SELECT request.user_id() AS u\n    data:\n      - SELECT * FROM items WHERE owner = bucket.u\n";
-    let want = "{ bucket_definitions@1:1={ mine@2:3={ parameters@3:5=SELECT request.user_id() AS u@3:17 data@4:5=[ SELECT * FROM items WHERE owner = bucket.u@5:9 ]@5:7 }@3:5 }@2:3 }@1:1";
-    agree(&rt, &[(text, want), ("bucket_definitions: [a]", "unsupported 1:21")])
+    let text =
+        "bucket_definitions:\n  mine:\n    parameters: SELECT request.user_id() AS u\n    data:\n      - SELECT * FROM items WHERE owner = bucket.u\n";
+    let want =
+        "{ bucket_definitions@1:1={ mine@2:3={ parameters@3:5=SELECT request.user_id() AS u@3:17 data@4:5=[ SELECT * FROM items WHERE owner = bucket.u@5:9 ]@5:7 }@3:5 }@2:3 }@1:1";
+    agree(
+        &rt,
+        &[
+            (text, want),
+            ("bucket_definitions: [a]", "unsupported 1:21"),
+        ],
+    )
 }
