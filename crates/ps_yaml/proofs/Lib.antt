@@ -5,3 +5,5 @@ pub mod Parts
 pub mod Offsets
 pub mod Turns
 pub mod Names
+pub mod Binds
+pub mod Shorter

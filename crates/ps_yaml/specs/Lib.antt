@@ -1,4 +1,5 @@
 pub mod Faults
+pub mod Grammar
 pub mod Lines
 pub mod Scalars
 pub mod Trees

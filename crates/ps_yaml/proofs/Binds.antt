@@ -1,0 +1,12 @@
+-- What a sequence of readings tells of its parts.
+use Rattle.std.proofs.Common.{◌≡◌, ℕ, Bool, true, false, cond, if◌then◌else◌, Option, Some, None, Result, Ok, Err, refl, sym, ap, ◌∙◌, inl, inr, ◌⊎◌, arith}
+use Rattle.ps_yaml.specs.declared.faults.YamlFault.{YamlFault}
+use Rattle.ps_yaml.specs.Faults.{◌>>=◌}
+
+pub bind_ok : {A B : Type 0} (read : Result A YamlFault) (next : A → Result B YamlFault) (y : B) → (read >>= next) ≡ Ok y → (x : A) × (read ≡ Ok x) × (next x ≡ Ok y)
+bind_ok (Ok x) next y e = (x, refl, e)
+bind_ok (Err fault) next y e = cc
+
+pub chosen : {A : Type 0} (b : Bool) (x y z : A) → (if b then x else y) ≡ z → ((b ≡ true) × (x ≡ z)) ⊎ ((b ≡ false) × (y ≡ z))
+chosen true x y z e = inl (refl, e)
+chosen false x y z e = inr (refl, e)
