@@ -10,3 +10,6 @@ bind_ok (Err fault) next y e = cc
 pub chosen : {A : Type 0} (b : Bool) (x y z : A) → (if b then x else y) ≡ z → ((b ≡ true) × (x ≡ z)) ⊎ ((b ≡ false) × (y ≡ z))
 chosen true x y z e = inl (refl, e)
 chosen false x y z e = inr (refl, e)
+
+abbrev pub read : {X : Type 0} → X → Result X YamlFault
+read x = Ok x

@@ -7,3 +7,6 @@ pub mod Turns
 pub mod Names
 pub mod Binds
 pub mod Shorter
+pub mod Found
+pub mod FoundMaps
+pub mod Taken

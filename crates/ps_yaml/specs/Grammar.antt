@@ -28,7 +28,7 @@ ListEnds false indent lines = Ends indent lines
 
 -- a list: items at one indent, behind those that stand before
 pub data Items (shared : Bool) (indent : ℕ) : List Node → List Line → List Node → List Line → Type 0 where
-  no_more : (before : List Node) (lines : List Line) → ListEnds shared indent (from_content lines) → Items shared indent before lines before (from_content lines)
+  items_end : (before : List Node) (lines : List Line) → ListEnds shared indent (from_content lines) → Items shared indent before lines before (from_content lines)
   item : (before : List Node) (lines : List Line) (line : Line) (own : List Line) (node : Node) (after : List Line) (all : List Node) (rest : List Line)
     → from_content lines ≡ line ∷ own → StandsAt indent line → is_item (content line) ≡ true → item_at line own ≡ Ok (node, after)
     → Items shared indent (before ++ node ∷ []) after all rest → Items shared indent before lines all rest
@@ -45,7 +45,7 @@ HasNoBlock indent (line ∷ lines) = HasNoTab line × (spaces line.text ≤ inde
 mutual
   -- a map: entries at one indent, behind those that stand before; no name stands twice
   pub data Entries : ℕ → List Pair → List Line → List Pair → List Line → Type 0 where
-    no_more : (indent : ℕ) (before : List Pair) (lines : List Line) → Ends indent (from_content lines) → Entries indent before lines before (from_content lines)
+    entries_end : (indent : ℕ) (before : List Pair) (lines : List Line) → Ends indent (from_content lines) → Entries indent before lines before (from_content lines)
     entry : (indent : ℕ) (before : List Pair) (lines : List Line) (line : Line) (own : List Line) (node : Node) (after : List Line) (all : List Pair) (rest : List Line)
       → from_content lines ≡ line ∷ own → StandsAt indent line → is_entry (content line) ≡ true → is_named (name_of line) before ≡ false → Value line own node after
       → Entries indent (before ++ pair_of (name_of line) node line ∷ []) after all rest → Entries indent before lines all rest
