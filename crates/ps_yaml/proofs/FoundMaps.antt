@@ -1,6 +1,7 @@
 -- What is read as a map or a document is spelled so.
 use Rattle.std.proofs.Common.{◌≡◌, ℕ, zero, suc, ◌+◌, ◌-◌, ◌<◌, ◌≤◌, List, [], ◌∷◌, ◌++◌, Bool, true, false, ◌==◌, ◌&&◌, not, nat_lt, nat_le, if◌then◌else◌, length, drop, Option, Some, None, Result, Ok, Err, refl, sym, ap, subst, ◌∙◌, inl, inr, arith}
 use Rattle.std.proofs.lemmas.Bool.Decides.{nat_tests}
+use Rattle.std.specs.Str.{is_utf8}
 use Rattle.ps_yaml.specs.declared.nodes.Node.{Node}
 use Rattle.ps_yaml.specs.declared.nodes.Node.TheVariants.{Scalar, Map, List as Sequence}
 use Rattle.ps_yaml.specs.declared.nodes.Pair.{Pair}
@@ -8,8 +9,8 @@ use Rattle.ps_yaml.specs.declared.faults.YamlFault.{YamlFault}
 use Rattle.ps_yaml.specs.Faults.{◌>>=◌}
 use Rattle.ps_yaml.specs.Lines.{Line, kind_of, spaces, content, from_content, lines_of}
 use Rattle.ps_yaml.specs.Scalars.{is_tabbed, is_line_end, scalar_at}
-use Rattle.ps_yaml.specs.Trees.{next_in, items_at, is_item, is_entry, new_name, name_of, is_named, pair_of, pair_then, pairs_at, value_at, value_offset, below, root}
-use Rattle.ps_yaml.specs.Grammar.{HasNoTab, StandsAt, Ends, HasNoBlock, Items, Entries, Value, after_colon, IsDocument}
+use Rattle.ps_yaml.specs.Trees.{next_in, items_at, is_item, is_entry, new_name, name_of, is_named, pair_of, pair_then, pairs_at, value_at, value_offset, below, root, document_of}
+use Rattle.ps_yaml.specs.Grammar.{HasNoTab, StandsAt, Ends, HasNoBlock, Items, Entries, Value, after_colon, IsDocument, Spells}
 use Rattle.ps_yaml.specs.Grammar as grammar
 use Rattle.ps_yaml.proofs.Binds.{bind_ok, chosen, read}
 use Rattle.ps_yaml.proofs.Shorter.{content_shorter}
@@ -108,3 +109,28 @@ found_pairs zero indent before (line ∷ lines) out short e = absurd (omega arit
 found_pairs (suc turns) indent before lines out short e =
     let b = bind_ok (next_in indent (from_content lines)) _ out e in
     pairs_step turns indent (found_pairs turns) before lines out short b.0 b.1 b.2
+
+ends_at_zero : (indent : ℕ) (lines : List Line) → Ends indent lines → indent ≡ 0 → lines ≡ []
+ends_at_zero indent [] h e = refl
+ends_at_zero indent (line ∷ lines) h e = absurd (omega (arith, h.1))
+
+nothing_left : {indent : ℕ} {before : List Pair} {lines : List Line} {all : List Pair} {rest : List Line} → Entries indent before lines all rest → indent ≡ 0 → rest ≡ []
+nothing_left (grammar.entries_end indent before lines ends) e = ends_at_zero indent (from_content lines) ends e
+nothing_left (grammar.entry indent before lines line own node after all rest is at begins new value more) e = nothing_left more e
+
+root_found : (lines rest : List Line) (node : Node) → from_content lines ≡ rest → root rest ≡ Ok node → IsDocument lines node
+root_found lines [] node is e = let same : Map [] 1 1 ≡ node = cc in subst (λ (n : Node). IsDocument lines n) same (grammar.nothing lines is)
+root_found lines (first ∷ others) node is e =
+    let b = bind_ok (pairs_at (length (first ∷ others)) 0 [] (first ∷ others)) _ node e in
+    let spelled = found_pairs (length (first ∷ others)) 0 [] (first ∷ others) b.0 (omega arith) b.1 in
+    let same : Map b.0.0 first.number 1 ≡ node = (let z = b.2 in cc) in
+    subst (λ (n : Node). IsDocument lines n) same
+      (grammar.root lines first others b.0.0 is (subst (λ (rest : List Line). Entries 0 [] (first ∷ others) b.0.0 rest) (nothing_left spelled refl) spelled))
+
+pub found_document : (bytes : List ℕ) (node : Node) → document_of bytes ≡ Ok node → Spells bytes node
+unfolding document_of
+found_document bytes node e =
+    elim (chosen (is_utf8 bytes) _ _ (Ok node) e) [
+      inl h ↦ (h.0, root_found (lines_of bytes) (from_content (lines_of bytes)) node refl h.1)
+    | inr h ↦ absurd (let z = h.1 in cc)
+    ]

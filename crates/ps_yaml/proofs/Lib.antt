@@ -3,6 +3,7 @@ pub mod Places
 pub mod Rests
 pub mod Parts
 pub mod Offsets
+pub mod Only
 pub mod Turns
 pub mod Names
 pub mod Binds

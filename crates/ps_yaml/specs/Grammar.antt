@@ -1,5 +1,6 @@
 -- The grammar of documents: which node the lines spell from the front on, and which lines stand after it.
 use Rattle.std.specs.Prelude.{◌≡◌, ◌<◌, ◌≤◌, ◌+◌, ◌==◌, ℕ, List, [], ◌∷◌, ◌++◌, Bool, true, false, drop, Ok}
+use Rattle.std.specs.Str.{is_utf8}
 use Rattle.ps_yaml.specs.declared.nodes.Node.{Node}
 use Rattle.ps_yaml.specs.declared.nodes.Node.TheVariants.{Scalar, Map, List as Sequence}
 use Rattle.ps_yaml.specs.declared.nodes.Pair.{Pair}
@@ -68,3 +69,7 @@ pub data IsDocument : List Line → Node → Type 0 where
   nothing : (lines : List Line) → from_content lines ≡ [] → IsDocument lines (Map [] 1 1)
   root : (lines : List Line) (first : Line) (others : List Line) (pairs : List Pair)
     → from_content lines ≡ first ∷ others → Entries 0 [] (first ∷ others) pairs [] → IsDocument lines (Map pairs first.number 1)
+
+-- the bytes are UTF-8, and their lines are the document of the node
+abbrev pub Spells : List ℕ → Node → Type 0
+Spells bytes node = (is_utf8 bytes ≡ true) × IsDocument (lines_of bytes) node
