@@ -1,3 +1,4 @@
+pub mod Laws
 pub mod LineEnds
 pub mod Places
 pub mod Rests

@@ -1,7 +1,9 @@
 ghost use Rattle.std.specs.Prelude.{◌≡◌, ◌+◌, ◌<◌, ◌≤◌, [], ◌==◌, true, length, option_map, IfOk};
 ghost use Rattle.std.specs.Str.{is_utf8};
 ghost use Rattle.ps_yaml.specs.declared.nodes.Node.TheVariants as nodes;
+ghost use Rattle.ps_yaml.specs.declared.nodes.Node.{Node as NodeData};
 ghost use Rattle.ps_yaml.specs.Faults.{Reads};
+ghost use Rattle.ps_yaml.specs.Grammar.{Spells};
 ghost use Rattle.ps_yaml.specs.Lines as lines_of;
 ghost use Rattle.ps_yaml.specs.Trees as words;
 
@@ -263,10 +265,9 @@ fn is_text(bytes: &[u8]) -> bool
     }
 }
 
-/// Reads a document of the YAML profile of docs/FORMATS.md, in time linear in its bytes.
-/// Anything else is answered by its first fault in reading order; bytes that are not UTF-8 by `BadScalar` at 1:1.
+/// The document of bytes, or its first fault.
 #[tactic(auto, unfolding(crate::specs::Trees::document_of, crate::specs::Lines::lines_of))]
-pub fn read_yaml(alloc: Global, bytes: &[u8]) -> Result<Node, YamlFault>
+fn document(alloc: Global, bytes: &[u8]) -> Result<Node, YamlFault>
     requires { length bytes.now < 4294967295 }
     ensures { Reads (λ node. node) result (words.document_of bytes.now) }
 {
@@ -275,4 +276,20 @@ pub fn read_yaml(alloc: Global, bytes: &[u8]) -> Result<Node, YamlFault>
     }
     let lines = split_lines(alloc, bytes)?;
     root(alloc, from_content(after_marker(&lines)))
+}
+
+/// Reads a document of the YAML profile of docs/FORMATS.md, in time linear in its bytes.
+/// Anything else is answered by its first fault in reading order; bytes that are not UTF-8 by `BadScalar` at 1:1.
+#[tactic(auto, using(crate::proofs::Laws::found, crate::proofs::Laws::only))]
+pub fn read_yaml(alloc: Global, bytes: &[u8]) -> Result<Node, YamlFault>
+    requires { length bytes.now < 4294967295 }
+
+    // What is read is spelled so.
+    ensures found { IfOk result (λ node. Spells bytes.now node) }
+    // What is spelled so is read, unless memory runs out.
+    ensures only { (node : NodeData) → Spells bytes.now node → Reads (λ read. read) result (Ok node) }
+    // Which fault is the first.
+    ensures exact { Reads (λ node. node) result (words.document_of bytes.now) }
+{
+    document(alloc, bytes)
 }
