@@ -1,6 +1,7 @@
 pub mod Laws
 pub mod LineEnds
 pub mod Places
+pub mod Quotes
 pub mod Rests
 pub mod Parts
 pub mod Offsets
