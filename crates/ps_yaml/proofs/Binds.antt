@@ -13,3 +13,14 @@ chosen false x y z e = inr (refl, e)
 
 abbrev pub read : {X : Type 0} → X → Result X YamlFault
 read x = Ok x
+
+pub if_true : {A : Type 0} (b : Bool) (x y : A) → b ≡ true → (if b then x else y) ≡ x
+if_true true x y h = refl
+if_true false x y h = cc
+
+pub if_false : {A : Type 0} (b : Bool) (x y : A) → b ≡ false → (if b then x else y) ≡ y
+if_false true x y h = cc
+if_false false x y h = refl
+
+pub bind_at : {A B : Type 0} (read : Result A YamlFault) (next : A → Result B YamlFault) (x : A) → read ≡ Ok x → (read >>= next) ≡ next x
+bind_at read next x e = ap (λ (r : Result _ YamlFault). r >>= next) e

@@ -9,6 +9,7 @@ pub mod Only
 pub mod Turns
 pub mod Names
 pub mod Binds
+pub mod ScalarLaws
 pub mod Shorter
 pub mod Found
 pub mod FoundMaps

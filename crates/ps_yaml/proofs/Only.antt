@@ -12,19 +12,9 @@ use Rattle.ps_yaml.specs.Scalars.{is_tabbed, is_line_end, scalar_at, is_empty, i
 use Rattle.ps_yaml.specs.Trees.{next_in, item_at, item_then, items_at, is_item, is_entry, name_len, begins_name, new_name, name_of, is_named, pair_of, pair_then, pairs_at, value_at, value_offset, below, root, document_of}
 use Rattle.ps_yaml.specs.Grammar.{HasNoTab, StandsAt, Ends, ListEnds, HasNoBlock, Items, items_end, item, Entries, entries_end, entry, Value, scalar, map, list, empty, after_colon, IsDocument, Spells}
 use Rattle.ps_yaml.specs.Grammar as grammar
+use Rattle.ps_yaml.proofs.Binds.{if_true, if_false, bind_at}
 use Rattle.ps_yaml.proofs.Shorter.{content_shorter, leaves_ok, item_leaves}
 use Rattle.ps_yaml.proofs.Taken.{value_shorter}
-
-if_true : {A : Type 0} (b : Bool) (x y : A) → b ≡ true → (if b then x else y) ≡ x
-if_true true x y h = refl
-if_true false x y h = cc
-
-if_false : {A : Type 0} (b : Bool) (x y : A) → b ≡ false → (if b then x else y) ≡ y
-if_false true x y h = cc
-if_false false x y h = refl
-
-bind_at : {A B : Type 0} (read : Result A YamlFault) (next : A → Result B YamlFault) (x : A) → read ≡ Ok x → (read >>= next) ≡ next x
-bind_at read next x e = ap (λ (r : Result _ YamlFault). r >>= next) e
 
 next_at : (indent : ℕ) (line : Line) (own : List Line) → StandsAt indent line → next_in indent (line ∷ own) ≡ Ok (Some (line, own))
 next_at indent line own at = grind (arith, nat_tests)

@@ -17,9 +17,13 @@ pub data Escapes : List ℕ → List ℕ → Type 0 where
   byte : (b : ℕ) (written text : List ℕ) → (b == 34) ≡ false → (b == 92) ≡ false → Escapes written text → Escapes (b ∷ written) (b ∷ text)
   escape : (b c : ℕ) (written text : List ℕ) → escaped b ≡ Some c → Escapes written text → Escapes (92 ∷ b ∷ written) (c ∷ text)
 
+-- the bytes that a block mark begins with
+abbrev pub begins_block : ℕ → Bool
+begins_block b = b == 124 || b == 62
+
 -- the bytes that a plain scalar does not begin with
 abbrev pub is_mark : ℕ → Bool
-is_mark b = b == 39 || b == 34 || b == 124 || b == 62 || is_left_out b || begins_none b
+is_mark b = b == 39 || b == 34 || begins_block b || is_left_out b || begins_none b
 
 -- the scalar at an offset of a line, of a NAME or an item at this indent
 pub data IsScalar (indent : ℕ) (line : Line) (offset : ℕ) (lines : List Line) : Node → List Line → Type 0 where
@@ -31,7 +35,7 @@ pub data IsScalar (indent : ℕ) (line : Line) (offset : ℕ) (lines : List Line
   double : (written text after : List ℕ) → drop offset line.text ≡ 34 ∷ (written ++ 34 ∷ after) → Escapes written text → is_line_end after ≡ true
     → IsScalar indent line offset lines (Scalar text line.number (offset + 1) false) lines
   -- no deeper line follows the mark
-  empty_block : (style : Style) → style_of (trimmed (drop offset line.text)) ≡ Some style → block_indent indent lines ≡ None
+  empty_block : (style : Style) → begins_block (slice_index line.text offset) ≡ true → style_of (trimmed (drop offset line.text)) ≡ Some style → block_indent indent lines ≡ None
     → IsScalar indent line offset lines (Scalar (ended style.ends []) line.number (offset + 1) false) lines
-  block : (style : Style) (depth count : ℕ) → style_of (trimmed (drop offset line.text)) ≡ Some style → block_indent indent lines ≡ Some depth → block_len indent depth lines ≡ Ok count
+  block : (style : Style) (depth count : ℕ) → begins_block (slice_index line.text offset) ≡ true → style_of (trimmed (drop offset line.text)) ≡ Some style → block_indent indent lines ≡ Some depth → block_len indent depth lines ≡ Ok count
     → IsScalar indent line offset lines (Scalar (ended style.ends (joined style.joint depth (take count lines))) line.number (offset + 1) false) (drop count lines)
