@@ -11,6 +11,7 @@ use Rattle.ps_yaml.specs.Trees.{next_in, item_at, item_then, items_at, is_item, 
 use Rattle.ps_yaml.specs.Grammar.{HasNoTab, StandsAt, Ends, ListEnds, Items}
 use Rattle.ps_yaml.specs.Grammar as grammar
 use Rattle.ps_yaml.proofs.Binds.{bind_ok, chosen, read}
+use Rattle.ps_yaml.proofs.ScalarLaws.{item_found}
 use Rattle.ps_yaml.proofs.Shorter.{Leaves, content_shorter, leaves_ok, item_leaves}
 
 pub next_none : (indent : ℕ) (lines : List Line) → next_in indent lines ≡ Ok None → Ends indent lines
@@ -37,23 +38,23 @@ abbrev ItemsFound : ℕ → Bool → ℕ → Type 0
 ItemsFound turns shared indent = (before : List Node) (lines : List Line) (out : List Node × List Line) → length lines ≤ turns → items_at turns shared indent before lines ≡ Ok out → Items shared indent before lines out.0 out.1
 
 items_step : (turns : ℕ) (shared : Bool) (indent : ℕ) → ItemsFound turns shared indent → (before : List Node) (lines : List Line) (out : List Node × List Line) → length lines ≤ suc turns
-  → (next : Option (Line × List Line)) → next_in indent (from_content lines) ≡ Ok next → item_then (items_at turns shared indent) shared before (from_content lines) next ≡ Ok out → Items shared indent before lines out.0 out.1
+    → (next : Option (Line × List Line)) → next_in indent (from_content lines) ≡ Ok next → item_then (items_at turns shared indent) shared before (from_content lines) next ≡ Ok out → Items shared indent before lines out.0 out.1
 items_step turns shared indent more before lines out short None n e =
     items_of shared indent before lines (before, from_content lines) out e (grammar.items_end before lines (list_ends shared indent (from_content lines) (next_none indent (from_content lines) n)))
 items_step turns shared indent more before lines out short (Some x) n e =
     let w = next_some indent (from_content lines) x n in
     elim (chosen (is_item (content x.0)) _ _ (Ok out) e) [
-      inl h ↦
-        let b = bind_ok (item_at x.0 x.1) _ out h.1 in
-        let left : length b.0.1 ≤ length x.1 = leaves_ok x.1 (item_at x.0 x.1) b.0.0 b.0.1 (item_leaves x.0 x.1) b.1 in
-        let all : length (from_content lines) ≡ suc (length x.1) = ap length w.0 in
-        grammar.item before lines x.0 x.1 b.0.0 b.0.1 out.0 out.1 w.0 w.1 h.0 b.1
+      | inl h ↦
+          let b = bind_ok (item_at x.0 x.1) _ out h.1 in
+          let left : length b.0.1 ≤ length x.1 = leaves_ok x.1 (item_at x.0 x.1) b.0.0 b.0.1 (item_leaves x.0 x.1) b.1 in
+          let all : length (from_content lines) ≡ suc (length x.1) = ap length w.0 in
+          grammar.item before lines x.0 x.1 b.0.0 b.0.1 out.0 out.1 w.0 w.1 h.0 (item_found x.0 x.1 b.0 b.1).0 (item_found x.0 x.1 b.0 b.1).1
           (more (before ++ b.0.0 ∷ []) b.0.1 out (omega (arith, content_shorter lines, left, all)) b.2)
-    | inr h ↦
-        elim (chosen shared _ _ (Ok out) h.1) [
-          inl s ↦ items_of shared indent before lines (before, from_content lines) out s.1 (grammar.items_end before lines (shared_ends shared indent (from_content lines) x.0 x.1 s.0 w.0 w.1 h.0))
-        | inr s ↦ absurd (let no : ⊥ = (let z = s.1 in cc) in no)
-        ]
+      | inr h ↦
+          elim (chosen shared _ _ (Ok out) h.1) [
+            | inl s ↦ items_of shared indent before lines (before, from_content lines) out s.1 (grammar.items_end before lines (shared_ends shared indent (from_content lines) x.0 x.1 s.0 w.0 w.1 h.0))
+            | inr s ↦ absurd (let no : ⊥ = (let z = s.1 in cc) in no)
+          ]
     ]
 
 pub found_items : (turns : ℕ) (shared : Bool) (indent : ℕ) → ItemsFound turns shared indent

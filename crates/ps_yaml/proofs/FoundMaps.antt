@@ -13,6 +13,7 @@ use Rattle.ps_yaml.specs.Trees.{next_in, items_at, is_item, is_entry, new_name, 
 use Rattle.ps_yaml.specs.Grammar.{HasNoTab, StandsAt, Ends, HasNoBlock, Items, Entries, Value, after_colon, IsDocument, Spells}
 use Rattle.ps_yaml.specs.Grammar as grammar
 use Rattle.ps_yaml.proofs.Binds.{bind_ok, chosen, read}
+use Rattle.ps_yaml.proofs.ScalarLaws.{scalar_found}
 use Rattle.ps_yaml.proofs.Shorter.{content_shorter}
 use Rattle.ps_yaml.proofs.Taken.{value_shorter}
 use Rattle.ps_yaml.proofs.Found.{next_none, next_some, found_items}
@@ -36,33 +37,33 @@ no_block : (line next : Line) (others : List Line) → is_tabbed (kind_of next.t
 no_block line next others t i d = (t, grind (arith, nat_tests), λ e. grind (arith, nat_tests))
 
 below_found : (turns : ℕ) → PairsFound turns → (line : Line) (own lines : List Line) (out : Node × List Line) → from_content own ≡ lines → is_line_end (after_colon line) ≡ true → length lines ≤ turns
-  → below (maps turns) turns line lines ≡ Ok out → Value line own out.0 out.1
+    → below (maps turns) turns line lines ≡ Ok out → Value line own out.0 out.1
 below_found turns more line own [] out is end short e =
     value_of line own (Scalar [] line.number (value_offset line + 1) true, []) out e
-      (subst (λ (rest : List Line). Value line own (Scalar [] line.number (value_offset line + 1) true) rest) is
-        (grammar.empty line own end (subst (λ (rest : List Line). HasNoBlock (spaces line.text) rest) (sym is) tt)))
+    (subst (λ (rest : List Line). Value line own (Scalar [] line.number (value_offset line + 1) true) rest) is
+    (grammar.empty line own end (subst (λ (rest : List Line). HasNoBlock (spaces line.text) rest) (sym is) tt)))
 below_found turns more line own (next ∷ others) out is end short e =
     elim (chosen (is_tabbed (kind_of next.text)) _ _ (Ok out) e) [
-      inl t ↦ absurd (let z = t.1 in cc)
-    | inr t ↦ elim (chosen (is_item (content next) && nat_le (spaces line.text) (spaces next.text)) _ _ (Ok out) t.1) [
-        inl i ↦
-          let b = bind_ok (items_at turns (spaces line.text == spaces next.text) (spaces next.text) [] (next ∷ others)) _ out i.1 in
-          let w = both (is_item (content next)) (nat_le (spaces line.text) (spaces next.text)) i.0 in
-          value_of line own (Sequence b.0.0 next.number (spaces next.text + 1), b.0.1) out b.2
+      | inl t ↦ absurd (let z = t.1 in cc)
+      | inr t ↦ elim (chosen (is_item (content next) && nat_le (spaces line.text) (spaces next.text)) _ _ (Ok out) t.1) [
+        | inl i ↦
+            let b = bind_ok (items_at turns (spaces line.text == spaces next.text) (spaces next.text) [] (next ∷ others)) _ out i.1 in
+            let w = both (is_item (content next)) (nat_le (spaces line.text) (spaces next.text)) i.0 in
+            value_of line own (Sequence b.0.0 next.number (spaces next.text + 1), b.0.1) out b.2
             (grammar.list line own next others b.0.0 b.0.1 end is t.0 (grind (arith, nat_tests, w)) w.0
-              (found_items turns (spaces line.text == spaces next.text) (spaces next.text) [] (next ∷ others) b.0 short b.1))
-      | inr i ↦ elim (chosen (nat_lt (spaces line.text) (spaces next.text)) _ _ (Ok out) i.1) [
-          inl d ↦ elim (chosen (is_entry (content next)) _ _ (Ok out) d.1) [
-            inl n ↦
-              let b = bind_ok (maps turns (spaces next.text) (next ∷ others)) _ out n.1 in
-              value_of line own (Map b.0.0 next.number (spaces next.text + 1), b.0.1) out b.2
+            (found_items turns (spaces line.text == spaces next.text) (spaces next.text) [] (next ∷ others) b.0 short b.1))
+        | inr i ↦ elim (chosen (nat_lt (spaces line.text) (spaces next.text)) _ _ (Ok out) i.1) [
+          | inl d ↦ elim (chosen (is_entry (content next)) _ _ (Ok out) d.1) [
+            | inl n ↦
+                let b = bind_ok (maps turns (spaces next.text) (next ∷ others)) _ out n.1 in
+                value_of line own (Map b.0.0 next.number (spaces next.text + 1), b.0.1) out b.2
                 (grammar.map line own next others b.0.0 b.0.1 end is t.0 (grind (arith, nat_tests, d.0)) n.0 (more (spaces next.text) [] (next ∷ others) b.0 short b.1))
-          | inr n ↦ absurd (let z = n.1 in cc)
+            | inr n ↦ absurd (let z = n.1 in cc)
           ]
-        | inr d ↦
-            value_of line own (Scalar [] line.number (value_offset line + 1) true, next ∷ others) out d.1
+          | inr d ↦
+              value_of line own (Scalar [] line.number (value_offset line + 1) true, next ∷ others) out d.1
               (subst (λ (rest : List Line). Value line own (Scalar [] line.number (value_offset line + 1) true) rest) is
-                (grammar.empty line own end (subst (λ (rest : List Line). HasNoBlock (spaces line.text) rest) (sym is) (no_block line next others t.0 i.0 d.0))))
+              (grammar.empty line own end (subst (λ (rest : List Line). HasNoBlock (spaces line.text) rest) (sym is) (no_block line next others t.0 i.0 d.0))))
         ]
       ]
     ]
@@ -71,24 +72,24 @@ value_found : (turns : ℕ) → PairsFound turns → (line : Line) (own : List L
 unfolding value_at
 value_found turns more line own out short e =
     elim (chosen (is_line_end (after_colon line)) _ _ (Ok out) e) [
-      inl h ↦ below_found turns more line own (from_content own) out refl h.0 (omega (arith, content_shorter own)) h.1
-    | inr h ↦ grammar.scalar line own out.0 out.1 h.0 h.1
+      | inl h ↦ below_found turns more line own (from_content own) out refl h.0 (omega (arith, content_shorter own)) h.1
+      | inr h ↦ grammar.scalar line own out.0 out.1 h.0 (scalar_found (spaces line.text) line (value_offset line + spaces (after_colon line)) own out h.1)
     ]
 
 named : (before : List Pair) (line : Line) (name : List ℕ) → new_name before line ≡ Ok name → (is_entry (content line) ≡ true) × (is_named (name_of line) before ≡ false) × (name ≡ name_of line)
 unfolding new_name
 named before line name e =
     elim (chosen (not (is_entry (content line))) _ _ (Ok name) e) [
-      inl h ↦ absurd (let z = h.1 in cc)
-    | inr h ↦ elim (chosen (is_named (name_of line) before) _ _ (Ok name) h.1) [
-        inl n ↦ absurd (let z = n.1 in cc)
-      | inr n ↦ (grind (arith, h.0), n.0, (let z = n.1 in cc))
+      | inl h ↦ absurd (let z = h.1 in cc)
+      | inr h ↦ elim (chosen (is_named (name_of line) before) _ _ (Ok name) h.1) [
+        | inl n ↦ absurd (let z = n.1 in cc)
+        | inr n ↦ (grind (arith, h.0), n.0, (let z = n.1 in cc))
       ]
     ]
 
 pairs_step : (turns indent : ℕ) → PairsFound turns → (before : List Pair) (lines : List Line) (out : List Pair × List Line) → length lines ≤ suc turns
-  → (next : Option (Line × List Line)) → next_in indent (from_content lines) ≡ Ok next
-  → pair_then (pairs_at turns indent) (value_at (maps turns) turns) before (from_content lines) next ≡ Ok out → Entries indent before lines out.0 out.1
+    → (next : Option (Line × List Line)) → next_in indent (from_content lines) ≡ Ok next
+    → pair_then (pairs_at turns indent) (value_at (maps turns) turns) before (from_content lines) next ≡ Ok out → Entries indent before lines out.0 out.1
 pairs_step turns indent more before lines out short None n e =
     entries_of indent before lines (before, from_content lines) out e (grammar.entries_end indent before lines (next_none indent (from_content lines) n))
 pairs_step turns indent more before lines out short (Some x) n e =
@@ -101,7 +102,7 @@ pairs_step turns indent more before lines out short (Some x) n e =
     let value = value_found turns more x.0 x.1 b.0 own b.1 in
     let rest : pairs_at turns indent (before ++ pair_of (name_of x.0) b.0.0 x.0 ∷ []) b.0.1 ≡ Ok out = subst (λ (m : List ℕ). pairs_at turns indent (before ++ pair_of m b.0.0 x.0 ∷ []) b.0.1 ≡ Ok out) name.2 b.2 in
     grammar.entry indent before lines x.0 x.1 b.0.0 b.0.1 out.0 out.1 w.0 w.1 name.0 name.1 value
-      (more indent (before ++ pair_of (name_of x.0) b.0.0 x.0 ∷ []) b.0.1 out (omega (arith, value_shorter value, own)) rest)
+    (more indent (before ++ pair_of (name_of x.0) b.0.0 x.0 ∷ []) b.0.1 out (omega (arith, value_shorter value, own)) rest)
 
 pub found_pairs : (turns : ℕ) → PairsFound turns
 found_pairs zero indent before [] out short e = entries_of indent before [] (before, []) out e (grammar.entries_end indent before [] tt)
@@ -125,12 +126,12 @@ root_found lines (first ∷ others) node is e =
     let spelled = found_pairs (length (first ∷ others)) 0 [] (first ∷ others) b.0 (omega arith) b.1 in
     let same : Map b.0.0 first.number 1 ≡ node = (let z = b.2 in cc) in
     subst (λ (n : Node). IsDocument lines n) same
-      (grammar.root lines first others b.0.0 is (subst (λ (rest : List Line). Entries 0 [] (first ∷ others) b.0.0 rest) (nothing_left spelled refl) spelled))
+    (grammar.root lines first others b.0.0 is (subst (λ (rest : List Line). Entries 0 [] (first ∷ others) b.0.0 rest) (nothing_left spelled refl) spelled))
 
 pub found_document : (bytes : List ℕ) (node : Node) → document_of bytes ≡ Ok node → Spells bytes node
 unfolding document_of
 found_document bytes node e =
     elim (chosen (is_utf8 bytes) _ _ (Ok node) e) [
-      inl h ↦ (h.0, root_found (lines_of bytes) (from_content (lines_of bytes)) node refl h.1)
-    | inr h ↦ absurd (let z = h.1 in cc)
+      | inl h ↦ (h.0, root_found (lines_of bytes) (from_content (lines_of bytes)) node refl h.1)
+      | inr h ↦ absurd (let z = h.1 in cc)
     ]

@@ -24,23 +24,23 @@ mutual
   single_found [] x e = cc
   single_found (b ∷ bytes) x e =
       elim (chosen (b == 39) _ _ (Some x) e) [
-        inl h ↦ ap (λ (c : ℕ). c ∷ bytes) (is_quote b h.0) ∙ behind_found bytes x h.1
-      | inr h ↦
-          let f = front_found (b ∷ []) (single_quoted bytes) x h.1 in
-          let more : b ∷ bytes ≡ b ∷ (doubled f.0.0 ++ 39 ∷ f.0.1) = ap (λ (u : List ℕ). b ∷ u) (single_found bytes f.0 f.1) in
-          let kept : doubled (b ∷ f.0.0) ≡ b ∷ doubled f.0.0 = ap (λ (v : Bool). if v then 39 ∷ 39 ∷ doubled f.0.0 else b ∷ doubled f.0.0) h.0 in
-          more ∙ ap (λ (u : List ℕ). u ++ 39 ∷ f.0.1) (sym kept) ∙ ap (λ (u : List ℕ). doubled u ++ 39 ∷ f.0.1) f.2 ∙ ap (λ (u : List ℕ). doubled x.0 ++ 39 ∷ u) f.3
+        | inl h ↦ ap (λ (c : ℕ). c ∷ bytes) (is_quote b h.0) ∙ behind_found bytes x h.1
+        | inr h ↦
+            let f = front_found (b ∷ []) (single_quoted bytes) x h.1 in
+            let more : b ∷ bytes ≡ b ∷ (doubled f.0.0 ++ 39 ∷ f.0.1) = ap (λ (u : List ℕ). b ∷ u) (single_found bytes f.0 f.1) in
+            let kept : doubled (b ∷ f.0.0) ≡ b ∷ doubled f.0.0 = ap (λ (v : Bool). if v then 39 ∷ 39 ∷ doubled f.0.0 else b ∷ doubled f.0.0) h.0 in
+            more ∙ ap (λ (u : List ℕ). u ++ 39 ∷ f.0.1) (sym kept) ∙ ap (λ (u : List ℕ). doubled u ++ 39 ∷ f.0.1) f.2 ∙ ap (λ (u : List ℕ). doubled x.0 ++ 39 ∷ u) f.3
       ]
 
   behind_found : (bytes : List ℕ) (x : Found) → behind_quote bytes ≡ Some x → 39 ∷ bytes ≡ doubled x.0 ++ 39 ∷ x.1
   behind_found [] x e = let same : ([], []) ≡ x = cc in ap (λ (z : Found). doubled z.0 ++ 39 ∷ z.1) same
   behind_found (b ∷ bytes) x e =
       elim (chosen (b == 39) _ _ (Some x) e) [
-        inl h ↦
-          let f = front_found (39 ∷ []) (single_quoted bytes) x h.1 in
-          ap (λ (c : ℕ). 39 ∷ c ∷ bytes) (is_quote b h.0) ∙ ap (λ (u : List ℕ). 39 ∷ 39 ∷ u) (single_found bytes f.0 f.1)
+        | inl h ↦
+            let f = front_found (39 ∷ []) (single_quoted bytes) x h.1 in
+            ap (λ (c : ℕ). 39 ∷ c ∷ bytes) (is_quote b h.0) ∙ ap (λ (u : List ℕ). 39 ∷ 39 ∷ u) (single_found bytes f.0 f.1)
             ∙ ap (λ (u : List ℕ). doubled u ++ 39 ∷ f.0.1) f.2 ∙ ap (λ (u : List ℕ). doubled x.0 ++ 39 ∷ u) f.3
-      | inr h ↦ let same : ([], b ∷ bytes) ≡ x = (let z = h.1 in cc) in ap (λ (z : Found). doubled z.0 ++ 39 ∷ z.1) same
+        | inr h ↦ let same : ([], b ∷ bytes) ≡ x = (let z = h.1 in cc) in ap (λ (z : Found). doubled z.0 ++ 39 ∷ z.1) same
       ]
 
 quote_closes : (tail : List ℕ) → begins 39 tail ≡ false → behind_quote tail ≡ Some ([], tail)
@@ -50,11 +50,11 @@ quote_closes (b ∷ tail) h = ap (λ (v : Bool). if v then with_front (39 ∷ []
 single_one : (b : ℕ) (text tail : List ℕ) (quote : Bool) → (b == 39) ≡ quote → single_quoted (doubled text ++ 39 ∷ tail) ≡ Some (text, tail) → single_quoted (doubled (b ∷ text) ++ 39 ∷ tail) ≡ Some (b ∷ text, tail)
 single_one b text tail true q more =
     ap (λ (v : Bool). single_quoted ((if v then 39 ∷ 39 ∷ doubled text else b ∷ doubled text) ++ 39 ∷ tail)) q
-      ∙ ap (with_front (39 ∷ [])) more ∙ ap (λ (c : ℕ). Some (c ∷ text, tail)) (sym (is_quote b q))
+    ∙ ap (with_front (39 ∷ [])) more ∙ ap (λ (c : ℕ). Some (c ∷ text, tail)) (sym (is_quote b q))
 single_one b text tail false q more =
     ap (λ (v : Bool). single_quoted ((if v then 39 ∷ 39 ∷ doubled text else b ∷ doubled text) ++ 39 ∷ tail)) q
-      ∙ ap (λ (v : Bool). if v then behind_quote (doubled text ++ 39 ∷ tail) else with_front (b ∷ []) (single_quoted (doubled text ++ 39 ∷ tail))) q
-      ∙ ap (with_front (b ∷ [])) more
+    ∙ ap (λ (v : Bool). if v then behind_quote (doubled text ++ 39 ∷ tail) else with_front (b ∷ []) (single_quoted (doubled text ++ 39 ∷ tail))) q
+    ∙ ap (with_front (b ∷ [])) more
 
 pub single_only : (text tail : List ℕ) → begins 39 tail ≡ false → single_quoted (doubled text ++ 39 ∷ tail) ≡ Some (text, tail)
 single_only [] tail h = quote_closes tail h
@@ -138,22 +138,22 @@ mutual
   double_found [] n e line offset text u = cc
   double_found (b ∷ bytes) n e line offset text u =
       elim (chosen (b == 34) _ _ (Some n) e) [
-        inl q ↦ closes_here b bytes line offset n text (is_double b q.0) (let z = q.1 in cc) u
-      | inr q ↦ elim (chosen (b == 92) _ _ (Some n) q.1) [
-          inl s ↦
-            let is = is_backslash b s.0 in
-            subst (λ (c : ℕ). Written n (c ∷ bytes) text) (sym is)
+        | inl q ↦ closes_here b bytes line offset n text (is_double b q.0) (let z = q.1 in cc) u
+        | inr q ↦ elim (chosen (b == 92) _ _ (Some n) q.1) [
+          | inl s ↦
+              let is = is_backslash b s.0 in
+              subst (λ (c : ℕ). Written n (c ∷ bytes) text) (sym is)
               (backslash_found bytes n s.1 line offset text (subst (λ (c : ℕ). unescaped line offset (take n (c ∷ bytes)) ≡ Ok text) is u))
-        | inr s ↦
-            let f = count_found (double_quoted bytes) 1 n s.1 in
-            let v : unescaped line offset (b ∷ take f.0 bytes) ≡ Ok text = subst (λ (k : ℕ). unescaped line offset (take k (b ∷ bytes)) ≡ Ok text) (sym f.2 ∙ sym (one_more f.0)) u in
-            let w : onto b (unescaped line (offset + 1) (take f.0 bytes)) ≡ Ok text =
-                sym (ap (λ (t : Bool). if t then after_backslash line offset (take f.0 bytes) else onto b (unescaped line (offset + 1) (take f.0 bytes))) s.0) ∙ v in
-            let r = bind_ok (unescaped line (offset + 1) (take f.0 bytes)) _ text w in
-            let same : b ∷ r.0 ≡ text = (let z = r.2 in cc) in
-            subst (λ (k : ℕ). Written k (b ∷ bytes) text) f.2
+          | inr s ↦
+              let f = count_found (double_quoted bytes) 1 n s.1 in
+              let v : unescaped line offset (b ∷ take f.0 bytes) ≡ Ok text = subst (λ (k : ℕ). unescaped line offset (take k (b ∷ bytes)) ≡ Ok text) (sym f.2 ∙ sym (one_more f.0)) u in
+              let w : onto b (unescaped line (offset + 1) (take f.0 bytes)) ≡ Ok text =
+              sym (ap (λ (t : Bool). if t then after_backslash line offset (take f.0 bytes) else onto b (unescaped line (offset + 1) (take f.0 bytes))) s.0) ∙ v in
+              let r = bind_ok (unescaped line (offset + 1) (take f.0 bytes)) _ text w in
+              let same : b ∷ r.0 ≡ text = (let z = r.2 in cc) in
+              subst (λ (k : ℕ). Written k (b ∷ bytes) text) f.2
               (subst (λ (t : List ℕ). Written (f.0 + 1) (b ∷ bytes) t) same
-                (lift_byte b f.0 bytes r.0 q.0 s.0 (double_found bytes f.0 f.1 line (offset + 1) r.0 r.1)))
+              (lift_byte b f.0 bytes r.0 q.0 s.0 (double_found bytes f.0 f.1 line (offset + 1) r.0 r.1)))
         ]
       ]
 
@@ -166,15 +166,15 @@ mutual
       let r = bind_ok (unescaped line (offset + 2) (take f.0 bytes)) _ text o.2 in
       let same : o.0 ∷ r.0 ≡ text = (let z = r.2 in cc) in
       subst (λ (k : ℕ). Written k (92 ∷ b ∷ bytes) text) f.2
-        (subst (λ (t : List ℕ). Written (f.0 + 2) (92 ∷ b ∷ bytes) t) same
-          (lift_escape b o.0 f.0 bytes r.0 o.1 (double_found bytes f.0 f.1 line (offset + 2) r.0 r.1)))
+      (subst (λ (t : List ℕ). Written (f.0 + 2) (92 ∷ b ∷ bytes) t) same
+      (lift_escape b o.0 f.0 bytes r.0 o.1 (double_found bytes f.0 f.1 line (offset + 2) r.0 r.1)))
 
 pub double_closes : {written text : List ℕ} → Escapes written text → (after : List ℕ) → double_quoted (written ++ 34 ∷ after) ≡ Some (length written)
 double_closes grammar.end after = refl
 double_closes (grammar.byte b written text q s more) after =
     ap (λ (t : Bool). if t then Some 0 else if b == 92 then behind_backslash (written ++ 34 ∷ after) else option_map (λ n. n + 1) (double_quoted (written ++ 34 ∷ after))) q
-      ∙ ap (λ (t : Bool). if t then behind_backslash (written ++ 34 ∷ after) else option_map (λ n. n + 1) (double_quoted (written ++ 34 ∷ after))) s
-      ∙ ap (option_map (λ n. n + 1)) (double_closes more after) ∙ ap (λ (n : ℕ). Some n) (sym (one_more (length written)))
+    ∙ ap (λ (t : Bool). if t then behind_backslash (written ++ 34 ∷ after) else option_map (λ n. n + 1) (double_quoted (written ++ 34 ∷ after))) s
+    ∙ ap (option_map (λ n. n + 1)) (double_closes more after) ∙ ap (λ (n : ℕ). Some n) (sym (one_more (length written)))
 double_closes (grammar.escape b c written text e more) after =
     ap (option_map (λ n. n + 2)) (double_closes more after) ∙ ap (λ (n : ℕ). Some n) (sym (two_more (length written)))
 
@@ -182,7 +182,7 @@ pub unescaped_only : {written text : List ℕ} → Escapes written text → (lin
 unescaped_only grammar.end line offset = refl
 unescaped_only (grammar.byte b written text q s more) line offset =
     ap (λ (t : Bool). if t then after_backslash line offset written else onto b (unescaped line (offset + 1) written)) s
-      ∙ ap (onto b) (unescaped_only more line (offset + 1))
+    ∙ ap (onto b) (unescaped_only more line (offset + 1))
 unescaped_only (grammar.escape b c written text e more) line offset =
     ap (λ (found : Option ℕ). or_bad line offset found (λ d. onto d (unescaped line (offset + 2) written))) e
-      ∙ ap (onto c) (unescaped_only more line (offset + 2))
+    ∙ ap (onto c) (unescaped_only more line (offset + 2))

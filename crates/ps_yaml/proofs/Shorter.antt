@@ -43,7 +43,7 @@ continued_shorter indent (line ∷ lines) =
     let rest = continued_shorter indent lines in
     let P : List ℕ × List Line → Type 0 = λ r. length r.1 ≤ suc (length lines) in
     on_choice P (is_passed (kind_of line.text)) (continued indent lines) _ (omega (arith, rest))
-      (on_choice P (is_content (kind_of line.text) && nat_lt indent (spaces line.text)) (32 ∷ plain_part (content line) ++ (continued indent lines).0, (continued indent lines).1) ([], line ∷ lines) (omega (arith, rest)) (omega arith))
+    (on_choice P (is_content (kind_of line.text) && nat_lt indent (spaces line.text)) (32 ∷ plain_part (content line) ++ (continued indent lines).0, (continued indent lines).1) ([], line ∷ lines) (omega (arith, rest)) (omega arith))
 
 plain_leaves : (indent : ℕ) (line : Line) (offset : ℕ) (lines : List Line) → Leaves lines (plain_scalar indent line offset lines)
 unfolding plain_scalar
@@ -77,10 +77,10 @@ scalar_leaves indent line offset lines =
     let first = slice_index line.text offset in
     let P : Result (Node × List Line) YamlFault → Type 0 = Leaves lines in
     on_choice P (first == 39) _ _ (single_closed_leaves line offset lines (single_quoted (drop (offset + 1) line.text)))
-      (on_choice P (first == 34) _ _ (double_closed_leaves line offset lines (double_quoted (drop (offset + 1) line.text)))
-      (on_choice P (first == 124 || first == 62) _ _ (block_styled_leaves indent line offset lines (style_of (trimmed (drop offset line.text))))
-      (on_choice P (is_left_out first) _ _ tt
-      (on_choice P (begins_none first) _ _ tt (plain_leaves indent line offset lines)))))
+    (on_choice P (first == 34) _ _ (double_closed_leaves line offset lines (double_quoted (drop (offset + 1) line.text)))
+    (on_choice P (first == 124 || first == 62) _ _ (block_styled_leaves indent line offset lines (style_of (trimmed (drop offset line.text))))
+    (on_choice P (is_left_out first) _ _ tt
+    (on_choice P (begins_none first) _ _ tt (plain_leaves indent line offset lines)))))
 
 pub item_leaves : (line : Line) (lines : List Line) → Leaves lines (item_at line lines)
 unfolding item_at

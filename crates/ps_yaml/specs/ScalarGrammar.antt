@@ -29,13 +29,13 @@ is_mark b = b == 39 || b == 34 || begins_block b || is_left_out b || begins_none
 pub data IsScalar (indent : ℕ) (line : Line) (offset : ℕ) (lines : List Line) : Node → List Line → Type 0 where
   -- what the line gives before a comment, and what deeper lines add; no colon stands before a space or at the end
   plain : (text : List ℕ) → is_mark (slice_index line.text offset) ≡ false → text ≡ plain_part (drop offset line.text) ++ (continued indent lines).0 → has_colon text ≡ false
-    → IsScalar indent line offset lines (Scalar text line.number (offset + 1) true) (continued indent lines).1
+      → IsScalar indent line offset lines (Scalar text line.number (offset + 1) true) (continued indent lines).1
   single : (text after : List ℕ) → drop offset line.text ≡ 39 ∷ (doubled text ++ 39 ∷ after) → is_line_end after ≡ true
-    → IsScalar indent line offset lines (Scalar text line.number (offset + 1) false) lines
+      → IsScalar indent line offset lines (Scalar text line.number (offset + 1) false) lines
   double : (written text after : List ℕ) → drop offset line.text ≡ 34 ∷ (written ++ 34 ∷ after) → Escapes written text → is_line_end after ≡ true
-    → IsScalar indent line offset lines (Scalar text line.number (offset + 1) false) lines
+      → IsScalar indent line offset lines (Scalar text line.number (offset + 1) false) lines
   -- no deeper line follows the mark
   empty_block : (style : Style) → begins_block (slice_index line.text offset) ≡ true → style_of (trimmed (drop offset line.text)) ≡ Some style → block_indent indent lines ≡ None
-    → IsScalar indent line offset lines (Scalar (ended style.ends []) line.number (offset + 1) false) lines
+      → IsScalar indent line offset lines (Scalar (ended style.ends []) line.number (offset + 1) false) lines
   block : (style : Style) (depth count : ℕ) → begins_block (slice_index line.text offset) ≡ true → style_of (trimmed (drop offset line.text)) ≡ Some style → block_indent indent lines ≡ Some depth → block_len indent depth lines ≡ Ok count
-    → IsScalar indent line offset lines (Scalar (ended style.ends (joined style.joint depth (take count lines))) line.number (offset + 1) false) (drop count lines)
+      → IsScalar indent line offset lines (Scalar (ended style.ends (joined style.joint depth (take count lines))) line.number (offset + 1) false) (drop count lines)
