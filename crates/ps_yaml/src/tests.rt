@@ -309,3 +309,40 @@ fn reads_the_rules_of_the_first_example(rt: HostRuntime) -> Result<(), Fail> {
         ],
     )
 }
+
+/// The number of pairs of the document's map.
+fn pairs_of(alloc: Global, text: &[u8]) -> Result<usize, Fail> {
+    if 0xFFFF_FFFF <= text.len() {
+        return Ok(0);
+    }
+    match read_yaml(alloc, text) {
+        Ok(Node::Map { pairs, .. }) => Ok(pairs.len()),
+        Ok(_) => Ok(0),
+        Err(_) => Ok(0),
+    }
+}
+
+#[test]
+fn reads_a_file_of_a_mebibyte(rt: HostRuntime) -> Result<(), Fail> {
+    let mut text = String::new(rt.alloc());
+    for number in 0..80_659u32 {
+        write!(text, "name{number:05}: v\n")?;
+    }
+    write!(text, "# the end")?;
+    assert_eq!(rt; text.len(), 1_048_576);
+    assert_eq!(rt; pairs_of(rt.alloc(), text.as_bytes())?, 80_659);
+    Ok(())
+}
+
+#[test]
+fn reads_the_deepest_file(rt: HostRuntime) -> Result<(), Fail> {
+    let mut text = String::new(rt.alloc());
+    for depth in 0..1_445u32 {
+        for _ in 0..depth {
+            text.push_str(" ")?;
+        }
+        text.push_str("a:\n")?;
+    }
+    assert_eq!(rt; pairs_of(rt.alloc(), text.as_bytes())?, 1);
+    Ok(())
+}
