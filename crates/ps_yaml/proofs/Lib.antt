@@ -14,3 +14,4 @@ pub mod Shorter
 pub mod Found
 pub mod FoundMaps
 pub mod Taken
+pub mod Utf8

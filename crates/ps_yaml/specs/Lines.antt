@@ -1,8 +1,12 @@
 -- The lines of a document.
-use Rattle.std.specs.Prelude.{ℕ, ◌+◌, List, [], ◌∷◌, Bool, true, false, ◌==◌, ◌||◌, ◌&&◌, not, bytes_eq, codes, length, drop, if◌then◌else◌}
+use Rattle.std.specs.Prelude.{◌≡◌, ℕ, ◌+◌, List, [], ◌∷◌, Bool, true, false, ◌==◌, ◌||◌, ◌&&◌, not, bytes_eq, codes, length, drop, if◌then◌else◌}
+use Rattle.std.specs.Str.{is_utf8}
 use Rattle.std.specs.List.{position_or_len, list_all, onto_first}
 use Rattle.ps_yaml.specs.declared.lines.Kind.{Kind}
 use Rattle.ps_yaml.specs.declared.lines.Kind.TheVariants.{Blank, Comment, Tabbed, Content}
+
+abbrev pub IsText : List ℕ → Type 0
+IsText bytes = is_utf8 bytes ≡ true
 
 -- a line's number, from 1, and its bytes without its end
 pub record Line : Type 0 where
