@@ -24,3 +24,7 @@ if_false false x y h = refl
 
 pub bind_at : {A B : Type 0} (read : Result A YamlFault) (next : A → Result B YamlFault) (x : A) → read ≡ Ok x → (read >>= next) ≡ next x
 bind_at read next x e = ap (λ (r : Result _ YamlFault). r >>= next) e
+
+pub decided : (b : Bool) → (b ≡ true) ⊎ (b ≡ false)
+decided true = inl refl
+decided false = inr refl

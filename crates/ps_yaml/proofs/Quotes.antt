@@ -12,7 +12,7 @@ use Rattle.ps_yaml.proofs.Binds.{bind_ok, chosen}
 abbrev Found : Type 0
 Found = List ℕ × List ℕ
 
-front_found : (front : List ℕ) (found : Option Found) (x : Found) → with_front front found ≡ Some x → (y : Found) × (found ≡ Some y) × (front ++ y.0 ≡ x.0) × (y.1 ≡ x.1)
+pub front_found : (front : List ℕ) (found : Option Found) (x : Found) → with_front front found ≡ Some x → (y : Found) × (found ≡ Some y) × (front ++ y.0 ≡ x.0) × (y.1 ≡ x.1)
 front_found front None x e = cc
 front_found front (Some y) x e = let same : (front ++ y.0, y.1) ≡ x = cc in (y, refl, ap (λ (z : Found). z.0) same, ap (λ (z : Found). z.1) same)
 
@@ -115,7 +115,7 @@ count_found : (found : Option ℕ) (k n : ℕ) → option_map (λ (m : ℕ). m +
 count_found None k n e = cc
 count_found (Some m) k n e = (m, refl, (let z = e in cc))
 
-or_found : (line : Line) (offset : ℕ) (found : Option ℕ) (next : ℕ → Result (List ℕ) YamlFault) (text : List ℕ) → or_bad line offset found next ≡ Ok text → (c : ℕ) × (found ≡ Some c) × (next c ≡ Ok text)
+pub or_found : (line : Line) (offset : ℕ) (found : Option ℕ) (next : ℕ → Result (List ℕ) YamlFault) (text : List ℕ) → or_bad line offset found next ≡ Ok text → (c : ℕ) × (found ≡ Some c) × (next c ≡ Ok text)
 or_found line offset None next text e = cc
 or_found line offset (Some c) next text e = (c, refl, e)
 
@@ -186,3 +186,29 @@ unescaped_only (grammar.byte b written text q s more) line offset =
 unescaped_only (grammar.escape b c written text e more) line offset =
     ap (λ (found : Option ℕ). or_bad line offset found (λ d. onto d (unescaped line (offset + 2) written))) e
     ∙ ap (onto c) (unescaped_only more line (offset + 2))
+
+-- the closing quote stands where it is found
+mutual
+  pub double_cut : (bytes : List ℕ) (n : ℕ) → double_quoted bytes ≡ Some n → bytes ≡ take n bytes ++ 34 ∷ drop (n + 1) bytes
+  double_cut [] n e = cc
+  double_cut (b ∷ bytes) n e =
+      elim (chosen (b == 34) _ _ (Some n) e) [
+        inl q ↦
+          let zero_is : 0 ≡ n = (let z = q.1 in cc) in
+          subst (λ (k : ℕ). b ∷ bytes ≡ take k (b ∷ bytes) ++ 34 ∷ drop (k + 1) (b ∷ bytes)) zero_is (ap (λ (c : ℕ). c ∷ bytes) (is_double b q.0))
+      | inr q ↦ elim (chosen (b == 92) _ _ (Some n) q.1) [
+          inl s ↦
+            subst (λ (c : ℕ). c ∷ bytes ≡ take n (c ∷ bytes) ++ 34 ∷ drop (n + 1) (c ∷ bytes)) (sym (is_backslash b s.0)) (backslash_cut bytes n s.1)
+        | inr s ↦
+            let f = count_found (double_quoted bytes) 1 n s.1 in
+            subst (λ (k : ℕ). b ∷ bytes ≡ take k (b ∷ bytes) ++ 34 ∷ drop (k + 1) (b ∷ bytes)) (one_more f.0 ∙ f.2)
+              (ap (λ (u : List ℕ). b ∷ u) (double_cut bytes f.0 f.1) ∙ ap (λ (k : ℕ). b ∷ (take f.0 bytes ++ 34 ∷ drop k (b ∷ bytes))) (past_one f.0))
+        ]
+      ]
+
+  backslash_cut : (bytes : List ℕ) (n : ℕ) → behind_backslash bytes ≡ Some n → 92 ∷ bytes ≡ take n (92 ∷ bytes) ++ 34 ∷ drop (n + 1) (92 ∷ bytes)
+  backslash_cut [] n e = cc
+  backslash_cut (b ∷ bytes) n e =
+      let f = count_found (double_quoted bytes) 2 n e in
+      subst (λ (k : ℕ). 92 ∷ b ∷ bytes ≡ take k (92 ∷ b ∷ bytes) ++ 34 ∷ drop (k + 1) (92 ∷ b ∷ bytes)) (two_more f.0 ∙ f.2)
+        (ap (λ (u : List ℕ). 92 ∷ b ∷ u) (double_cut bytes f.0 f.1) ∙ ap (λ (k : ℕ). 92 ∷ b ∷ (take f.0 bytes ++ 34 ∷ drop k (92 ∷ b ∷ bytes))) (past_two f.0))
