@@ -1,3 +1,4 @@
+pub mod Indents
 pub mod Laws
 pub mod LineEnds
 pub mod Places

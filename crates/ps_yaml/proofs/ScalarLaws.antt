@@ -12,34 +12,11 @@ use Rattle.ps_yaml.specs.Scalars.{bad_scalar, scalar_at, plain_scalar, plain_par
 use Rattle.ps_yaml.specs.ScalarGrammar.{IsScalar, Escapes, doubled, is_mark, begins_block}
 use Rattle.ps_yaml.specs.ScalarGrammar as grammar
 use Rattle.ps_yaml.proofs.Binds.{bind_ok, chosen, read, if_true, if_false, bind_at}
-use Rattle.ps_yaml.proofs.Rests.{taken_more}
+use Rattle.ps_yaml.proofs.Utf8.{byte_at, found_at, past}
 use Rattle.ps_yaml.proofs.Quotes.{single_found, single_only, end_no_quote, double_found, double_closes, unescaped_only}
 
 scalar_of : (indent : ℕ) (line : Line) (offset : ℕ) (lines : List Line) (r s : Node × List Line) → read r ≡ read s → IsScalar indent line offset lines r.0 r.1 → IsScalar indent line offset lines s.0 s.1
 scalar_of indent line offset lines r s e h = let same : r ≡ s = cc in subst (λ (x : Node × List Line). IsScalar indent line offset lines x.0 x.1) same h
-
-nothing_there : (c : ℕ) → 0 < c → (0 == c) ≡ true → ⊥
-nothing_there c h e = grind (arith, nat_tests)
-
-equal_there : (b c : ℕ) → (b == c) ≡ true → b ≡ c
-equal_there b c e = grind (arith, nat_tests)
-
-past : (i : ℕ) → suc (i + 1) ≡ suc i + 1
-past i = omega arith
-
--- a byte that is found at an offset stands there
-byte_at : (xs : List ℕ) (i c : ℕ) → 0 < c → (slice_index xs i == c) ≡ true → drop i xs ≡ c ∷ drop (i + 1) xs
-byte_at [] i c h e = absurd (nothing_there c h e)
-byte_at (x ∷ xs) zero c h e = ap (λ (b : ℕ). b ∷ xs) (equal_there x c e)
-byte_at (x ∷ xs) (suc i) c h e = byte_at xs i c h e ∙ ap (λ (k : ℕ). c ∷ drop k (x ∷ xs)) (past i)
-
--- what stands at an offset is found there
-found_at : (xs : List ℕ) (i b : ℕ) (ys : List ℕ) → drop i xs ≡ b ∷ ys → (slice_index xs i ≡ b) × (drop (i + 1) xs ≡ ys)
-found_at xs i b ys e =
-    let m = taken_more xs i b ys e in
-    let d : drop i xs ≡ get_or xs i 0 ∷ drop (suc i) xs = drop-cons xs i 0 m.2 in
-    let same : get_or xs i 0 ≡ b = cc in
-    (same, m.1)
 
 take_written : (written after : List ℕ) → take (length written) (written ++ 34 ∷ after) ≡ written
 take_written [] after = refl

@@ -1,5 +1,5 @@
 -- That the parts of UTF-8 text that reading cuts out and puts together are UTF-8.
-use Rattle.std.proofs.Common.{◌≡◌, ℕ, zero, suc, ◌+◌, ◌-◌, ◌<◌, ◌≤◌, List, [], ◌∷◌, ◌++◌, Bool, true, false, ◌==◌, ◌||◌, ◌&&◌, not, nat_lt, if◌then◌else◌, length, take, drop, slice_index, get_or, Option, Some, None, option_map, Result, Ok, Err, refl, sym, ap, subst, ◌∙◌, inl, inr, append_assoc, drop-cons, arith}
+use Rattle.std.proofs.Common.{◌≡◌, ℕ, zero, suc, ◌+◌, ◌-◌, ◌<◌, ◌≤◌, List, [], ◌∷◌, ◌++◌, Bool, true, false, ◌==◌, ◌||◌, ◌&&◌, not, nat_lt, if◌then◌else◌, length, take, drop, slice_index, get_or, Option, Some, None, option_map, Result, Ok, Err, refl, sym, ap, subst, ◌∙◌, inl, inr, append_assoc, zero-add, drop-cons, arith}
 use Rattle.std.specs.Str.{is_utf8, IsUtf8}
 use Rattle.std.specs.List.{prefix_len, position, position_or_len}
 use Rattle.std.proofs.lemmas.List.{take-append-drop}
@@ -8,10 +8,11 @@ use Rattle.std.proofs.Math.Seq.{take-suc}
 use Rattle.std.proofs.lemmas.Str.{IsUtf8-from_is_utf8, is_utf8-from_IsUtf8, IsUtf8-append, IsUtf8-take, IsUtf8-drop, IsUtf8-nil, IsCharBoundary-before_ascii, IsCharBoundary-after_ascii, IsUtf8-from_ascii}
 use Rattle.std.proofs.lemmas.Bool.Decides.{nat_tests}
 use Rattle.std.proofs.lemmas.Grind.{common_steps}
-use Rattle.ps_yaml.specs.Lines.{IsText, Line, begins, spaces, content, is_other, is_feed, without_return}
+use Rattle.ps_yaml.specs.Lines.{IsText, Line, begins, spaces, content, is_other, is_feed, is_space_or_tab, without_return}
 use Rattle.ps_yaml.specs.declared.faults.YamlFault.{YamlFault}
 use Rattle.ps_yaml.specs.Faults.{◌>>=◌}
-use Rattle.ps_yaml.specs.Scalars.{before_comment, single_quoted, behind_quote, with_front, double_quoted, escaped, unescaped, after_backslash, onto}
+use Rattle.ps_yaml.specs.Trees.{is_entry, is_item, name_len, name_of, value_offset, item_offset}
+use Rattle.ps_yaml.specs.Scalars.{is_empty, is_break, unindented, before_comment, single_quoted, behind_quote, with_front, double_quoted, escaped, unescaped, after_backslash, onto}
 use Rattle.ps_yaml.proofs.Binds.{bind_ok, chosen, decided}
 use Rattle.ps_yaml.proofs.Quotes.{front_found, or_found, double_cut}
 use Rattle.ps_yaml.proofs.Rests.{taken_more}
@@ -199,3 +200,93 @@ unescaped_text bytes line offset t h e = unescaped_part bytes [] line offset t h
 -- what stands before the closing quote
 pub double_text : (bytes : List ℕ) (n : ℕ) → IsText bytes → double_quoted bytes ≡ Some n → IsText (take n bytes)
 double_text bytes n h e = (cut (take n bytes) 34 (drop (n + 1) bytes) (omega arith) (subst (λ (u : List ℕ). IsText u) (double_cut bytes n e) h)).0
+
+-- ---- block lines
+
+space_or_tab_low : (b : ℕ) → is_space_or_tab b ≡ true → b < 128
+space_or_tab_low b h = grind (arith, nat_tests)
+
+pub unindented_text : (n : ℕ) (t : List ℕ) → IsText t → IsText (unindented n t)
+unindented_text zero t h = h
+unindented_text (suc n) [] h = h
+unindented_text (suc n) (b ∷ t) h =
+    elim (decided (is_space_or_tab b)) [
+      inl y ↦ subst (λ (v : Bool). IsText (if v then unindented n t else b ∷ t)) (sym y) (unindented_text n t (past_byte b t (space_or_tab_low b y) h))
+    | inr s ↦ subst (λ (v : Bool). IsText (if v then unindented n t else b ∷ t)) (sym s) h
+    ]
+
+-- ---- entries and items
+
+drop_nil : (n : ℕ) → drop {A = ℕ} n [] ≡ []
+drop_nil zero = refl
+drop_nil (suc n) = refl
+
+drop_drop : (i k : ℕ) (t : List ℕ) → drop k (drop i t) ≡ drop (i + k) t
+drop_drop zero k t = ap (λ (n : ℕ). drop n t) (sym (zero-add k))
+drop_drop (suc i) k [] = drop_nil k ∙ sym (drop_nil (suc i + k))
+drop_drop (suc i) k (b ∷ t) = let one : suc (i + k) ≡ suc i + k = omega arith in drop_drop i k t ∙ ap (λ (n : ℕ). drop n (b ∷ t)) one
+
+begun_by : (b : ℕ) (xs : List ℕ) → begins b xs ≡ true → xs ≡ b ∷ drop 1 xs
+begun_by b [] h = cc
+begun_by b (x ∷ xs) h = ap (λ (c : ℕ). c ∷ xs) (equal_bytes x b h)
+
+colon_there : (a b c : Bool) → (a && b && c) ≡ true → b ≡ true
+colon_there a b c h = grind arith
+
+dash_there : (a b c d : Bool) → (a && b && c && d) ≡ true → a ≡ true
+dash_there a b c d h = grind arith
+
+-- both sides of the colon
+sides_text : (text : List ℕ) → is_entry text ≡ true → IsText text → IsText (take (name_len text) text) × IsText (drop (name_len text + 1) text)
+unfolding is_entry
+sides_text text e h =
+    let n = name_len text in
+    let colon : drop n text ≡ 58 ∷ drop 1 (drop n text) = begun_by 58 (drop n text) (colon_there (nat_lt 0 n) (begins 58 (drop n text)) (is_break (drop 1 (drop n text))) e) in
+    let whole : text ≡ take n text ++ 58 ∷ drop 1 (drop n text) = sym (take-append-drop n text) ∙ ap (λ (u : List ℕ). take n text ++ u) colon in
+    let c = cut (take n text) 58 (drop 1 (drop n text)) (omega arith) (subst (λ (u : List ℕ). IsText u) whole h) in
+    (c.0, subst (λ (u : List ℕ). IsText u) (drop_drop n 1 text) c.1)
+
+pub name_text : (line : Line) → is_entry (content line) ≡ true → IsText line.text → IsText (name_of line)
+unfolding name_of
+name_text line e h = (sides_text (content line) e (content_text line h)).0
+
+pub value_text : (line : Line) → is_entry (content line) ≡ true → IsText line.text → IsText (drop (value_offset line) line.text)
+unfolding content
+value_text line e h =
+    let s = spaces line.text in
+    let n = name_len (content line) in
+    let sum : s + (n + 1) ≡ s + n + 1 = omega arith in
+    subst (λ (u : List ℕ). IsText u) (drop_drop s (n + 1) line.text ∙ ap (λ (k : ℕ). drop k line.text) sum) (sides_text (content line) e (content_text line h)).1
+
+pub behind_spaces : (text : List ℕ) (offset : ℕ) → IsText (drop offset text) → IsText (drop (offset + spaces (drop offset text)) text)
+behind_spaces text offset h = subst (λ (u : List ℕ). IsText u) (drop_drop offset (spaces (drop offset text)) text) (spaces_text (drop offset text) h)
+
+pub item_text : (line : Line) → is_item (content line) ≡ true → IsText line.text → IsText (drop (item_offset line) line.text)
+unfolding content is_item
+item_text line e h =
+    let c = drop (spaces line.text) line.text in
+    let s = spaces (drop 1 c) in
+    let after = drop s (drop 1 c) in
+    let dash : c ≡ 45 ∷ drop 1 c = begun_by 45 c (dash_there (begins 45 c) (nat_lt 0 s) (not (is_empty after)) (not (begins 35 after)) e) in
+    let rest : IsText (drop 1 c) = past_byte 45 (drop 1 c) (omega arith) (subst (λ (u : List ℕ). IsText u) dash (content_text line h)) in
+    subst (λ (u : List ℕ). IsText u) (ap (drop s) (drop_drop (spaces line.text) 1 line.text) ∙ drop_drop (spaces line.text + 1) s line.text) (spaces_text (drop 1 c) rest)
+
+same_byte : (b c : ℕ) → b ≡ c → (b == c) ≡ true
+same_byte b c e = grind (arith, nat_tests)
+
+nothing_there : (c : ℕ) → 0 < c → (0 == c) ≡ true → ⊥
+nothing_there c h e = grind (arith, nat_tests)
+
+pub past : (i : ℕ) → suc (i + 1) ≡ suc i + 1
+past i = omega arith
+
+-- a byte that is found at an offset stands there
+pub byte_at : (xs : List ℕ) (i c : ℕ) → 0 < c → (slice_index xs i == c) ≡ true → drop i xs ≡ c ∷ drop (i + 1) xs
+byte_at [] i c h e = absurd (nothing_there c h e)
+byte_at (x ∷ xs) zero c h e = ap (λ (b : ℕ). b ∷ xs) (equal_bytes x c e)
+byte_at (x ∷ xs) (suc i) c h e = byte_at xs i c h e ∙ ap (λ (k : ℕ). c ∷ drop k (x ∷ xs)) (past i)
+
+-- behind an ASCII byte
+pub behind_byte : (text : List ℕ) (offset c : ℕ) → 0 < c → c < 128 → slice_index text offset ≡ c → IsText (drop offset text) → IsText (drop (offset + 1) text)
+behind_byte text offset c some low is h =
+    past_byte c (drop (offset + 1) text) low (subst (λ (u : List ℕ). IsText u) (byte_at text offset c some (same_byte (slice_index text offset) c is)) h)

@@ -1,5 +1,5 @@
 -- Scalars: what a text means that begins at an offset of a line, and which lines it takes.
-use Rattle.std.specs.Prelude.{ℕ, ◌+◌, ◌-◌, List, [], ◌∷◌, ◌++◌, Bool, true, false, ◌==◌, ◌||◌, ◌&&◌, nat_lt, nat_le, length, take, drop, slice_index, Option, Some, None, option_map, Result, Ok, Err, bytes_eq, codes, if◌then◌else◌}
+use Rattle.std.specs.Prelude.{ℕ, zero, suc, ◌+◌, ◌-◌, List, [], ◌∷◌, ◌++◌, Bool, true, false, ◌==◌, ◌||◌, ◌&&◌, nat_lt, nat_le, length, take, drop, slice_index, Option, Some, None, option_map, Result, Ok, Err, bytes_eq, codes, if◌then◌else◌}
 use Rattle.std.specs.List.{suffix_len, flat_map}
 use Rattle.ps_yaml.specs.declared.lines.Kind.{Kind}
 use Rattle.ps_yaml.specs.declared.lines.Kind.TheVariants.{Blank, Comment, Tabbed, Content}
@@ -9,7 +9,7 @@ use Rattle.ps_yaml.specs.declared.faults.YamlFault.TheVariants.{BadIndent, BadSc
 use Rattle.ps_yaml.specs.declared.nodes.Node.{Node}
 use Rattle.ps_yaml.specs.declared.nodes.Node.TheVariants.{Scalar}
 use Rattle.ps_yaml.specs.Faults.{◌>>=◌}
-use Rattle.ps_yaml.specs.Lines.{Line, begins, is_space, spaces, content, kind_of, is_passed}
+use Rattle.ps_yaml.specs.Lines.{Line, begins, is_space, is_space_or_tab, spaces, content, kind_of, is_passed}
 
 -- what stands at an offset of a line is no scalar
 abbrev pub bad_scalar : {X : Type 0} → Line → ℕ → Result X YamlFault
@@ -192,10 +192,16 @@ block_len indent depth (line ∷ lines) =
     else if nat_lt indent (spaces line.text) then Err (BadIndent line.number 1)
     else Ok 0
 
+-- a line without the block's indent: at most so many spaces and tabs at its front are left out
+abbrev pub unindented : ℕ → List ℕ → List ℕ
+unindented zero text = text
+unindented (suc depth) [] = []
+unindented (suc depth) (b ∷ text) = if is_space_or_tab b then unindented depth text else b ∷ text
+
 -- the lines without the block's indent, joined
 abbrev pub joined : ℕ → ℕ → List Line → List ℕ
 joined joint depth [] = []
-joined joint depth (line ∷ lines) = drop depth line.text ++ flat_map (λ (l : Line). joint ∷ drop depth l.text) lines
+joined joint depth (line ∷ lines) = unindented depth line.text ++ flat_map (λ (l : Line). joint ∷ unindented depth l.text) lines
 
 abbrev pub ended : Bool → List ℕ → List ℕ
 ended ends text = if ends then text ++ 10 ∷ [] else text

@@ -180,10 +180,17 @@ fn kind_of(text: &[u8], indent: usize) -> Kind
     kind_behind_indent(&text[indent..])
 }
 
+/// Whether a byte is a space or a tab.
+pub(crate) fn is_space_or_tab(byte: u8) -> bool
+    ensures { result ≡ words.is_space_or_tab byte }
+{
+    byte == b' ' || byte == b'\t'
+}
+
 fn is_all_blank(text: &[u8]) -> bool
     ensures { result ≡ list_all words.is_space_or_tab text.now }
 {
-    text.iter().all(|b| *b == b' ' || *b == b'\t')
+    text.iter().all(|b| is_space_or_tab(*b))
 }
 
 fn kind_behind_indent(text: &[u8]) -> Kind

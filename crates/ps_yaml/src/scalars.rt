@@ -4,7 +4,7 @@ ghost use Rattle.ps_yaml.specs.Faults.{Reads};
 ghost use Rattle.ps_yaml.specs.Lines as lines_of;
 ghost use Rattle.ps_yaml.specs.Scalars as words;
 
-use crate::lines::{Kind, Line, begins, spaces};
+use crate::lines::{Kind, Line, begins, is_space_or_tab, spaces};
 use crate::{Node, YamlFault};
 use ps_values::{Memory, Text, TextFault};
 use std::alloc::Global;
@@ -357,12 +357,31 @@ fn block_len(indent: usize, depth: usize, lines: &[Line]) -> Result<usize, YamlF
     Ok(kept)
 }
 
-/// Adds the bytes of a line that stand behind a block's indent.
-fn push_line(text: &mut Vec<u8>, depth: usize, line: &Line) -> Result<(), Memory>
-    ensures { OnOk result (text.new.items ≡ text.old.items ++ drop depth line.now.text) }
+/// The text without the spaces and tabs that it begins with, at most `depth` of them.
+#[tactic(auto, using(crate::proofs::Indents::unindented_more, crate::proofs::Indents::unindented_stop, crate::proofs::Indents::unindented_end, crate::proofs::Indents::unindented_done))]
+fn unindented(depth: usize, text: &[u8]) -> &[u8]
+    ensures { result.now ≡ words.unindented depth text.now }
 {
-    let bytes = line.text();
-    text.extend_from_slice(&bytes[depth.min(bytes.len())..])?;
+    let mut left = depth;
+    let mut rest = text;
+    'indent: while 0 < left {
+        let Some((first, others)) = rest.split_first() else {
+            return rest;
+        };
+        if !is_space_or_tab(*first) {
+            return rest;
+        }
+        rest = others;
+        left -= 1;
+    }
+    rest
+}
+
+/// Adds a line without a block's indent.
+fn push_line(text: &mut Vec<u8>, depth: usize, line: &Line) -> Result<(), Memory>
+    ensures { OnOk result (text.new.items ≡ text.old.items ++ words.unindented depth line.now.text) }
+{
+    text.extend_from_slice(unindented(depth, line.text()))?;
     Ok(())
 }
 

@@ -1,7 +1,8 @@
-use Rattle.std.proofs.Common.{◌≡◌, ◌++◌, ◌∷◌, drop, take}
+use Rattle.std.proofs.Common.{◌≡◌, ◌++◌, ◌∷◌, take}
 use Rattle.std.specs.List.{flat_map}
 use Rattle.ps_yaml.specs.Lines.{Line}
+use Rattle.ps_yaml.specs.Scalars.{unindented}
 use Rattle.ps_yaml.proofs.scalars.joined.Given as goal
 
 abbrev pub invariant-lines : goal.invariant-lines
-invariant-lines l = l.text.items ≡ l.initial.text.items ++ flat_map (λ (x : Line). l.joint ∷ drop l.depth x.text) (take l.line-index l.others)
+invariant-lines l = l.text.items ≡ l.initial.text.items ++ flat_map (λ (x : Line). l.joint ∷ unindented l.depth x.text) (take l.line-index l.others)
