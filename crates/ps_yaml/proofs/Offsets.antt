@@ -1,5 +1,5 @@
 -- That the scalars of items and entries begin within their lines.
-use Rattle.std.proofs.Common.{◌≡◌, ℕ, ◌<◌, ◌≤◌, List, [], ◌∷◌, Bool, true, false, not, ◌==◌, ◌&&◌, ◌||◌, nat_lt, length, drop, ap, arith}
+use Rattle.std.proofs.Common.{◌+◌, ◌≡◌, ℕ, ◌<◌, ◌≤◌, List, [], ◌∷◌, Bool, true, false, not, ◌==◌, ◌&&◌, ◌||◌, nat_lt, length, drop, ap, arith}
 use Rattle.std.proofs.lemmas.Bool.Decides.{nat_tests}
 use Rattle.std.proofs.lemmas.List.{length-drop}
 use Rattle.ps_yaml.specs.Lines.{Line, begins, spaces, content}
@@ -46,3 +46,6 @@ unfolding is_line_end
 scalar_within text h =
     let e : is_empty (drop (spaces text) text) ≡ false = former (is_empty (drop (spaces text) text)) (nat_lt 0 (spaces text) && begins 35 (drop (spaces text) text)) h in
     within text (spaces text) (some (drop (spaces text) text) (ap not e))
+
+pub scalar_place : (line : Line) → is_line_end (drop (value_offset line) line.text) ≡ false → value_offset line + spaces (drop (value_offset line) line.text) < length line.text
+scalar_place line h = omega (arith, scalar_within (drop (value_offset line) line.text) h, length-drop (value_offset line) line.text)

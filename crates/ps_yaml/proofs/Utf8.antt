@@ -51,6 +51,12 @@ ascii c low = is_utf8-from_IsUtf8 (c ∷ []) (IsUtf8-from_ascii (c ∷ []) (λ i
 pub none : IsText []
 none = is_utf8-from_IsUtf8 [] IsUtf8-nil
 
+pub with_byte : (a : List ℕ) (c : ℕ) → c < 128 → IsText a → IsText (a ++ c ∷ [])
+with_byte a c low h = joined a (c ∷ []) h (ascii c low)
+
+pub not_utf8 : (bytes : List ℕ) → IsText bytes → ¬ IsUtf8 bytes → ⊥
+not_utf8 bytes h wrong = wrong (IsUtf8-from_is_utf8 bytes h)
+
 pub past_byte : (c : ℕ) (b : List ℕ) → c < 128 → IsText (c ∷ b) → IsText b
 past_byte c b low h = (cut [] c b low h).1
 
@@ -237,7 +243,7 @@ dash_there : (a b c d : Bool) → (a && b && c && d) ≡ true → a ≡ true
 dash_there a b c d h = grind arith
 
 -- both sides of the colon
-sides_text : (text : List ℕ) → is_entry text ≡ true → IsText text → IsText (take (name_len text) text) × IsText (drop (name_len text + 1) text)
+pub sides_text : (text : List ℕ) → is_entry text ≡ true → IsText text → IsText (take (name_len text) text) × IsText (drop (name_len text + 1) text)
 unfolding is_entry
 sides_text text e h =
     let n = name_len text in

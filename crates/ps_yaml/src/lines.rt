@@ -1,4 +1,4 @@
-ghost use Rattle.std.specs.Prelude.{◌≡◌, ◌+◌, ◌<◌, ◌≤◌, [], ◌∷◌, length, drop, MatchOption, IfOk, IfSome, IsTrue};
+ghost use Rattle.std.specs.Prelude.{◌≡◌, ◌+◌, ◌<◌, ◌≤◌, [], ◌∷◌, length, take, drop, MatchOption, IfOk, IfSome, IsTrue};
 ghost use Rattle.std.specs.List.{list_all, position};
 ghost use Rattle.ps_yaml.specs.declared.faults.YamlFault.TheVariants as faults;
 ghost use Rattle.ps_yaml.specs.Lines as words;
@@ -32,13 +32,13 @@ pub(crate) struct Line {
 
 impl Model for Line {
     ghost use Rattle.std.specs.Prelude.{◌<◌, ◌≤◌, ◌≡◌, length};
-    ghost use Rattle.ps_yaml.specs.Lines.{Line as TextLine, spaces, kind_of};
+    ghost use Rattle.ps_yaml.specs.Lines.{Line as TextLine, IsText, spaces, kind_of};
 
     ghost Value = { TextLine };
 
     ghost view = { λ line. record { number = line.number; text = line.text.items } };
 
-    ghost invariant = { λ line. (line.indent ≡ spaces line.text.items) × (line.kind ≡ kind_of line.text.items) × (line.indent ≤ length line.text.items) × (length line.text.items < 4294967295) };
+    ghost invariant = { λ line. (line.indent ≡ spaces line.text.items) × (line.kind ≡ kind_of line.text.items) × (line.indent ≤ length line.text.items) × (length line.text.items < 4294967295) × IsText line.text.items };
 }
 
 impl Line {
@@ -72,6 +72,7 @@ impl Line {
     pub(crate) fn text(&self) -> &[u8]
         ensures value { result.now ≡ self.now.text }
         ensures short { length self.now.text < 4294967295 }
+        ensures utf8 { words.IsText self.now.text }
     {
         self.text.as_slice()
     }
@@ -79,9 +80,10 @@ impl Line {
     /// Its bytes behind the indent.
     #[tactic(auto, unfolding(crate::specs::Lines::content))]
     pub(crate) fn content(&self) -> &[u8]
-        ensures { result.now ≡ words.content self.now }
+        ensures value { result.now ≡ words.content self.now }
+        ensures utf8 { words.IsText result.now }
     {
-        &self.text()[self.indent()..]
+        past(self.text(), self.indent())
     }
 
     /// Its number, from 1.
@@ -160,6 +162,22 @@ fn first_other(text: &[u8]) -> Option<usize>
     text.iter().position(|b| *b != b' ')
 }
 
+/// What follows so many bytes.
+pub(crate) fn past(text: &[u8], count: usize) -> &[u8]
+    requires { count ≤ length text.now }
+    ensures { result.now ≡ drop count text.now }
+{
+    &text[count..]
+}
+
+/// The first bytes of a text.
+pub(crate) fn front(text: &[u8], count: usize) -> &[u8]
+    requires { count ≤ length text.now }
+    ensures { result.now ≡ take count text.now }
+{
+    &text[..count]
+}
+
 /// Whether the first byte is there and is this one.
 pub(crate) fn begins(byte: u8, text: &[u8]) -> bool
     ensures { result ≡ words.begins byte text.now }
@@ -212,7 +230,8 @@ fn kind_behind_indent(text: &[u8]) -> Kind
 
 /// A line of these bytes.
 fn line_of(alloc: Global, number: u32, text: &[u8]) -> Result<Line, Memory>
-    requires { length text.now < 4294967295 }
+    requires short { length text.now < 4294967295 }
+    requires utf8 { words.IsText text.now }
     ensures { IfOk result (λ line. line ≡ record { number = number; text = text.now }) }
 {
     let indent = spaces(text);
@@ -266,6 +285,7 @@ fn line_feed(text: &[u8]) -> Option<usize>
 fn cut_line(text: &[u8]) -> Option<(&[u8], &[u8])>
     ensures cut { MatchOption result (words.split_lines text.now ≡ text.now ∷ []) (λ x. words.split_lines text.now ≡ x.0.now ∷ words.split_lines x.1.now) }
     ensures shorter { IfSome result (λ x. length x.0.now + length x.1.now < length text.now) }
+    ensures utf8 { words.IsText text.now → IfSome result (λ x. words.IsText x.0.now × words.IsText x.1.now) }
 {
     let end = line_feed(text)?;
     let (line, after) = text.split_at(end);
@@ -285,7 +305,8 @@ pub(crate) fn past_first(text: &[u8]) -> &[u8]
 
 /// All lines of a text.
 pub(crate) fn split_lines(alloc: Global, bytes: &[u8]) -> Result<Vec<Line>, Memory>
-    requires { length bytes.now < 4294967295 }
+    requires short { length bytes.now < 4294967295 }
+    requires utf8 { words.IsText bytes.now }
     ensures { IfOk result (λ lines. lines.items ≡ words.numbered 1 (words.split_lines bytes.now)) }
 {
     let mut lines = Vec::new(alloc);

@@ -1,15 +1,16 @@
-ghost use Rattle.std.specs.Prelude.{◌≡◌, ◌+◌, ◌<◌, ◌≤◌, ◌==◌, ◌&&◌, ◌++◌, nat_lt, length, take, drop, option_map, IfOk, IfSome, OnOk};
+ghost use Rattle.std.specs.Prelude.{◌≡◌, ◌+◌, ◌<◌, ◌≤◌, ◌==◌, ◌&&◌, ◌++◌, ◌∷◌, nat_lt, length, take, drop, slice_index, option_map, IfOk, IfSome, OnOk};
 ghost use Rattle.ps_yaml.specs.declared.nodes.Node.TheVariants as nodes;
 ghost use Rattle.ps_yaml.specs.Faults.{Reads};
 ghost use Rattle.ps_yaml.specs.Lines as lines_of;
 ghost use Rattle.ps_yaml.specs.Scalars as words;
 
-use crate::lines::{Kind, Line, begins, is_space_or_tab, spaces};
+use crate::lines::{Kind, Line, begins, front, is_space_or_tab, past, spaces};
 use crate::{Node, YamlFault};
 use ps_values::{Memory, Text, TextFault};
 use std::alloc::Global;
 
 /// The node of a text that begins at an offset of a line.
+#[tactic(auto, using(crate::proofs::Utf8::not_utf8))]
 pub(crate) fn scalar(
     alloc: Global,
     line: &Line,
@@ -17,7 +18,8 @@ pub(crate) fn scalar(
     plain: bool,
     text: &[u8],
 ) -> Result<Node, Memory>
-    requires { offset ≤ length line.now.text }
+    requires place { offset ≤ length line.now.text }
+    requires utf8 { lines_of.IsText text.now }
     ensures { IfOk result (λ node. node ≡ nodes.Scalar text.now line.now.number (offset + 1) plain) }
 {
     match Text::from_bytes(alloc, text) {
@@ -27,7 +29,8 @@ pub(crate) fn scalar(
             column: line.column(offset),
             plain,
         }),
-        Err(_) => Err(Memory),
+        Err(TextFault::NotUtf8) => unreachable!(),
+        Err(TextFault::Memory) => Err(Memory),
     }
 }
 
@@ -74,7 +77,8 @@ fn before_comment(text: &[u8]) -> &[u8]
 /// The text without the spaces at its end.
 #[tactic(auto, unfolding(crate::specs::Scalars::trimmed))]
 fn trimmed(text: &[u8]) -> &[u8]
-    ensures { result.now ≡ words.trimmed text.now }
+    ensures value { result.now ≡ words.trimmed text.now }
+    ensures utf8 { lines_of.IsText text.now → lines_of.IsText result.now }
 {
     let mut end = text.len();
     'spaces: while 0 < end && text[end - 1] == b' ' {
@@ -86,7 +90,8 @@ fn trimmed(text: &[u8]) -> &[u8]
 /// What a line gives to a plain scalar.
 #[tactic(auto, unfolding(crate::specs::Scalars::plain_part))]
 fn plain_part(text: &[u8]) -> &[u8]
-    ensures { result.now ≡ words.plain_part text.now }
+    ensures value { result.now ≡ words.plain_part text.now }
+    ensures utf8 { lines_of.IsText text.now → lines_of.IsText result.now }
 {
     trimmed(before_comment(text))
 }
@@ -115,9 +120,22 @@ fn continues(line: &Line, indent: usize) -> bool
     }
 }
 
+/// Adds a space and what a line gives to a plain scalar.
+#[tactic(auto, using(crate::proofs::Utf8::with_byte, crate::proofs::Utf8::joined))]
+fn push_part(text: &mut Vec<u8>, part: &[u8]) -> Result<(), Memory>
+    requires { lines_of.IsText part.now }
+    ensures value { OnOk result (text.new.items ≡ text.old.items ++ 32 ∷ part.now) }
+    ensures utf8 { lines_of.IsText text.old.items → OnOk result (lines_of.IsText text.new.items) }
+{
+    text.push(b' ')?;
+    text.extend_from_slice(part)?;
+    Ok(())
+}
+
 /// Adds the lines that continue a plain scalar, and answers the lines after them.
 fn continued<'l>(indent: usize, lines: &'l [Line], text: &mut Vec<u8>) -> Result<&'l [Line], Memory>
-    ensures { IfOk result (λ rest. (text.new.items ≡ text.old.items ++ (words.continued indent lines.now).0) × (rest.now ≡ (words.continued indent lines.now).1)) }
+    ensures value { IfOk result (λ rest. (text.new.items ≡ text.old.items ++ (words.continued indent lines.now).0) × (rest.now ≡ (words.continued indent lines.now).1)) }
+    ensures utf8 { lines_of.IsText text.old.items → OnOk result (lines_of.IsText text.new.items) }
 {
     let mut place = 0;
     'lines: while place < lines.len() {
@@ -129,8 +147,7 @@ fn continued<'l>(indent: usize, lines: &'l [Line], text: &mut Vec<u8>) -> Result
         if !continues(line, indent) {
             break;
         }
-        text.push(b' ')?;
-        text.extend_from_slice(plain_part(line.content()))?;
+        push_part(text, plain_part(line.content()))?;
         place += 1;
     }
     Ok(&lines[place..])
@@ -144,7 +161,8 @@ fn plain_scalar<'l>(
     offset: usize,
     lines: &'l [Line],
 ) -> Result<(Node, &'l [Line]), YamlFault>
-    requires { offset ≤ length line.now.text }
+    requires place { offset ≤ length line.now.text }
+    requires utf8 { lines_of.IsText (drop offset line.now.text) }
     ensures { Reads (λ x. (x.0, x.1.now)) result (words.plain_scalar indent line.now offset lines.now) }
 {
     let mut text = Vec::new(alloc);
@@ -168,6 +186,7 @@ fn closed<'l>(
 ) -> Result<(Node, &'l [Line]), YamlFault>
     requires place { offset ≤ length line.now.text }
     requires within { length after.now ≤ length line.now.text }
+    requires utf8 { lines_of.IsText text.now }
     ensures { Reads (λ x. (x.0, x.1.now)) result (words.closed line.now offset lines.now text.now after.now) }
 {
     if !is_line_end(after) {
@@ -208,10 +227,12 @@ fn single_scalar<'l>(
     offset: usize,
     lines: &'l [Line],
 ) -> Result<(Node, &'l [Line]), YamlFault>
-    requires { offset < length line.now.text }
+    requires place { offset < length line.now.text }
+    requires quote { slice_index line.now.text offset ≡ 39 }
+    requires utf8 { lines_of.IsText (drop offset line.now.text) }
     ensures { Reads (λ x. (x.0, x.1.now)) result (words.single_scalar line.now offset lines.now) }
 {
-    match single_quoted(alloc, &line.text()[offset + 1..])? {
+    match single_quoted(alloc, past(line.text(), offset + 1))? {
         Some((text, after)) => closed(alloc, line, offset, lines, &text, after),
         None => Err(line.bad_scalar(offset)),
     }
@@ -288,14 +309,16 @@ fn double_scalar<'l>(
     offset: usize,
     lines: &'l [Line],
 ) -> Result<(Node, &'l [Line]), YamlFault>
-    requires { offset < length line.now.text }
+    requires place { offset < length line.now.text }
+    requires quote { slice_index line.now.text offset ≡ 34 }
+    requires utf8 { lines_of.IsText (drop offset line.now.text) }
     ensures { Reads (λ x. (x.0, x.1.now)) result (words.double_scalar line.now offset lines.now) }
 {
-    let body = &line.text()[offset + 1..];
+    let body = past(line.text(), offset + 1);
     let Some(taken) = double_quoted(body) else {
         return Err(line.bad_scalar(offset));
     };
-    let text = unescaped(alloc, line, offset + 1, &body[..taken])?;
+    let text = unescaped(alloc, line, offset + 1, front(body, taken))?;
     closed(alloc, line, offset, lines, &text, &body[taken + 1..])
 }
 
@@ -308,7 +331,8 @@ struct Style {
 
 /// The style of a block mark.
 fn style_of(mark: &[u8]) -> Option<Style>
-    ensures { result ≡ words.style_of mark.now }
+    ensures value { result ≡ words.style_of mark.now }
+    ensures ascii { IfSome result (λ style. style.joint < 128) }
 {
     let (joint, ends) = match mark {
         b"|" => (b'\n', true),
@@ -377,33 +401,47 @@ fn unindented(depth: usize, text: &[u8]) -> &[u8]
     rest
 }
 
-/// Adds a line without a block's indent.
-fn push_line(text: &mut Vec<u8>, depth: usize, line: &Line) -> Result<(), Memory>
-    ensures { OnOk result (text.new.items ≡ text.old.items ++ words.unindented depth line.now.text) }
+/// A line without a block's indent.
+fn first_line(alloc: Global, depth: usize, line: &Line) -> Result<Vec<u8>, Memory>
+    ensures value { IfOk result (λ text. text.items ≡ words.unindented depth line.now.text) }
+    ensures utf8 { IfOk result (λ text. lines_of.IsText text.items) }
 {
+    Ok(Vec::from_slice(alloc, unindented(depth, line.text()))?)
+}
+
+/// Adds a further line without a block's indent.
+fn push_line(text: &mut Vec<u8>, joint: u8, depth: usize, line: &Line) -> Result<(), Memory>
+    requires { joint < 128 }
+    ensures value { OnOk result (text.new.items ≡ text.old.items ++ joint ∷ words.unindented depth line.now.text) }
+    ensures utf8 { lines_of.IsText text.old.items → OnOk result (lines_of.IsText text.new.items) }
+{
+    text.push(joint)?;
     text.extend_from_slice(unindented(depth, line.text()))?;
     Ok(())
 }
 
 /// The lines without a block's indent, joined.
+#[tactic(auto, using(crate::proofs::Utf8::none))]
 fn joined(alloc: Global, joint: u8, depth: usize, lines: &[Line]) -> Result<Vec<u8>, Memory>
-    ensures { IfOk result (λ text. text.items ≡ words.joined joint depth lines.now) }
+    requires { joint < 128 }
+    ensures value { IfOk result (λ text. text.items ≡ words.joined joint depth lines.now) }
+    ensures utf8 { IfOk result (λ text. lines_of.IsText text.items) }
 {
-    let mut text = Vec::new(alloc);
     let Some((first, others)) = lines.split_first() else {
-        return Ok(text);
+        return Ok(Vec::new(alloc));
     };
-    push_line(&mut text, depth, first)?;
+    let mut text = first_line(alloc, depth, first)?;
     'lines: for line in others {
-        text.push(joint)?;
-        push_line(&mut text, depth, line)?;
+        push_line(&mut text, joint, depth, line)?;
     }
     Ok(text)
 }
 
 /// The text with the line feed that ends a block.
+#[tactic(auto, using(crate::proofs::Utf8::with_byte))]
 fn ended(text: Vec<u8>, ends: bool) -> Result<Vec<u8>, Memory>
-    ensures { IfOk result (λ made. made.items ≡ words.ended ends text.items) }
+    ensures value { IfOk result (λ made. made.items ≡ words.ended ends text.items) }
+    ensures utf8 { lines_of.IsText text.items → IfOk result (λ made. lines_of.IsText made.items) }
 {
     let mut text = text;
     if ends {
@@ -413,13 +451,16 @@ fn ended(text: Vec<u8>, ends: bool) -> Result<Vec<u8>, Memory>
 }
 
 /// The text of a block below a line at an indent, and the lines after it.
+#[tactic(auto, using(crate::proofs::Utf8::none))]
 fn block_lines<'l>(
     alloc: Global,
     style: Style,
     indent: usize,
     lines: &'l [Line],
 ) -> Result<(Vec<u8>, &'l [Line]), YamlFault>
-    ensures { Reads (λ x. (x.0.items, x.1.now)) result (words.block_lines style indent lines.now (words.block_indent indent lines.now)) }
+    requires { style.joint < 128 }
+    ensures value { Reads (λ x. (x.0.items, x.1.now)) result (words.block_lines style indent lines.now (words.block_indent indent lines.now)) }
+    ensures utf8 { IfOk result (λ x. lines_of.IsText x.0.items) }
 {
     let Some(depth) = block_indent(indent, lines) else {
         return Ok((ended(Vec::new(alloc), style.ends)?, lines));
@@ -457,7 +498,8 @@ pub(crate) fn scalar_at<'l>(
     offset: usize,
     lines: &'l [Line],
 ) -> Result<(Node, &'l [Line]), YamlFault>
-    requires { offset < length line.now.text }
+    requires place { offset < length line.now.text }
+    requires utf8 { lines_of.IsText (drop offset line.now.text) }
     ensures { Reads (λ x. (x.0, x.1.now)) result (words.scalar_at indent line.now offset lines.now) }
 {
     match line.text()[offset] {

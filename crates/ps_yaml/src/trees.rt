@@ -1,4 +1,4 @@
-ghost use Rattle.std.specs.Prelude.{◌≡◌, ◌+◌, ◌<◌, ◌≤◌, [], ◌==◌, true, length, option_map, IfOk};
+ghost use Rattle.std.specs.Prelude.{◌≡◌, ◌+◌, ◌<◌, ◌≤◌, [], ◌==◌, true, length, drop, option_map, IfOk};
 ghost use Rattle.std.specs.Str.{is_utf8};
 ghost use Rattle.ps_yaml.specs.declared.nodes.Node.TheVariants as nodes;
 ghost use Rattle.ps_yaml.specs.declared.nodes.Node.{Node as NodeData};
@@ -8,11 +8,11 @@ ghost use Rattle.ps_yaml.specs.Lines as lines_of;
 ghost use Rattle.ps_yaml.specs.Trees as words;
 
 use crate::entries::{is_entry, is_item, is_nested, name_len};
-use crate::lines::{Kind, Line, after_marker, from_content, past_first, spaces, split_lines};
+use crate::lines::{Kind, Line, after_marker, from_content, front, past, past_first, spaces, split_lines};
 use crate::open::OpenMap;
 use crate::scalars::{is_line_end, scalar, scalar_at};
 use crate::{Node, Pair, YamlFault};
-use ps_values::{Items, Memory, Text};
+use ps_values::{Items, Memory, Text, TextFault};
 use std::alloc::Global;
 
 /// The next line of a map or a list that is open at an indent, and the lines after it; none where it ends.
@@ -48,7 +48,7 @@ fn item_offset(line: &Line) -> usize
 }
 
 /// The scalar of an item, and the lines after it.
-#[tactic(auto, unfolding(crate::specs::Trees::item_at))]
+#[tactic(auto, using(crate::proofs::Utf8::item_text), unfolding(crate::specs::Trees::item_at))]
 fn item_at<'l>(
     alloc: Global,
     line: &Line,
@@ -98,15 +98,27 @@ fn items_at<'l>(
     Ok((items, rest))
 }
 
-/// The NAME of a line that begins an entry.
+/// The bytes of the NAME of a line that begins an entry.
 #[tactic(auto, unfolding(crate::specs::Trees::name_of))]
-fn name_of(alloc: Global, line: &Line) -> Result<Text, Memory>
-    ensures { IfOk result (λ name. name ≡ words.name_of line.now) }
+fn name_bytes(line: &Line) -> &[u8]
+    requires { words.is_entry (lines_of.content line.now) ≡ true }
+    ensures value { result.now ≡ words.name_of line.now }
+    ensures utf8 { lines_of.IsText result.now }
 {
     let content = line.content();
-    match Text::from_bytes(alloc, &content[..name_len(content)]) {
+    front(content, name_len(content))
+}
+
+/// The NAME of a line that begins an entry.
+#[tactic(auto, using(crate::proofs::Utf8::not_utf8))]
+fn name_of(alloc: Global, line: &Line) -> Result<Text, Memory>
+    requires { words.is_entry (lines_of.content line.now) ≡ true }
+    ensures { IfOk result (λ name. name ≡ words.name_of line.now) }
+{
+    match Text::from_bytes(alloc, name_bytes(line)) {
         Ok(name) => Ok(name),
-        Err(_) => Err(Memory),
+        Err(TextFault::NotUtf8) => unreachable!(),
+        Err(TextFault::Memory) => Err(Memory),
     }
 }
 
@@ -139,9 +151,20 @@ fn value_offset(line: &Line) -> usize
     line.indent() + name_len(line.content()) + 1
 }
 
+/// Where what follows the spaces behind the colon of an entry begins.
+fn scalar_offset(line: &Line) -> usize
+    requires { words.is_entry (lines_of.content line.now) ≡ true }
+    ensures value { result ≡ words.value_offset line.now + lines_of.spaces (drop (words.value_offset line.now) line.now.text) }
+    ensures within { result ≤ length line.now.text }
+    ensures utf8 { lines_of.IsText (drop result line.now.text) }
+{
+    let offset = value_offset(line);
+    offset + spaces(past(line.text(), offset))
+}
+
 /// The node of an entry, and the lines after it.
 #[cycle(tree)]
-#[tactic(auto, using(crate::proofs::Offsets::scalar_within), unfolding(crate::specs::Trees::value_at))]
+#[tactic(auto, unfolding(crate::specs::Trees::value_at))]
 fn value_at<'l>(
     alloc: Global,
     turns: usize,
@@ -152,15 +175,15 @@ fn value_at<'l>(
     ensures { Reads (λ x. (x.0, x.1.now)) result (words.value_at (λ deeper. words.pairs_at turns deeper []) turns line.now lines.now) }
 {
     let offset = value_offset(line);
-    let after = &line.text()[offset..];
-    if is_line_end(after) {
+    if is_line_end(past(line.text(), offset)) {
         return below(alloc, turns, line, from_content(lines));
     }
-    scalar_at(alloc, line.indent(), line, offset + spaces(after), lines)
+    scalar_at(alloc, line.indent(), line, scalar_offset(line), lines)
 }
 
 /// The node below a NAME that no scalar follows, and the lines after it.
 #[cycle(tree)]
+#[tactic(auto, using(crate::proofs::Utf8::none))]
 fn below<'l>(
     alloc: Global,
     turns: usize,
