@@ -1,18 +1,14 @@
 -- What is read is spelled so.
-use Rattle.std.proofs.Common.{◌≡◌, ℕ, zero, suc, ◌+◌, ◌-◌, ◌<◌, ◌≤◌, List, [], ◌∷◌, ◌++◌, Bool, true, false, ◌==◌, ◌&&◌, not, nat_lt, nat_le, if◌then◌else◌, length, Option, Some, None, Result, Ok, Err, refl, sym, ap, subst, ◌∙◌, inl, inr, arith}
+use Rattle.std.proofs.Common.{◌≡◌, ℕ, zero, suc, ◌≤◌, List, [], ◌∷◌, ◌++◌, Bool, true, false, length, Option, Some, None, Ok, sym, ap, subst, inl, inr, arith}
 use Rattle.std.proofs.lemmas.Bool.Decides.{nat_tests}
 use Rattle.ps_yaml.specs.declared.nodes.Node.{Node}
-use Rattle.ps_yaml.specs.declared.nodes.Pair.{Pair}
-use Rattle.ps_yaml.specs.declared.faults.YamlFault.{YamlFault}
-use Rattle.ps_yaml.specs.Faults.{◌>>=◌}
-use Rattle.ps_yaml.specs.Lines.{Line, kind_of, spaces, content, from_content}
-use Rattle.ps_yaml.specs.Scalars.{is_tabbed, scalar_at}
-use Rattle.ps_yaml.specs.Trees.{next_in, item_at, item_then, items_at, is_item, is_entry}
+use Rattle.ps_yaml.specs.Lines.{Line, content, from_content}
+use Rattle.ps_yaml.specs.Trees.{next_in, item_at, item_then, items_at, is_item}
 use Rattle.ps_yaml.specs.Grammar.{HasNoTab, StandsAt, Ends, ListEnds, Items}
 use Rattle.ps_yaml.specs.Grammar as grammar
 use Rattle.ps_yaml.proofs.Binds.{bind_ok, chosen, read}
 use Rattle.ps_yaml.proofs.ScalarLaws.{item_found}
-use Rattle.ps_yaml.proofs.Shorter.{Leaves, content_shorter, leaves_ok, item_leaves}
+use Rattle.ps_yaml.proofs.Shorter.{content_shorter, leaves_ok, item_leaves}
 
 pub next_none : (indent : ℕ) (lines : List Line) → next_in indent lines ≡ Ok None → Ends indent lines
 next_none indent [] e = tt

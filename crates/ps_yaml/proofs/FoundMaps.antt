@@ -1,14 +1,13 @@
 -- What is read as a map or a document is spelled so.
-use Rattle.std.proofs.Common.{◌≡◌, ℕ, zero, suc, ◌+◌, ◌-◌, ◌<◌, ◌≤◌, List, [], ◌∷◌, ◌++◌, Bool, true, false, ◌==◌, ◌&&◌, not, nat_lt, nat_le, if◌then◌else◌, length, drop, Option, Some, None, Result, Ok, Err, refl, sym, ap, subst, ◌∙◌, inl, inr, arith}
+use Rattle.std.proofs.Common.{◌≡◌, ℕ, zero, suc, ◌+◌, ◌≤◌, List, [], ◌∷◌, ◌++◌, Bool, true, false, ◌==◌, ◌&&◌, not, nat_lt, nat_le, length, Option, Some, None, Result, Ok, refl, sym, ap, subst, inl, inr, arith}
 use Rattle.std.proofs.lemmas.Bool.Decides.{nat_tests}
 use Rattle.std.specs.Str.{is_utf8}
 use Rattle.ps_yaml.specs.declared.nodes.Node.{Node}
 use Rattle.ps_yaml.specs.declared.nodes.Node.TheVariants.{Scalar, Map, List as Sequence}
 use Rattle.ps_yaml.specs.declared.nodes.Pair.{Pair}
 use Rattle.ps_yaml.specs.declared.faults.YamlFault.{YamlFault}
-use Rattle.ps_yaml.specs.Faults.{◌>>=◌}
 use Rattle.ps_yaml.specs.Lines.{Line, kind_of, spaces, content, from_content, lines_of}
-use Rattle.ps_yaml.specs.Scalars.{is_tabbed, is_line_end, scalar_at}
+use Rattle.ps_yaml.specs.Scalars.{is_tabbed, is_line_end}
 use Rattle.ps_yaml.specs.Trees.{next_in, items_at, is_item, is_entry, new_name, name_of, is_named, pair_of, pair_then, pairs_at, value_at, value_offset, below, root, document_of}
 use Rattle.ps_yaml.specs.Grammar.{HasNoTab, StandsAt, Ends, HasNoBlock, Items, Entries, Value, after_colon, IsDocument, Spells}
 use Rattle.ps_yaml.specs.Grammar as grammar

@@ -1,5 +1,5 @@
 -- One turn of the loop that leaves out a block's indent, and its ends.
-use Rattle.std.proofs.Common.{◌≡◌, ℕ, zero, suc, ◌-◌, ◌<◌, ◌≤◌, List, [], ◌∷◌, Bool, true, false, if◌then◌else◌, refl, sym, ap, ◌∙◌, arith}
+use Rattle.std.proofs.Common.{◌≡◌, ℕ, zero, suc, ◌-◌, ◌<◌, ◌≤◌, List, [], ◌∷◌, true, false, refl, ap, ◌∙◌, arith}
 use Rattle.ps_yaml.specs.Lines.{is_space_or_tab}
 use Rattle.ps_yaml.specs.Scalars.{unindented}
 use Rattle.ps_yaml.proofs.Binds.{if_true, if_false}

@@ -1,5 +1,5 @@
 -- The two laws between what is read and what is spelled, at an answer.
-use Rattle.std.proofs.Common.{◌≡◌, ℕ, List, Result, Ok, Err, IfOk, sym, subst}
+use Rattle.std.proofs.Common.{ℕ, List, Result, Ok, Err, IfOk, subst}
 use Rattle.ps_yaml.specs.declared.nodes.Node.{Node}
 use Rattle.ps_yaml.specs.declared.faults.YamlFault.{YamlFault}
 use Rattle.ps_yaml.specs.Faults.{Reads}

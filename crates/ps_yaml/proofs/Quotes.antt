@@ -1,8 +1,7 @@
 -- What stands between quotes, and how it is written.
-use Rattle.std.proofs.Common.{◌≡◌, ℕ, zero, suc, ◌+◌, List, [], ◌∷◌, ◌++◌, Bool, true, false, ◌==◌, ◌||◌, not, if◌then◌else◌, length, take, drop, Option, Some, None, option_map, Result, Ok, Err, refl, sym, ap, subst, ◌∙◌, inl, inr, arith}
+use Rattle.std.proofs.Common.{◌≡◌, ℕ, suc, ◌+◌, List, [], ◌∷◌, ◌++◌, Bool, true, false, ◌==◌, ◌||◌, if◌then◌else◌, length, take, drop, Option, Some, None, option_map, Result, Ok, refl, sym, ap, subst, ◌∙◌, inl, inr, arith}
 use Rattle.std.proofs.lemmas.Bool.Decides.{nat_tests}
 use Rattle.ps_yaml.specs.declared.faults.YamlFault.{YamlFault}
-use Rattle.ps_yaml.specs.Faults.{◌>>=◌}
 use Rattle.ps_yaml.specs.Lines.{Line, begins, spaces}
 use Rattle.ps_yaml.specs.Scalars.{is_line_end, single_quoted, behind_quote, with_front, double_quoted, behind_backslash, escaped, onto, or_bad, unescaped, after_backslash}
 use Rattle.ps_yaml.specs.ScalarGrammar.{doubled, Escapes}
@@ -193,15 +192,15 @@ mutual
   double_cut [] n e = cc
   double_cut (b ∷ bytes) n e =
       elim (chosen (b == 34) _ _ (Some n) e) [
-        inl q ↦
-          let zero_is : 0 ≡ n = (let z = q.1 in cc) in
-          subst (λ (k : ℕ). b ∷ bytes ≡ take k (b ∷ bytes) ++ 34 ∷ drop (k + 1) (b ∷ bytes)) zero_is (ap (λ (c : ℕ). c ∷ bytes) (is_double b q.0))
-      | inr q ↦ elim (chosen (b == 92) _ _ (Some n) q.1) [
-          inl s ↦
-            subst (λ (c : ℕ). c ∷ bytes ≡ take n (c ∷ bytes) ++ 34 ∷ drop (n + 1) (c ∷ bytes)) (sym (is_backslash b s.0)) (backslash_cut bytes n s.1)
-        | inr s ↦
-            let f = count_found (double_quoted bytes) 1 n s.1 in
-            subst (λ (k : ℕ). b ∷ bytes ≡ take k (b ∷ bytes) ++ 34 ∷ drop (k + 1) (b ∷ bytes)) (one_more f.0 ∙ f.2)
+        | inl q ↦
+            let zero_is : 0 ≡ n = (let z = q.1 in cc) in
+            subst (λ (k : ℕ). b ∷ bytes ≡ take k (b ∷ bytes) ++ 34 ∷ drop (k + 1) (b ∷ bytes)) zero_is (ap (λ (c : ℕ). c ∷ bytes) (is_double b q.0))
+        | inr q ↦ elim (chosen (b == 92) _ _ (Some n) q.1) [
+          | inl s ↦
+              subst (λ (c : ℕ). c ∷ bytes ≡ take n (c ∷ bytes) ++ 34 ∷ drop (n + 1) (c ∷ bytes)) (sym (is_backslash b s.0)) (backslash_cut bytes n s.1)
+          | inr s ↦
+              let f = count_found (double_quoted bytes) 1 n s.1 in
+              subst (λ (k : ℕ). b ∷ bytes ≡ take k (b ∷ bytes) ++ 34 ∷ drop (k + 1) (b ∷ bytes)) (one_more f.0 ∙ f.2)
               (ap (λ (u : List ℕ). b ∷ u) (double_cut bytes f.0 f.1) ∙ ap (λ (k : ℕ). b ∷ (take f.0 bytes ++ 34 ∷ drop k (b ∷ bytes))) (past_one f.0))
         ]
       ]
@@ -211,4 +210,4 @@ mutual
   backslash_cut (b ∷ bytes) n e =
       let f = count_found (double_quoted bytes) 2 n e in
       subst (λ (k : ℕ). 92 ∷ b ∷ bytes ≡ take k (92 ∷ b ∷ bytes) ++ 34 ∷ drop (k + 1) (92 ∷ b ∷ bytes)) (two_more f.0 ∙ f.2)
-        (ap (λ (u : List ℕ). 92 ∷ b ∷ u) (double_cut bytes f.0 f.1) ∙ ap (λ (k : ℕ). 92 ∷ b ∷ (take f.0 bytes ++ 34 ∷ drop k (92 ∷ b ∷ bytes))) (past_two f.0))
+      (ap (λ (u : List ℕ). 92 ∷ b ∷ u) (double_cut bytes f.0 f.1) ∙ ap (λ (k : ℕ). 92 ∷ b ∷ (take f.0 bytes ++ 34 ∷ drop k (92 ∷ b ∷ bytes))) (past_two f.0))

@@ -1,5 +1,5 @@
 -- That what the grammar spells takes lines from the front.
-use Rattle.std.proofs.Common.{◌≡◌, ℕ, suc, ◌+◌, ◌≤◌, Bool, List, [], ◌∷◌, length, Ok, ap, arith}
+use Rattle.std.proofs.Common.{◌≡◌, ℕ, suc, ◌+◌, ◌≤◌, Bool, List, length, ap, arith}
 use Rattle.ps_yaml.specs.declared.nodes.Node.{Node}
 use Rattle.ps_yaml.specs.declared.nodes.Pair.{Pair}
 use Rattle.ps_yaml.specs.Lines.{Line, spaces, from_content}

@@ -1,7 +1,7 @@
 -- That the parts of UTF-8 text that reading cuts out and puts together are UTF-8.
-use Rattle.std.proofs.Common.{◌≡◌, ℕ, zero, suc, ◌+◌, ◌-◌, ◌<◌, ◌≤◌, List, [], ◌∷◌, ◌++◌, Bool, true, false, ◌==◌, ◌||◌, ◌&&◌, not, nat_lt, if◌then◌else◌, length, take, drop, slice_index, get_or, Option, Some, None, option_map, Result, Ok, Err, refl, sym, ap, subst, ◌∙◌, inl, inr, append_assoc, zero-add, drop-cons, arith}
-use Rattle.std.specs.Str.{is_utf8, IsUtf8}
-use Rattle.std.specs.List.{prefix_len, position, position_or_len}
+use Rattle.std.proofs.Common.{◌≡◌, ℕ, zero, suc, ◌+◌, ◌-◌, ◌<◌, ◌≤◌, List, [], ◌∷◌, ◌++◌, Bool, true, false, ◌==◌, ◌&&◌, not, nat_lt, if◌then◌else◌, length, take, drop, slice_index, get_or, Some, Ok, refl, sym, ap, subst, ◌∙◌, inl, inr, append_assoc, zero-add, drop-cons, arith}
+use Rattle.std.specs.Str.{IsUtf8}
+use Rattle.std.specs.List.{prefix_len, position}
 use Rattle.std.proofs.lemmas.List.{take-append-drop}
 use Rattle.std.proofs.lemmas.List.Quantifiers.{position-Some}
 use Rattle.std.proofs.Math.Seq.{take-suc}
@@ -9,10 +9,8 @@ use Rattle.std.proofs.lemmas.Str.{IsUtf8-from_is_utf8, is_utf8-from_IsUtf8, IsUt
 use Rattle.std.proofs.lemmas.Bool.Decides.{nat_tests}
 use Rattle.std.proofs.lemmas.Grind.{common_steps}
 use Rattle.ps_yaml.specs.Lines.{IsText, Line, begins, spaces, content, is_other, is_feed, is_space_or_tab, without_return}
-use Rattle.ps_yaml.specs.declared.faults.YamlFault.{YamlFault}
-use Rattle.ps_yaml.specs.Faults.{◌>>=◌}
 use Rattle.ps_yaml.specs.Trees.{is_entry, is_item, name_len, name_of, value_offset, item_offset}
-use Rattle.ps_yaml.specs.Scalars.{is_empty, is_break, unindented, before_comment, single_quoted, behind_quote, with_front, double_quoted, escaped, unescaped, after_backslash, onto}
+use Rattle.ps_yaml.specs.Scalars.{is_empty, is_break, unindented, before_comment, single_quoted, behind_quote, double_quoted, escaped, unescaped, after_backslash, onto}
 use Rattle.ps_yaml.proofs.Binds.{bind_ok, chosen, decided}
 use Rattle.ps_yaml.proofs.Quotes.{front_found, or_found, double_cut}
 use Rattle.ps_yaml.proofs.Rests.{taken_more}
@@ -38,9 +36,10 @@ cut a c b low h =
     let bs = a ++ c ∷ b in
     let u : IsUtf8 bs = IsUtf8-from_is_utf8 bs h in
     let f = found_at bs (length a) c b (front_drop a (c ∷ b)) in
-    let byte : get_or bs (length a) 0 < 128 = subst (λ (x : ℕ). x < 128) (sym f.0) low in
-    (subst (λ (xs : List ℕ). IsText xs) (front_take a (c ∷ b)) (is_utf8-from_IsUtf8 (take (length a) bs) (IsUtf8-take bs (length a) u (IsCharBoundary-before_ascii bs (length a) f.2 byte))),
-     subst (λ (xs : List ℕ). IsText xs) f.1 (is_utf8-from_IsUtf8 (drop (length a + 1) bs) (IsUtf8-drop bs (length a + 1) u (IsCharBoundary-after_ascii bs (length a) u f.2 byte))))
+    let byte : get_or bs (length a) 0 < 128 = subst (λ (x : ℕ). x < 128) (sym f.0) low in (
+      subst (λ (xs : List ℕ). IsText xs) (front_take a (c ∷ b)) (is_utf8-from_IsUtf8 (take (length a) bs) (IsUtf8-take bs (length a) u (IsCharBoundary-before_ascii bs (length a) f.2 byte))),
+      subst (λ (xs : List ℕ). IsText xs) f.1 (is_utf8-from_IsUtf8 (drop (length a + 1) bs) (IsUtf8-drop bs (length a + 1) u (IsCharBoundary-after_ascii bs (length a) u f.2 byte))),
+    )
 
 pub joined : (a b : List ℕ) → IsText a → IsText b → IsText (a ++ b)
 joined a b h k = is_utf8-from_IsUtf8 (a ++ b) (IsUtf8-append a b (IsUtf8-from_is_utf8 a h) (IsUtf8-from_is_utf8 b k))
@@ -109,8 +108,8 @@ return_text : (front t : List ℕ) → IsText (front ++ t) → IsText (front ++ 
 return_text front [] h = h
 return_text front (b ∷ t) h =
     elim (decided (b == 13 && length t == 0)) [
-      inl y ↦ subst (λ (v : Bool). IsText (front ++ (if v then [] else b ∷ without_return t))) (sym y) (stop front b t (is_low b 13 (first_true (b == 13) (length t == 0) y) (omega arith)) h)
-    | inr n ↦ subst (λ (v : Bool). IsText (front ++ (if v then [] else b ∷ without_return t))) (sym n) (back front b (without_return t) (return_text (front ++ b ∷ []) t (along front b t h)))
+      | inl y ↦ subst (λ (v : Bool). IsText (front ++ (if v then [] else b ∷ without_return t))) (sym y) (stop front b t (is_low b 13 (first_true (b == 13) (length t == 0) y) (omega arith)) h)
+      | inr n ↦ subst (λ (v : Bool). IsText (front ++ (if v then [] else b ∷ without_return t))) (sym n) (back front b (without_return t) (return_text (front ++ b ∷ []) t (along front b t h)))
     ]
 
 feed_there : (t : List ℕ) (i : ℕ) → position is_feed t ≡ Some i → drop i t ≡ 10 ∷ drop 1 (drop i t)
@@ -130,8 +129,8 @@ before_text : (front t : List ℕ) → IsText (front ++ t) → IsText (front ++ 
 before_text front [] h = h
 before_text front (b ∷ t) h =
     elim (decided (b == 32 && begins 35 t)) [
-      inl y ↦ subst (λ (v : Bool). IsText (front ++ (if v then [] else b ∷ before_comment t))) (sym y) (stop front b t (is_low b 32 (first_true (b == 32) (begins 35 t) y) (omega arith)) h)
-    | inr n ↦ subst (λ (v : Bool). IsText (front ++ (if v then [] else b ∷ before_comment t))) (sym n) (back front b (before_comment t) (before_text (front ++ b ∷ []) t (along front b t h)))
+      | inl y ↦ subst (λ (v : Bool). IsText (front ++ (if v then [] else b ∷ before_comment t))) (sym y) (stop front b t (is_low b 32 (first_true (b == 32) (begins 35 t) y) (omega arith)) h)
+      | inr n ↦ subst (λ (v : Bool). IsText (front ++ (if v then [] else b ∷ before_comment t))) (sym n) (back front b (before_comment t) (before_text (front ++ b ∷ []) t (along front b t h)))
     ]
 
 pub comment_text : (t : List ℕ) → IsText t → IsText (before_comment t)
@@ -151,24 +150,24 @@ mutual
   single_part [] front x h e = cc
   single_part (b ∷ bytes) front x h e =
       elim (chosen (b == 39) _ _ (Some x) e) [
-        inl q ↦ behind_part bytes front x (subst (λ (c : ℕ). IsText (front ++ c ∷ bytes)) (equal_bytes b 39 q.0) h) q.1
-      | inr q ↦
-          let f = front_found (b ∷ []) (single_quoted bytes) x q.1 in
-          subst (λ (u : List ℕ). IsText (front ++ u)) f.2 (back front b f.0.0 (single_part bytes (front ++ b ∷ []) f.0 (along front b bytes h) f.1))
+        | inl q ↦ behind_part bytes front x (subst (λ (c : ℕ). IsText (front ++ c ∷ bytes)) (equal_bytes b 39 q.0) h) q.1
+        | inr q ↦
+            let f = front_found (b ∷ []) (single_quoted bytes) x q.1 in
+            subst (λ (u : List ℕ). IsText (front ++ u)) f.2 (back front b f.0.0 (single_part bytes (front ++ b ∷ []) f.0 (along front b bytes h) f.1))
       ]
 
   behind_part : (bytes front : List ℕ) (x : List ℕ × List ℕ) → IsText (front ++ 39 ∷ bytes) → behind_quote bytes ≡ Some x → IsText (front ++ x.0)
   behind_part [] front x h e = let same : ([], []) ≡ x = cc in subst (λ (z : List ℕ × List ℕ). IsText (front ++ z.0)) same (stop front 39 [] (omega arith) h)
   behind_part (b ∷ bytes) front x h e =
       elim (chosen (b == 39) _ _ (Some x) e) [
-        inl q ↦
-          let f = front_found (39 ∷ []) (single_quoted bytes) x q.1 in
-          let c = cut front 39 (b ∷ bytes) (omega arith) h in
-          let rest : IsText (front ++ 39 ∷ bytes) = joined front (39 ∷ bytes) c.0 (subst (λ (d : ℕ). IsText (d ∷ bytes)) (equal_bytes b 39 q.0) c.1) in
-          subst (λ (u : List ℕ). IsText (front ++ u)) f.2 (back front 39 f.0.0 (single_part bytes (front ++ 39 ∷ []) f.0 (along front 39 bytes rest) f.1))
-      | inr q ↦
-          let same : ([], b ∷ bytes) ≡ x = (let z = q.1 in cc) in
-          subst (λ (z : List ℕ × List ℕ). IsText (front ++ z.0)) same (stop front 39 (b ∷ bytes) (omega arith) h)
+        | inl q ↦
+            let f = front_found (39 ∷ []) (single_quoted bytes) x q.1 in
+            let c = cut front 39 (b ∷ bytes) (omega arith) h in
+            let rest : IsText (front ++ 39 ∷ bytes) = joined front (39 ∷ bytes) c.0 (subst (λ (d : ℕ). IsText (d ∷ bytes)) (equal_bytes b 39 q.0) c.1) in
+            subst (λ (u : List ℕ). IsText (front ++ u)) f.2 (back front 39 f.0.0 (single_part bytes (front ++ 39 ∷ []) f.0 (along front 39 bytes rest) f.1))
+        | inr q ↦
+            let same : ([], b ∷ bytes) ≡ x = (let z = q.1 in cc) in
+            subst (λ (z : List ℕ × List ℕ). IsText (front ++ z.0)) same (stop front 39 (b ∷ bytes) (omega arith) h)
       ]
 
 pub single_text : (bytes : List ℕ) (x : List ℕ × List ℕ) → IsText bytes → single_quoted bytes ≡ Some x → IsText x.0
@@ -182,11 +181,11 @@ mutual
   unescaped_part [] front line offset t h e = let same : [] ≡ t = cc in subst (λ (u : List ℕ). IsText (front ++ u)) same h
   unescaped_part (b ∷ bytes) front line offset t h e =
       elim (chosen (b == 92) _ _ (Ok t) e) [
-        inl q ↦ backslash_part bytes front line offset t (subst (λ (c : ℕ). IsText (front ++ c ∷ bytes)) (equal_bytes b 92 q.0) h) q.1
-      | inr q ↦
-          let r = bind_ok (unescaped line (offset + 1) bytes) _ t q.1 in
-          let same : b ∷ r.0 ≡ t = (let z = r.2 in cc) in
-          subst (λ (u : List ℕ). IsText (front ++ u)) same (back front b r.0 (unescaped_part bytes (front ++ b ∷ []) line (offset + 1) r.0 (along front b bytes h) r.1))
+        | inl q ↦ backslash_part bytes front line offset t (subst (λ (c : ℕ). IsText (front ++ c ∷ bytes)) (equal_bytes b 92 q.0) h) q.1
+        | inr q ↦
+            let r = bind_ok (unescaped line (offset + 1) bytes) _ t q.1 in
+            let same : b ∷ r.0 ≡ t = (let z = r.2 in cc) in
+            subst (λ (u : List ℕ). IsText (front ++ u)) same (back front b r.0 (unescaped_part bytes (front ++ b ∷ []) line (offset + 1) r.0 (along front b bytes h) r.1))
       ]
 
   backslash_part : (bytes front : List ℕ) (line : Line) (offset : ℕ) (t : List ℕ) → IsText (front ++ 92 ∷ bytes) → after_backslash line offset bytes ≡ Ok t → IsText (front ++ t)
@@ -217,8 +216,8 @@ unindented_text zero t h = h
 unindented_text (suc n) [] h = h
 unindented_text (suc n) (b ∷ t) h =
     elim (decided (is_space_or_tab b)) [
-      inl y ↦ subst (λ (v : Bool). IsText (if v then unindented n t else b ∷ t)) (sym y) (unindented_text n t (past_byte b t (space_or_tab_low b y) h))
-    | inr s ↦ subst (λ (v : Bool). IsText (if v then unindented n t else b ∷ t)) (sym s) h
+      | inl y ↦ subst (λ (v : Bool). IsText (if v then unindented n t else b ∷ t)) (sym y) (unindented_text n t (past_byte b t (space_or_tab_low b y) h))
+      | inr s ↦ subst (λ (v : Bool). IsText (if v then unindented n t else b ∷ t)) (sym s) h
     ]
 
 -- ---- entries and items

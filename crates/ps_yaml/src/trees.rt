@@ -8,7 +8,9 @@ ghost use Rattle.ps_yaml.specs.Lines as lines_of;
 ghost use Rattle.ps_yaml.specs.Trees as words;
 
 use crate::entries::{is_entry, is_item, is_nested, name_len};
-use crate::lines::{Kind, Line, after_marker, from_content, front, past, past_first, spaces, split_lines};
+use crate::lines::{
+    Kind, Line, after_marker, from_content, front, past, past_first, spaces, split_lines,
+};
 use crate::open::OpenMap;
 use crate::scalars::{is_line_end, scalar, scalar_at};
 use crate::{Node, Pair, YamlFault};

@@ -1,4 +1,3 @@
-use Rattle.std.proofs.Common.{◌≡◌}
 use Rattle.ps_yaml.specs.Lines.{content}
 use Rattle.ps_yaml.proofs.Utf8.{content_text}
 use Rattle.ps_yaml.proofs.lines.Line.content.Goals as goal
