@@ -1,0 +1,16 @@
+//! The YAML of rules files, read exactly.
+#![tactic(auto)]
+
+mod entries;
+mod faults;
+mod lines;
+mod nodes;
+mod open;
+mod scalars;
+#[cfg(test)]
+mod tests;
+mod trees;
+
+pub use faults::YamlFault;
+pub use nodes::{Node, Pair};
+pub use trees::read_yaml;
