@@ -1,0 +1,12 @@
+//! The queries of a rules file: their tokens, their grammar, and what an expression means.
+#![tactic(auto)]
+
+mod expressions;
+mod faults;
+mod queries;
+mod words;
+
+pub use expressions::{Expr, Function, Operator};
+pub use faults::SqlFault;
+pub use queries::{DataQuery, Output, ParameterQuery};
+pub use words::{Token, TokenKind};
