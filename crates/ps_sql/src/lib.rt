@@ -4,6 +4,7 @@
 mod expressions;
 mod faults;
 mod queries;
+mod scans;
 mod words;
 
 pub use expressions::{Expr, Function, Operator};
