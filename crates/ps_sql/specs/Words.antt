@@ -1,5 +1,5 @@
 -- The word at the front of a text, and how many bytes it takes.
-use Rattle.std.specs.Prelude.{◌≡◌, ℕ, ℤ, pos, ◌+◌, ◌-◌, ◌*◌, ◌^◌, Bool, true, false, not, ◌&&◌, ◌||◌, ◌==◌, nat_le, nat_lt, if◌then◌else◌, List, [], ◌∷◌, ◌++◌, map, take, drop, length, slice_index, Option, Some, None, option_map, bytes_eq, codes}
+use Rattle.std.specs.Prelude.{◌≡◌, ℕ, ℤ, pos, ◌+◌, ◌-◌, ◌*◌, ◌<◌, ◌≤◌, Bool, true, false, not, ◌&&◌, ◌||◌, ◌==◌, nat_le, nat_lt, if◌then◌else◌, List, [], ◌∷◌, ◌++◌, map, take, drop, length, slice_index, Option, Some, None, option_map, bytes_eq, codes}
 use Rattle.std.specs.List.{prefix_len}
 use Rattle.std.specs.Char.{to_ascii_lowercase}
 use Rattle.ps_sql.specs.declared.words.Word.{Word}
@@ -140,3 +140,9 @@ word_at bytes = let b = slice_index bytes 0 in
   else (if b == 34 then quoted_word words.Quoted (quoted 34 (drop 1 bytes))
   else (if b == 39 then quoted_word words.Text (quoted 39 (drop 1 bytes))
   else marked (longest_mark b (slice_index bytes 1) (slice_index bytes 2)))))
+
+-- a text may be cut behind an ASCII byte
+pub record CutsBehindAscii (bytes : List ℕ) (n : ℕ) : Type 0 where
+  pub some : 0 < n
+  pub within : n ≤ length bytes
+  pub ascii : slice_index bytes (n - 1) < 128

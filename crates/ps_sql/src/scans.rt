@@ -1,7 +1,7 @@
-ghost use Rattle.std.specs.Prelude.{◌≡◌, ℕ, pos, ◌+◌, ◌-◌, ◌<◌, ◌≤◌, length, take, drop, slice_index, IfOk, Some, None, option_map, if◌then◌else◌, nat_le};
+ghost use Rattle.std.specs.Prelude.{◌≡◌, true, ℕ, pos, ◌+◌, ◌-◌, ◌<◌, ◌≤◌, length, take, drop, slice_index, IfOk, IfSome, Some, None, option_map, if◌then◌else◌, nat_le};
 ghost use Rattle.std.specs.List.{prefix_len};
 ghost use Rattle.ps_sql.specs.declared.words.Word.TheVariants as words;
-ghost use Rattle.ps_sql.specs.Words.{begins_name, continues_name, decimal_after, ends_number, greatest_number, is_blank, is_digit, is_left_out, clause_word, operator_word, value_word, keyword_of, longest_mark, number_at, quoted, same_word, single_mark, word_at};
+ghost use Rattle.ps_sql.specs.Words.{CutsBehindAscii, name_at, begins_name, continues_name, decimal_after, ends_number, greatest_number, is_blank, is_digit, is_left_out, clause_word, operator_word, value_word, keyword_of, longest_mark, number_at, quoted, same_word, single_mark, word_at};
 
 use crate::words::{Keyword, Mark, Word};
 use ps_values::{Memory, Text};
@@ -266,13 +266,15 @@ fn number(bytes: &[u8]) -> Option<(i64, usize)>
 }
 
 /// Behind an opening quote: the text up to the quote that closes it, and how many bytes it and that quote take.
+#[tactic(auto, using(crate::proofs::Cuts::quoted_within))]
 fn quoted_text(
     alloc: Global,
     quote: char,
     text: &str,
 ) -> Result<Option<(Text, usize)>, Memory>
     requires { quote < 128 }
-    ensures { IfOk result (λ found. found ≡ quoted quote text.now) }
+    ensures value { IfOk result (λ found. found ≡ quoted quote text.now) }
+    ensures bound { IfOk result (λ found. IfSome found (λ f. f.1 ≤ length text.now)) }
 {
     let mut content = String::new(alloc);
     let mut left = text;
@@ -289,5 +291,63 @@ fn quoted_text(
         };
         content.push(quote)?;
         left = more;
+    }
+}
+
+/// The text up to a place behind an ASCII byte, and the rest.
+fn cut(text: &str, place: usize) -> (&str, &str)
+    requires { CutsBehindAscii text.now place }
+    ensures front { result.0.now ≡ take place text.now }
+    ensures back { result.1.now ≡ drop place text.now }
+    ensures parts { length result.1.now + place ≡ length text.now }
+{
+    text.split_at(place)
+}
+
+/// The name or the keyword at the front.
+#[tactic(auto, using(crate::proofs::Cuts::name_cuts))]
+fn name(alloc: Global, text: &str) -> Result<(Word, usize), Memory>
+    requires { begins_name (slice_index text.now 0) ≡ true }
+    ensures { IfOk result (λ found. Some found ≡ name_at text.now) }
+{
+    let count = name_length(text.as_bytes());
+    let (written, _) = cut(text, count);
+    match keyword(written) {
+        Some(found) => Ok((Word::Keyword(found), count)),
+        None => Ok((Word::Name(Text::from_str(alloc, written)?), count)),
+    }
+}
+
+/// The word at the front, and how many bytes it takes, or none where no token begins.
+#[tactic(auto, using(crate::proofs::Cuts::first_cuts), unfolding(crate::specs::Words::word_at))]
+pub fn front_word(alloc: Global, text: &str) -> Result<Option<(Word, usize)>, Memory>
+    ensures { IfOk result (λ found. found ≡ word_at text.now) }
+{
+    let bytes = text.as_bytes();
+    let first = byte_at(bytes, 0);
+    if begins_name_byte(first) {
+        return Ok(Some(name(alloc, text)?));
+    }
+    if is_digit_byte(first) {
+        return Ok(match number(bytes) {
+            Some((value, count)) => Some((Word::Number(value), count)),
+            None => None,
+        });
+    }
+    if first == b'"' {
+        return Ok(match quoted_text(alloc, '"', cut(text, 1).1)? {
+            Some((content, count)) => Some((Word::Quoted(content), 1 + count)),
+            None => None,
+        });
+    }
+    if first == b'\'' {
+        return Ok(match quoted_text(alloc, '\'', cut(text, 1).1)? {
+            Some((content, count)) => Some((Word::Text(content), 1 + count)),
+            None => None,
+        });
+    }
+    match mark_of_three(first, byte_at(bytes, 1), byte_at(bytes, 2)) {
+        Some((mark, count)) => Ok(Some((Word::Mark(mark), count))),
+        None => Ok(None),
     }
 }

@@ -7,14 +7,14 @@ use Rattle.ps_sql.specs.Words.{behind, quoted}
 use Rattle.ps_sql.proofs.Quotes.{quoted_ends, quoted_goes_on, quoted_never}
 use Rattle.ps_sql.proofs.scans.quoted_text.Goals as goal
 
-pub returns-in_default : goal.returns-in_default
-returns-in_default c =
+pub returns-in_default-clause-value : goal.returns-in_default-clause-value
+returns-in_default-clause-value c =
     let q = c.args.quote in let left = c.pieces.left.now in
     let none : (i : ℕ) → i < length left → get_or left i 0 ≢ q = split_parts q left None c.in_default.ensures.cases c.requires in
     sym (quoted_never q _ _ left _ c.pieces.invariant.so_far none)
 
-pub returns-in_default-strip_prefix : goal.returns-in_default-strip_prefix
-returns-in_default-strip_prefix c =
+pub returns-in_default-strip_prefix-clause-value : goal.returns-in_default-strip_prefix-clause-value
+returns-in_default-strip_prefix-clause-value c =
     let q = c.args.quote in let left = c.pieces.left.now in
     let parts = split_parts q left (Some (c.in-Some.before, c.in-Some.after)) c.in-Some.ensures.cases c.requires in
     let closed = strip_prefix_char q c.in-Some.after.now None c.in_default-strip_prefix.ensures.cases c.requires in
