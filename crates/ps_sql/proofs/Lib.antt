@@ -1,3 +1,5 @@
 pub mod Cuts
 pub mod Decimals
+pub mod LexemeLaws
 pub mod Quotes
+pub mod WordLaws

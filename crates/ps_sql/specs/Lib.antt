@@ -1,2 +1,4 @@
+pub mod Answers
 pub mod Lexemes
+pub mod Spellings
 pub mod Words

@@ -3,6 +3,7 @@
 
 mod expressions;
 mod faults;
+mod lexemes;
 mod queries;
 mod scans;
 mod words;

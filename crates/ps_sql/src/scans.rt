@@ -7,7 +7,7 @@ use crate::words::{Keyword, Mark, Word};
 use ps_values::{Memory, Text};
 use std::alloc::Global;
 
-fn is_blank_byte(b: u8) -> bool
+pub fn is_blank_byte(b: u8) -> bool
     ensures { result ≡ is_blank b }
 {
     b == b' ' || b == b'\t' || b == b'\n' || b == b'\r'
@@ -32,7 +32,7 @@ fn continues_name_byte(b: u8) -> bool
 }
 
 /// The byte at a place, or 0 past the end: no token has a byte 0 outside quotes.
-fn byte_at(bytes: &[u8], place: usize) -> u8
+pub fn byte_at(bytes: &[u8], place: usize) -> u8
     ensures { result ≡ slice_index bytes.now place }
 {
     bytes.get(place).copied().unwrap_or(0)
@@ -295,7 +295,7 @@ fn quoted_text(
 }
 
 /// The text up to a place behind an ASCII byte, and the rest.
-fn cut(text: &str, place: usize) -> (&str, &str)
+pub fn cut(text: &str, place: usize) -> (&str, &str)
     requires { CutsBehindAscii text.now place }
     ensures front { result.0.now ≡ take place text.now }
     ensures back { result.1.now ≡ drop place text.now }

@@ -1,0 +1,22 @@
+-- What a call answers, want of memory aside.
+use Rattle.std.specs.Prelude.{◌≡◌, ℕ, List, Result, Ok, Err}
+use Rattle.ps_sql.specs.declared.faults.SqlFault.{SqlFault}
+use Rattle.ps_sql.specs.declared.faults.SqlFault.TheVariants as faults
+use Rattle.ps_sql.specs.declared.words.Lexeme.{Lexeme}
+use Rattle.ps_sql.specs.Lexemes.{AreLexemes, Stops}
+
+-- a result is what is meant, or memory ran out
+abbrev pub Reads : {X : Type 0} → Result X SqlFault → Result X SqlFault → Type 0
+Reads (Ok x) meant = meant ≡ Ok x
+Reads (Err faults.Memory) meant = Unit {0}
+Reads (Err (faults.BadToken at)) meant = meant ≡ Err (faults.BadToken at)
+Reads (Err (faults.Unexpected at)) meant = meant ≡ Err (faults.Unexpected at)
+Reads (Err (faults.Unsupported at)) meant = meant ≡ Err (faults.Unsupported at)
+
+-- lexemes, or the first place where none begins
+abbrev pub AnswersLexemes : List ℕ → Result (List Lexeme) SqlFault → Type 0
+AnswersLexemes text (Ok lexemes) = AreLexemes 0 text lexemes
+AnswersLexemes text (Err (faults.BadToken at)) = Stops 0 text at
+AnswersLexemes text (Err faults.Memory) = Unit {0}
+AnswersLexemes text (Err (faults.Unexpected at)) = ⊥
+AnswersLexemes text (Err (faults.Unsupported at)) = ⊥
