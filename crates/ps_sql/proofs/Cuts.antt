@@ -55,12 +55,12 @@ longest_cut b c d m e = elim (chosen (eqb b 45) _ _ _ e) [
           | inr t ↦ inl (single_cut b m t.1) ] ] ] ] ]
 
 -- a byte other than 0 is no end
-within_by_byte : (bytes : List ℕ) (i : ℕ) → 0 < get_or bytes i 0 → i < length bytes
+pub within_by_byte : (bytes : List ℕ) (i : ℕ) → 0 < get_or bytes i 0 → i < length bytes
 within_by_byte [] i h = absurd (omega arith)
 within_by_byte (b ∷ rest) zero h = omega arith
 within_by_byte (b ∷ rest) (suc i) h = omega (arith, within_by_byte rest i h)
 
-mark_cuts : (bytes : List ℕ) (m : Mark × ℕ) → longest_mark (get_or bytes 0 0) (get_or bytes 1 0) (get_or bytes 2 0) ≡ Some m → CutsBehindAscii bytes m.1
+pub mark_cuts : (bytes : List ℕ) (m : Mark × ℕ) → longest_mark (get_or bytes 0 0) (get_or bytes 1 0) (get_or bytes 2 0) ≡ Some m → CutsBehindAscii bytes m.1
 mark_cuts bytes m e = elim (longest_cut _ _ _ m e) [
   inl p ↦ rw p.0 (record { some = omega arith; within = within_by_byte bytes 0 p.1; ascii = p.2 })
   | inr o ↦ elim o [
@@ -111,7 +111,7 @@ quoted_word_cuts make quote bytes found first some ascii e = quoted_word_cuts_at
         ascii = rw last (rw (rw get_or-drop at h.2) ascii);
       }
 
-number_cuts : (bytes : List ℕ) (found : Word × ℕ) → is_digit (get_or bytes 0 0) ≡ true → number_at bytes ≡ Some found → CutsBehindAscii bytes found.1
+pub number_cuts : (bytes : List ℕ) (found : Word × ℕ) → is_digit (get_or bytes 0 0) ≡ true → number_at bytes ≡ Some found → CutsBehindAscii bytes found.1
 unfolding number_at
 number_cuts bytes found first e =
   let n = prefix_len is_digit bytes in let value = decimal_after 0 (take n bytes) in

@@ -3,10 +3,10 @@ use Rattle.std.proofs.Common.{◌≡◌, ◌≢◌, ℕ, suc, ◌+◌, ◌-◌, 
 use Rattle.std.proofs.lemmas.Bool.Decides.{nat_tests}
 use Rattle.ps_sql.specs.Words.{behind, quoted}
 
-eqb_no : (b c : ℕ) → b ≢ c → eqb b c ≡ false
+pub eqb_no : (b c : ℕ) → b ≢ c → eqb b c ≡ false
 eqb_no b c h = grind (arith, nat_tests)
 
-eqb_yes : (b : ℕ) → eqb b b ≡ true
+pub eqb_yes : (b : ℕ) → eqb b b ≡ true
 eqb_yes b = grind (arith, nat_tests)
 
 -- two fronts behind one another are one
@@ -46,7 +46,7 @@ unfolding quoted
 quoted_closed quote [] none = rw (eqb_yes quote) refl
 quoted_closed quote (c ∷ rest) none = rw (eqb_yes quote, eqb_no c quote (λ same. none rest (ap (λ x. x ∷ rest) same))) refl
 
-some_pair : {a b : List ℕ} {m n : ℕ} → a ≡ b → m ≡ n → ◌≡◌ {A = Option (List ℕ × ℕ)} (Some (a, m)) (Some (b, n))
+pub some_pair : {a b : List ℕ} {m n : ℕ} → a ≡ b → m ≡ n → ◌≡◌ {A = Option (List ℕ × ℕ)} (Some (a, m)) (Some (b, n))
 some_pair p q = cc
 
 -- a reading that goes on behind a quote that no quote follows has come to its end

@@ -3,7 +3,8 @@ use Rattle.std.specs.Prelude.{◌≡◌, ℕ, List, Result, Ok, Err}
 use Rattle.ps_sql.specs.declared.faults.SqlFault.{SqlFault}
 use Rattle.ps_sql.specs.declared.faults.SqlFault.TheVariants as faults
 use Rattle.ps_sql.specs.declared.words.Lexeme.{Lexeme}
-use Rattle.ps_sql.specs.Lexemes.{AreLexemes, Stops}
+use Rattle.ps_sql.specs.declared.words.Token.{Token}
+use Rattle.ps_sql.specs.Lexemes.{AreLexemes, AreTokens, Stops}
 
 -- a result is what is meant, or memory ran out
 abbrev pub Reads : {X : Type 0} → Result X SqlFault → Result X SqlFault → Type 0
@@ -20,3 +21,11 @@ AnswersLexemes text (Err (faults.BadToken at)) = Stops 0 text at
 AnswersLexemes text (Err faults.Memory) = Unit {0}
 AnswersLexemes text (Err (faults.Unexpected at)) = ⊥
 AnswersLexemes text (Err (faults.Unsupported at)) = ⊥
+
+-- tokens, or the first place where none begins
+abbrev pub AnswersTokens : List ℕ → Result (List Token) SqlFault → Type 0
+AnswersTokens text (Ok tokens) = AreTokens text tokens
+AnswersTokens text (Err (faults.BadToken at)) = Stops 0 text at
+AnswersTokens text (Err faults.Memory) = Unit {0}
+AnswersTokens text (Err (faults.Unexpected at)) = ⊥
+AnswersTokens text (Err (faults.Unsupported at)) = ⊥

@@ -10,5 +10,6 @@ mod words;
 
 pub use expressions::{Expr, Function, Operator};
 pub use faults::SqlFault;
+pub use lexemes::tokens;
 pub use queries::{DataQuery, Output, ParameterQuery};
 pub use words::{Token, TokenKind};
