@@ -4,6 +4,7 @@ use Rattle.ps_sql.specs.declared.faults.SqlFault.{SqlFault}
 use Rattle.ps_sql.specs.declared.faults.SqlFault.TheVariants as faults
 use Rattle.ps_sql.specs.declared.words.Lexeme.{Lexeme}
 use Rattle.ps_sql.specs.declared.words.Token.{Token}
+use Rattle.ps_sql.specs.Inputs.{Input}
 use Rattle.ps_sql.specs.Lexemes.{AreLexemes, AreTokens, Stops}
 
 -- a result is what is meant, or memory ran out
@@ -29,3 +30,19 @@ AnswersTokens text (Err (faults.BadToken at)) = Stops 0 text at
 AnswersTokens text (Err faults.Memory) = Unit {0}
 AnswersTokens text (Err (faults.Unexpected at)) = ⊥
 AnswersTokens text (Err (faults.Unsupported at)) = ⊥
+
+-- a fault is what is meant, or memory ran out
+abbrev pub Fails : {Y : Type 0} → SqlFault → Result Y SqlFault → Type 0
+Fails faults.Memory meant = Unit {0}
+Fails (faults.BadToken at) meant = meant ≡ Err (faults.BadToken at)
+Fails (faults.Unexpected at) meant = meant ≡ Err (faults.Unexpected at)
+Fails (faults.Unsupported at) meant = meant ≡ Err (faults.Unsupported at)
+
+-- what a step read, and what it left to read
+abbrev pub ReadsOn : {X : Type 0} → Result X SqlFault → Input → Result (X × Input) SqlFault → Type 0
+ReadsOn (Ok x) rest meant = meant ≡ Ok (x, rest)
+ReadsOn (Err fault) rest meant = Fails fault meant
+
+abbrev pub StepsOn : Result (Unit {0}) SqlFault → Input → Result Input SqlFault → Type 0
+StepsOn (Ok _) rest meant = meant ≡ Ok rest
+StepsOn (Err fault) rest meant = Fails fault meant

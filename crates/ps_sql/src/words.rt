@@ -67,6 +67,65 @@ pub enum Mark {
     DoubleArrow,
 }
 
+impl Mark {
+    ghost use Rattle.std.specs.Prelude.{◌≡◌};
+    ghost use Rattle.ps_sql.specs.Inputs.{number_of_mark};
+
+    /// Each mark has its own number.
+    pub fn number(self) -> u8
+        ensures { result ≡ number_of_mark self }
+    {
+        match self {
+            Mark::Open => 0,
+            Mark::Close => 1,
+            Mark::Comma => 2,
+            Mark::Dot => 3,
+            Mark::Semicolon => 4,
+            Mark::Star => 5,
+            Mark::Plus => 6,
+            Mark::Minus => 7,
+            Mark::Slash => 8,
+            Mark::Percent => 9,
+            Mark::Equal => 10,
+            Mark::NotEqual => 11,
+            Mark::Less => 12,
+            Mark::LessEqual => 13,
+            Mark::Greater => 14,
+            Mark::GreaterEqual => 15,
+            Mark::Join => 16,
+            Mark::Arrow => 17,
+            Mark::DoubleArrow => 18,
+        }
+    }
+}
+
+impl Keyword {
+    ghost use Rattle.std.specs.Prelude.{◌≡◌};
+    ghost use Rattle.ps_sql.specs.Inputs.{number_of_keyword};
+
+    /// Each keyword has its own number.
+    pub fn number(self) -> u8
+        ensures { result ≡ number_of_keyword self }
+    {
+        match self {
+            Keyword::Select => 0,
+            Keyword::From => 1,
+            Keyword::Where => 2,
+            Keyword::As => 3,
+            Keyword::And => 4,
+            Keyword::Or => 5,
+            Keyword::Not => 6,
+            Keyword::Is => 7,
+            Keyword::In => 8,
+            Keyword::Null => 9,
+            Keyword::True => 10,
+            Keyword::False => 11,
+            Keyword::Cast => 12,
+            Keyword::LeftOut => 13,
+        }
+    }
+}
+
 /// What a token says.
 #[derive(Debug, Drop)]
 pub enum Word {
