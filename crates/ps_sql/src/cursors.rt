@@ -20,9 +20,9 @@ impl<'a> Model for Cursor<'a> {
 }
 
 impl<'a> Cursor<'a> {
-    ghost use Rattle.std.specs.Prelude.{◌≡◌, ℕ, ◌<◌, drop, Ok, IfOk, Option, is_some};
+    ghost use Rattle.std.specs.Prelude.{◌≡◌, ℕ, ◌<◌, drop, not, is_some};
     ghost use Rattle.std.specs.Option.{option_copied};
-    ghost use Rattle.ps_sql.specs.Answers.{Fails, ReadsOn, StepsOn};
+    ghost use Rattle.ps_sql.specs.Answers.{ReadsOn, StepsOn};
     ghost use Rattle.ps_sql.specs.Inputs.{Input, first_word, next, second, third, fourth, here, past, is_mark, is_keyword, name_of, plain_name_of, refusal, expect_mark, expect_keyword, expect_name};
 
     /// All of a text's words.
@@ -66,11 +66,113 @@ impl<'a> Cursor<'a> {
         let count = count.min(self.left.len());
         self.left = self.left.split_at(count).1;
     }
+
+    /// Whether the word at a place is the mark.
+    pub fn is_mark(&self, place: usize, mark: Mark) -> bool
+        ensures { result ≡ is_mark mark (first_word (drop place self.now.left)) }
+    {
+        is_mark_word(self.word(place), mark)
+    }
+
+    /// Whether the word at a place is the keyword.
+    pub fn is_keyword(&self, place: usize, keyword: Keyword) -> bool
+        ensures { result ≡ is_keyword keyword (first_word (drop place self.now.left)) }
+    {
+        is_keyword_word(self.word(place), keyword)
+    }
+
+    /// The name at a place, quoted or not.
+    pub fn name(&self, place: usize) -> Option<&Text>
+        ensures { option_copied result ≡ name_of (first_word (drop place self.now.left)) }
+    {
+        name_of_word(self.word(place))
+    }
+
+    /// The unquoted name at a place.
+    pub fn plain_name(&self, place: usize) -> Option<&Text>
+        ensures { option_copied result ≡ plain_name_of (first_word (drop place self.now.left)) }
+    {
+        plain_name_of_word(self.word(place))
+    }
+
+    /// The word at a place.
+    pub fn word_at(&self, place: usize) -> Option<&Word>
+        ensures { option_copied result ≡ first_word (drop place self.now.left) }
+    {
+        self.word(place)
+    }
+
+    /// Whether every word was read.
+    pub fn is_at_end(&self) -> bool
+        ensures { result ≡ not (is_some (next self.now)) }
+    {
+        self.word(0).is_none()
+    }
+
+    /// The fault of a next word that fits no rule.
+    #[tactic(auto, unfolding(crate::specs::Inputs::refusal))]
+    pub fn refusal(&self) -> SqlFault
+        ensures { result ≡ refusal self.now }
+    {
+        if self.is_keyword(0, Keyword::LeftOut) {
+            return SqlFault::Unsupported { at: self.here() };
+        }
+        if self.is_keyword(0, Keyword::Not) && self.is_keyword(1, Keyword::In) {
+            return SqlFault::Unsupported { at: self.here() };
+        }
+        SqlFault::Unexpected { at: self.here() }
+    }
+
+    /// The fault of a next word that is SQL, and not of this profile.
+    pub fn unsupported(&self) -> SqlFault
+        ensures { result ≡ SqlFault.Unsupported (here self.now) }
+    {
+        SqlFault::Unsupported { at: self.here() }
+    }
+
+    /// Goes past the mark.
+    #[tactic(auto, unfolding(crate::specs::Inputs::expect_mark))]
+    pub fn expect_mark(&mut self, mark: Mark) -> Result<(), SqlFault>
+        ensures { StepsOn result self.new (expect_mark mark self.old) }
+    {
+        if self.is_mark(0, mark) {
+            self.skip(1);
+            return Ok(());
+        }
+        Err(self.refusal())
+    }
+
+    /// Goes past the keyword.
+    #[tactic(auto, unfolding(crate::specs::Inputs::expect_keyword))]
+    pub fn expect_keyword(&mut self, keyword: Keyword) -> Result<(), SqlFault>
+        ensures { StepsOn result self.new (expect_keyword keyword self.old) }
+    {
+        if self.is_keyword(0, keyword) {
+            self.skip(1);
+            return Ok(());
+        }
+        Err(self.refusal())
+    }
+
+    /// Goes past a name, quoted or not, and gives it.
+    #[tactic(auto, unfolding(crate::specs::Inputs::expect_name))]
+    pub fn expect_name(&mut self, alloc: Global) -> Result<Text, SqlFault>
+        ensures { ReadsOn result self.new (expect_name self.old) }
+    {
+        match self.name(0) {
+            Some(name) => {
+                let name = name.copy(alloc)?;
+                self.skip(1);
+                Ok(name)
+            }
+            None => Err(self.refusal()),
+        }
+    }
 }
 
 ghost use Rattle.std.specs.Prelude.{◌≡◌};
 ghost use Rattle.std.specs.Option.{option_copied};
-ghost use Rattle.ps_sql.specs.Inputs.{is_mark, is_keyword};
+ghost use Rattle.ps_sql.specs.Inputs.{is_mark, is_keyword, name_of, plain_name_of};
 
 /// Whether a word is the mark.
 #[tactic(auto, unfolding(crate::specs::Inputs::is_mark))]
@@ -80,5 +182,38 @@ fn is_mark_word(word: Option<&Word>, mark: Mark) -> bool
     match word {
         Some(Word::Mark(found)) => found.number() == mark.number(),
         _ => false,
+    }
+}
+
+/// Whether a word is the keyword.
+#[tactic(auto, unfolding(crate::specs::Inputs::is_keyword))]
+fn is_keyword_word(word: Option<&Word>, keyword: Keyword) -> bool
+    ensures { result ≡ is_keyword keyword (option_copied word.entry) }
+{
+    match word {
+        Some(Word::Keyword(found)) => found.number() == keyword.number(),
+        _ => false,
+    }
+}
+
+/// The name that a word is, quoted or not.
+#[tactic(auto, unfolding(crate::specs::Inputs::name_of))]
+fn name_of_word(word: Option<&Word>) -> Option<&Text>
+    ensures { option_copied result ≡ name_of (option_copied word.entry) }
+{
+    match word {
+        Some(Word::Name(name)) | Some(Word::Quoted(name)) => Some(name),
+        _ => None,
+    }
+}
+
+/// The unquoted name that a word is.
+#[tactic(auto, unfolding(crate::specs::Inputs::plain_name_of))]
+fn plain_name_of_word(word: Option<&Word>) -> Option<&Text>
+    ensures { option_copied result ≡ plain_name_of (option_copied word.entry) }
+{
+    match word {
+        Some(Word::Name(name)) => Some(name),
+        _ => None,
     }
 }

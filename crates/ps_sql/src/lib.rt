@@ -1,6 +1,7 @@
 //! The queries of a rules file: their tokens, their grammar, and what an expression means.
 #![tactic(auto)]
 
+mod contexts;
 mod cursors;
 mod expressions;
 mod faults;
