@@ -138,10 +138,13 @@ abbrev pub call_by : ℕ → Reader → Input → Option Function → Result (Ex
 call_by limit inner input None = Err (faults.Unsupported (here input))
 call_by limit inner input (Some function) = if is_mark marks.Close (third input) then Err (faults.Unsupported (here input)) else called limit inner function input
 
+abbrev pub named_value : Context → List ℕ → Reader
+named_value context name input = if is_mark marks.Dot (second input) then dotted context name input else column context name input
+
 -- what begins with an unquoted name
 unfoldable pub plain_name : Context → ℕ → Reader → List ℕ → Reader
 plain_name context limit inner name input = if is_mark marks.Open (second input) then call_by limit inner input (function_of name)
-  else (if is_mark marks.Dot (second input) then dotted context name input else column context name input)
+  else named_value context name input
 
 -- what begins with a keyword
 
@@ -214,30 +217,30 @@ prime context limit inner input = prime_by context limit inner input (next input
 
 -- operators, by their level
 
-abbrev pub keyword_operator : Level → Keyword → Option Operator
-keyword_operator levels.Or k = if same_keyword k keywords.Or then Some operators.Or else None
-keyword_operator levels.And k = if same_keyword k keywords.And then Some operators.And else None
-keyword_operator levels.Same k = if same_keyword k keywords.In then Some operators.Within else None
-keyword_operator levels.Order k = None
-keyword_operator levels.Joining k = None
+abbrev pub operator_of_keyword : Level → Keyword → Option Operator
+operator_of_keyword levels.Or k = if same_keyword k keywords.Or then Some operators.Or else None
+operator_of_keyword levels.And k = if same_keyword k keywords.And then Some operators.And else None
+operator_of_keyword levels.Same k = if same_keyword k keywords.In then Some operators.Within else None
+operator_of_keyword levels.Order k = None
+operator_of_keyword levels.Joining k = None
 
-abbrev pub mark_operator : Level → Mark → Option Operator
-mark_operator levels.Or m = None
-mark_operator levels.And m = None
-mark_operator levels.Same m = if same_mark m marks.Equal then Some operators.Equal
+abbrev pub operator_of_mark : Level → Mark → Option Operator
+operator_of_mark levels.Or m = None
+operator_of_mark levels.And m = None
+operator_of_mark levels.Same m = if same_mark m marks.Equal then Some operators.Equal
   else (if same_mark m marks.NotEqual then Some operators.NotEqual else None)
-mark_operator levels.Order m = if same_mark m marks.Less then Some operators.Less
+operator_of_mark levels.Order m = if same_mark m marks.Less then Some operators.Less
   else (if same_mark m marks.LessEqual then Some operators.LessEqual
   else (if same_mark m marks.Greater then Some operators.Greater
   else (if same_mark m marks.GreaterEqual then Some operators.GreaterEqual else None)))
-mark_operator levels.Joining m = if same_mark m marks.Join then Some operators.Join
+operator_of_mark levels.Joining m = if same_mark m marks.Join then Some operators.Join
   else (if same_mark m marks.Arrow then Some operators.Arrow
   else (if same_mark m marks.DoubleArrow then Some operators.DoubleArrow else None))
 
 abbrev pub operator_by : Level → Option Word → Option Operator
 operator_by level None = None
-operator_by level (Some (words.Keyword k)) = keyword_operator level k
-operator_by level (Some (words.Mark m)) = mark_operator level m
+operator_by level (Some (words.Keyword k)) = operator_of_keyword level k
+operator_by level (Some (words.Mark m)) = operator_of_mark level m
 operator_by level (Some (words.Name t)) = None
 operator_by level (Some (words.Quoted t)) = None
 operator_by level (Some (words.Text t)) = None

@@ -6,6 +6,7 @@ mod cursors;
 mod expressions;
 mod faults;
 mod lexemes;
+mod primes;
 mod queries;
 mod scans;
 mod words;

@@ -67,7 +67,7 @@ fn digits_length(bytes: &[u8]) -> usize
 }
 
 /// Whether two words are one but for the case of their letters.
-fn is_same_word(a: &str, b: &str) -> bool
+pub fn is_same_word(a: &str, b: &str) -> bool
     ensures { result ≡ same_word a.now b.now }
 {
     a.eq_ignore_ascii_case(b)
