@@ -5,6 +5,7 @@ mod contexts;
 mod cursors;
 mod expressions;
 mod faults;
+mod grammars;
 mod lexemes;
 mod primes;
 mod queries;
