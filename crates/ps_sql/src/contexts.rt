@@ -1,5 +1,5 @@
-use crate::Expr;
-use ps_values::Text;
+use crate::{Expr, Output};
+use ps_values::{Items, Text};
 
 /// What is known of the table that a query's columns come from.
 #[derive(Debug, Drop)]
@@ -40,4 +40,20 @@ pub enum Step {
     Done(Expr),
     /// An operator, which the expression now ends with.
     Goes(Expr),
+}
+
+/// The outputs that were read so far.
+#[derive(Debug, Drop)]
+pub struct Listed {
+    /// Whether `*` stands among them.
+    pub star: bool,
+    pub outputs: Items<Output>,
+}
+
+/// The table of a data query, and the name that it goes by.
+#[derive(Debug, Drop)]
+pub struct Source {
+    pub table: Text,
+    /// The alias, or the table where there is none.
+    pub kind: Text,
 }

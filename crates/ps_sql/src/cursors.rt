@@ -32,6 +32,16 @@ impl<'a> Cursor<'a> {
         Cursor { left, end }
     }
 
+    /// The same words again.
+    pub fn again(&self) -> Cursor<'a>
+        ensures { result ≡ self.now }
+    {
+        Cursor {
+            left: self.left,
+            end: self.end,
+        }
+    }
+
     /// The word at a place among those that are left, counted from 0.
     fn word(&self, place: usize) -> Option<&Word>
         ensures { option_copied result ≡ first_word (drop place self.now.left) }

@@ -9,6 +9,7 @@ mod grammars;
 mod lexemes;
 mod primes;
 mod queries;
+mod readers;
 mod scans;
 mod words;
 
