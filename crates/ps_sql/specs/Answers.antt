@@ -1,5 +1,5 @@
 -- What a call answers, want of memory aside.
-use Rattle.std.specs.Prelude.{◌≡◌, ℕ, List, Result, Ok, Err}
+use Rattle.std.specs.Prelude.{◌≡◌, ℕ, List, length, Result, Ok, Err}
 use Rattle.ps_sql.specs.declared.faults.SqlFault.{SqlFault}
 use Rattle.ps_sql.specs.declared.faults.SqlFault.TheVariants as faults
 use Rattle.ps_sql.specs.declared.words.Lexeme.{Lexeme}
@@ -46,3 +46,12 @@ ReadsOn (Err fault) rest meant = Fails fault meant
 abbrev pub StepsOn : Result (Unit {0}) SqlFault → Input → Result Input SqlFault → Type 0
 StepsOn (Ok _) rest meant = meant ≡ Ok rest
 StepsOn (Err fault) rest meant = Fails fault meant
+
+-- the words of a text, before any is read
+abbrev pub input_of : List ℕ → List Lexeme → Input
+input_of text lexemes = record { left = lexemes; end = length text }
+
+-- a query is read from the lexemes of its text, or the text has a place where none begins
+pub record AnswersQuery {X : Type 0} (read : ℕ → Input → Result X SqlFault) (text : List ℕ) (answer : Result X SqlFault) : Type 0 where
+  pub words : (lexemes : List Lexeme) → AreLexemes 0 text lexemes → Reads answer (read (length lexemes) (input_of text lexemes))
+  pub bad : (at : ℕ) → Stops 0 text at → Reads answer (Err (faults.BadToken at))

@@ -17,4 +17,5 @@ pub use expressions::{Expr, Function, Operator};
 pub use faults::SqlFault;
 pub use lexemes::tokens;
 pub use queries::{DataQuery, Output, ParameterQuery};
+pub use readers::{read_data_query, read_parameter_query};
 pub use words::{Token, TokenKind};

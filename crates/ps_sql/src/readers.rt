@@ -1,7 +1,7 @@
 ghost use Rattle.std.specs.Prelude.{◌≡◌, ℕ, ◌<◌, List, length, IfOk};
 ghost use Rattle.std.specs.Option.{option_copied};
 ghost use Rattle.ps_sql.specs.declared.words.Lexeme.{Lexeme};
-ghost use Rattle.ps_sql.specs.Answers.{Reads, ReadsOn, StepsOn};
+ghost use Rattle.ps_sql.specs.Answers.{AnswersQuery, Reads, ReadsOn, StepsOn};
 ghost use Rattle.ps_sql.specs.Inputs.{next};
 ghost use Rattle.ps_sql.specs.Lexemes.{AreLexemes, Stops};
 ghost use Rattle.ps_sql.specs.Queries.{alias, begins_clause, condition, data_query, finish, item, items, nothing_listed, output, outputs, own_name, own_output, parameter_query, parameters_of, scope_of, source, table_clause};
@@ -277,4 +277,35 @@ fn data_query(
         kind,
         condition,
     })
+}
+
+/// The parameter query that a text is:
+///
+/// `SELECT [output {, output}] [FROM table] [WHERE expr] [;]`
+///
+/// where an output is `expr [AS name]`. All tokens are read before the grammar. `Unexpected` and `Unsupported` stand
+/// at the first token that fits no rule, or that is SQL and not of this profile; docs/FORMATS.md has the grammar.
+#[tactic(auto, using(crate::proofs::QueryLaws::answers))]
+pub fn read_parameter_query(alloc: Global, text: &Text) -> Result<ParameterQuery, SqlFault>
+    requires { length text.now < 4294967295 }
+    ensures { AnswersQuery parameter_query text.now result }
+{
+    let lexemes = lexemes(alloc, text)?;
+    let end = text.bytes().len() as u32;
+    parameter_query(alloc, lexemes.len(), &mut Cursor::new(lexemes.as_slice(), end))
+}
+
+/// The data query that a text is:
+///
+/// `SELECT item {, item} FROM table [[AS] name] [WHERE expr] [;]`
+///
+/// where an item is `*`, at most once, or an output. Faults are those of `read_parameter_query`.
+#[tactic(auto, using(crate::proofs::QueryLaws::answers))]
+pub fn read_data_query(alloc: Global, text: &Text) -> Result<DataQuery, SqlFault>
+    requires { length text.now < 4294967295 }
+    ensures { AnswersQuery data_query text.now result }
+{
+    let lexemes = lexemes(alloc, text)?;
+    let end = text.bytes().len() as u32;
+    data_query(alloc, lexemes.len(), &mut Cursor::new(lexemes.as_slice(), end))
 }
