@@ -6,3 +6,4 @@ pub use Rattle.ps_values.specs.declared.values.Value.{Value}
 pub use Rattle.ps_values.specs.declared.values.Value.TheVariants.{Null, Int, Text}
 pub use Rattle.ps_values.specs.declared.values.Truth.{Truth}
 pub use Rattle.ps_values.specs.declared.values.Truth.TheVariants.{True, False, Unknown}
+pub use Rattle.ps_values.specs.declared.columns.Column.{Column}

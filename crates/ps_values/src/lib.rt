@@ -2,15 +2,21 @@
 #![tactic(auto)]
 
 mod boxes;
+mod columns;
+mod documents;
 mod ids;
 mod lists;
+mod numbers;
 mod shortage;
 mod texts;
 mod values;
 
 pub use boxes::Boxed;
+pub use columns::Column;
+pub use documents::{document, json_of_value, object_of_columns, quoted, read_json, text_of_json};
 pub use ids::{OpId, Position};
 pub use lists::Items;
+pub use numbers::{GREATEST, decimal, read_decimal};
 pub use shortage::Memory;
 pub use texts::{Text, TextFault};
 pub use values::{Truth, Value, compare, equal_sql, truth_of};

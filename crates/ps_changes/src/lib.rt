@@ -1,0 +1,15 @@
+//! Row changes: the source's transactions, and the lines that they are read from.
+#![tactic(auto)]
+
+mod changes;
+mod faults;
+mod lines;
+mod rows;
+mod shown;
+
+pub use changes::{Change, Transaction};
+pub use faults::ChangeFault;
+pub use lines::read_line;
+pub use ps_values::Column;
+pub use rows::Row;
+pub use shown::Shown;

@@ -1,0 +1,204 @@
+ghost use Rattle.std.specs.Prelude.{◌≡◌, ◌≤◌, Some, None, [], length, IfOk, IfErr, MatchOption};
+ghost use Rattle.ps_io.specs.Contents.{content_of, sure_content_of, ExceedsBy};
+
+use crate::{Failed, FileFault, Files, Sink};
+use ps_values::{Items, Memory, Text};
+use std::alloc::Global;
+
+/// A file in memory.
+#[derive(Debug, Drop)]
+pub struct MemoryFile {
+    /// Its name.
+    pub name: Text,
+    /// Its bytes.
+    pub content: Items<u8>,
+}
+
+// The calls that are to fail, by their numbers from 1, and how many calls there were.
+#[derive(Debug, Drop)]
+struct Calls {
+    failing: Items<u64>,
+    made: u64,
+    faults: u64,
+}
+
+impl Calls {
+    fn new(failing: Items<u64>) -> Calls
+        ensures { result.faults ≡ 0 }
+    {
+        Calls {
+            failing,
+            made: 0,
+            faults: 0,
+        }
+    }
+
+    // Counts a call, and says whether it fails.
+    fn next_fails(&mut self) -> bool
+        ensures { self.new.faults ≡ self.old.faults }
+    {
+        self.made = self.made.saturating_add(1);
+        self.failing.as_slice().contains(&self.made)
+    }
+}
+
+/// Files in memory, of which the calls with the given numbers fail.
+#[derive(Debug, Drop)]
+pub struct MemoryFiles {
+    files: Items<MemoryFile>,
+    calls: Calls,
+}
+
+/// Files in memory that never fail: a name that no file has names the empty file.
+#[derive(Debug, Drop)]
+pub struct SureFiles {
+    files: Items<MemoryFile>,
+}
+
+/// A sink in memory with a stated room, of which the calls with the given numbers fail.
+/// A write that does not fit takes what fits and fails.
+#[derive(Debug, Drop)]
+pub struct MemorySink {
+    bytes: Vec<u8>,
+    room: usize,
+    calls: Calls,
+}
+
+// The first file of that name.
+fn find_file<'a>(files: &'a [MemoryFile], name: &Text) -> Option<&'a MemoryFile>
+    ensures { MatchOption result (content_of files.now name.now ≡ None) (λ file. content_of files.now name.now ≡ Some file.now.content) }
+{
+    'files: for file in files {
+        if file.name.equals(name) {
+            return Some(file);
+        }
+    }
+    None
+}
+
+fn copy_within(alloc: Global, content: &[u8], limit: u64) -> Result<Vec<u8>, FileFault>
+    ensures read { IfOk result (λ bytes. (bytes.items ≡ content.now) × (length content.now ≤ limit)) }
+    ensures long { IfErr result (ExceedsBy content.now limit) }
+{
+    let seen = content.len() as u64;
+    if seen > limit {
+        return Err(FileFault::TooLong { seen });
+    }
+    Ok(Vec::from_slice(alloc, content)?)
+}
+
+impl MemoryFiles {
+    /// Files in memory. The calls of `read` whose numbers, from 1, are among `failing` fail.
+    pub fn new(files: Items<MemoryFile>, failing: Items<u64>) -> MemoryFiles
+        ensures held { ⟦<MemoryFiles as Files>⟧.held result ≡ Some (content_of files) }
+        ensures faults { ⟦<MemoryFiles as Files>⟧.faults result ≡ 0 }
+    {
+        MemoryFiles {
+            files,
+            calls: Calls::new(failing),
+        }
+    }
+}
+
+impl Files for MemoryFiles {
+    ghost held = { λ all. Some (content_of all.files) };
+
+    ghost faults = { λ all. all.calls.faults };
+
+    fn read(&mut self, alloc: Global, name: &Text, limit: u64) -> Result<Vec<u8>, FileFault> {
+        if self.calls.next_fails() {
+            self.calls.faults = self.calls.faults.saturating_add(1);
+            return Err(FileFault::Failed);
+        }
+        match find_file(self.files.as_slice(), name) {
+            Some(file) => copy_within(alloc, file.content.as_slice(), limit),
+            None => {
+                self.calls.faults = self.calls.faults.saturating_add(1);
+                Err(FileFault::Failed)
+            }
+        }
+    }
+
+    fn file_faults(&self) -> u64 {
+        self.calls.faults
+    }
+}
+
+impl SureFiles {
+    /// Files in memory that never fail.
+    pub fn new(files: Items<MemoryFile>) -> SureFiles
+        ensures held { ⟦<SureFiles as Files>⟧.held result ≡ Some (sure_content_of files) }
+        ensures faults { ⟦<SureFiles as Files>⟧.faults result ≡ 0 }
+    {
+        SureFiles { files }
+    }
+}
+
+impl Files for SureFiles {
+    ghost held = { λ all. Some (sure_content_of all.files) };
+
+    ghost faults = { λ _. 0 };
+
+    fn read(&mut self, alloc: Global, name: &Text, limit: u64) -> Result<Vec<u8>, FileFault> {
+        match find_file(self.files.as_slice(), name) {
+            Some(file) => copy_within(alloc, file.content.as_slice(), limit),
+            None => Ok(Vec::new(alloc)),
+        }
+    }
+
+    fn file_faults(&self) -> u64 {
+        0
+    }
+}
+
+impl MemorySink {
+    /// An empty sink with room for `room` bytes. The calls of `write` whose numbers, from 1, are among `failing` fail and take nothing.
+    pub fn new(alloc: Global, room: usize, failing: Items<u64>) -> Result<MemorySink, Memory>
+        ensures taken { IfOk result (λ sink. ⟦<MemorySink as Sink>⟧.taken sink ≡ Some []) }
+        ensures faults { IfOk result (λ sink. ⟦<MemorySink as Sink>⟧.faults sink ≡ 0) }
+        ensures number { IfOk result (λ sink. ⟦<MemorySink as Sink>⟧.number sink ≡ 0) }
+    {
+        Ok(MemorySink {
+            bytes: Vec::with_capacity(alloc, room)?,
+            room,
+            calls: Calls::new(failing),
+        })
+    }
+
+    /// The bytes that it has taken.
+    pub fn bytes(&self) -> &[u8]
+        ensures { ⟦<MemorySink as Sink>⟧.taken self.now ≡ Some result.now }
+    {
+        self.bytes.as_slice()
+    }
+}
+
+impl Sink for MemorySink {
+    ghost taken = { λ sink. Some sink.bytes.items };
+
+    ghost faults = { λ sink. sink.calls.faults };
+
+    ghost number = { λ _. 0 };
+
+    fn write(&mut self, bytes: &[u8]) -> Result<(), Failed> {
+        if self.calls.next_fails() {
+            self.calls.faults = self.calls.faults.saturating_add(1);
+            return Err(Failed);
+        }
+        let left = self.room.saturating_sub(self.bytes.len());
+        let fits = left.min(bytes.len());
+        if self.bytes.extend_from_slice(&bytes[..fits]).is_err() {
+            self.calls.faults = self.calls.faults.saturating_add(1);
+            return Err(Failed);
+        }
+        if fits < bytes.len() {
+            self.calls.faults = self.calls.faults.saturating_add(1);
+            return Err(Failed);
+        }
+        Ok(())
+    }
+
+    fn write_faults(&self) -> u64 {
+        self.calls.faults
+    }
+}
