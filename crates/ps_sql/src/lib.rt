@@ -19,3 +19,6 @@ pub use lexemes::tokens;
 pub use queries::{DataQuery, Output, ParameterQuery};
 pub use readers::{read_data_query, read_parameter_query};
 pub use words::{Token, TokenKind};
+
+#[cfg(test)]
+mod tests;
