@@ -1,5 +1,8 @@
 pub mod Cuts
 pub mod Decimals
+pub mod ValueExamples
+pub mod ValueLaws
+pub mod Found
 pub mod GrammarLaws
 pub mod LexemeLaws
 pub mod QueryLaws

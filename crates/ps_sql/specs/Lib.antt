@@ -2,6 +2,9 @@ pub mod Answers
 pub mod Grammar
 pub mod Inputs
 pub mod Lexemes
+pub mod Json
+pub mod Meaning
 pub mod Queries
+pub mod Spelled
 pub mod Spellings
 pub mod Words
