@@ -17,6 +17,7 @@ use Rattle.ps_sql.specs.declared.expressions.Operator.{Operator}
 use Rattle.ps_sql.specs.declared.expressions.Operator.TheVariants as operators
 use Rattle.ps_sql.specs.declared.expressions.Function.{Function}
 use Rattle.ps_sql.specs.declared.faults.SqlFault.{SqlFault}
+use Rattle.ps_sql.specs.declared.faults.SqlFault.TheVariants as faults
 use Rattle.ps_sql.specs.declared.contexts.Context.{Context}
 use Rattle.ps_sql.specs.declared.contexts.Level.{Level}
 use Rattle.ps_sql.specs.declared.contexts.Level.TheVariants as levels
@@ -551,3 +552,186 @@ module _ (context : Context) where
   named_value_found input e rest x others name is named found = elim (chosen (is_mark marks.Dot (second input)) _ _ _ found) [
     inl p ↦ let d = second_mark input x others marks.Dot is p.0 in dotted_found input e rest x d.lexeme d.others name (is ∙ ap (λ xs. x ∷ xs) d.is) named d.word p.1
     | inr p ↦ column_found input e rest x others name is (ap name_in named) p.1 ]
+
+  -- functions, CAST and brackets
+
+  -- arguments behind those that were read
+  MoreArguments : List Lexeme → Input → List Expr → Input → Type 0
+  MoreArguments front input es rest = (consumed : List Lexeme) × (input.left ≡ consumed ++ rest.left) × AreArguments context (front ++ consumed) es
+
+  more_arguments_found : (inner : Reader) → Sound context expression inner → (turns : ℕ) (front : List Lexeme) (read : List Expr) (input : Input) (es : List Expr) (rest : Input)
+    → AreArguments context front read → more_arguments turns inner read input ≡ Ok (es, rest) → MoreArguments front input es rest
+  unfolding more_arguments MoreArguments
+  more_arguments_found inner sound zero front read input es rest are found = absurd (cc)
+  more_arguments_found inner sound (suc turns) front read input es rest are found = elim (chosen (is_mark marks.Comma (next input)) _ _ _ found) [
+    inl p ↦
+      let f = front_mark input.left marks.Comma p.0 in
+      let b = bind_ok (inner (past 1 input)) (λ x. more_arguments turns inner (read ++ x.0 ∷ []) x.1) (es, rest) p.1 in
+      let c = sound (past 1 input) b.0.0 b.0.1 b.1 in
+      let m = more_arguments_found inner sound turns (front ++ f.lexeme ∷ c.consumed) (read ++ b.0.0 ∷ []) b.0.1 es rest (further f.lexeme are f.word c.spelled) b.2 in
+      (f.lexeme ∷ (c.consumed ++ m.0),
+        f.is ∙ ap (λ xs. f.lexeme ∷ xs) (sym (ap (λ xs. drop 1 xs) f.is) ∙ c.left ∙ ap (λ xs. c.consumed ++ xs) m.1 ∙ sym (append_assoc c.consumed m.0 rest.left)),
+        subst (λ xs. AreArguments context xs es) (append_assoc front (f.lexeme ∷ c.consumed) m.0) m.2)
+    | inr p ↦
+      let same : read ≡ es = (ok_pair p.1).0 in
+      ([], ap (λ i. i.left) (ok_pair p.1).1, subst (λ v. AreArguments context (front ++ []) v) same (subst (λ xs. AreArguments context xs read) (sym (append-nil front)) are)) ]
+
+  record Listing (input : Input) (es : List Expr) (rest : Input) : Type 0 where
+    taken : List Lexeme
+    left : input.left ≡ taken ++ rest.left
+    are : AreArguments context taken es
+
+  arguments_found : (limit : ℕ) (inner : Reader) → Sound context expression inner → (input : Input) (es : List Expr) (rest : Input) → arguments limit inner input ≡ Ok (es, rest) → Listing input es rest
+  unfolding arguments MoreArguments
+  arguments_found limit inner sound input es rest found =
+    let b = bind_ok (inner input) (λ x. more_arguments limit inner (x.0 ∷ []) x.1) (es, rest) found in
+    let c = sound input b.0.0 b.0.1 b.1 in
+    let m = more_arguments_found inner sound limit c.consumed (b.0.0 ∷ []) b.0.1 es rest (first c.spelled) b.2 in
+    record { taken = c.consumed ++ m.0; left = c.left ∙ ap (λ xs. c.consumed ++ xs) m.1 ∙ sym (append_assoc c.consumed m.0 rest.left); are = m.2 }
+
+  called_found : (limit : ℕ) (inner : Reader) → Sound context expression inner → (input : Input) (e : Expr) (rest : Input) (x opening : Lexeme) (others : List Lexeme) (f : List ℕ) (function : Function)
+    → input.left ≡ x ∷ opening ∷ others → x.word ≡ words.Name f → function_of f ≡ Some function → opening.word ≡ words.Mark marks.Open
+    → called limit inner function input ≡ Ok (e, rest) → Consumed context primary input e rest
+  unfolding called
+  called_found limit inner sound input e rest x opening others f function is named known opened found =
+    let b = bind_ok (arguments limit inner (past 2 input)) _ (e, rest) found in
+    let l = arguments_found limit inner sound (past 2 input) b.0.0 b.0.1 b.1 in
+    let c = bind_ok (expect_mark marks.Close b.0.1) _ (e, rest) b.2 in
+    let z = expected_mark marks.Close b.0.1 c.0 c.1 in
+    elim (chosen (eqb (length b.0.0) (arity function)) (Ok (exprs.Call function b.0.0, c.0)) _ (Ok (e, rest)) c.2) [
+      inl p ↦
+        let S : Expr → Type 0 = λ v. Spells context primary (x ∷ opening ∷ (l.taken ++ z.0 ∷ [])) v in
+        record {
+          consumed = x ∷ opening ∷ (l.taken ++ z.0 ∷ []);
+          left = is ∙ ap (λ xs. x ∷ opening ∷ xs) (sym (ap (λ xs. drop 2 xs) is) ∙ l.left ∙ ap (λ xs. l.taken ++ xs) (z.2 ∙ ap (λ r. z.0 ∷ r.left) (ok_pair p.1).1) ∙ sym (append_assoc l.taken (z.0 ∷ []) rest.left));
+          spelled = subst S (ok_pair p.1).0 (call x opening z.0 named known opened l.are (eqb_equal _ _ p.0) z.1);
+        }
+      | inr p ↦ absurd (cc (p.1)) ]
+
+  plain_name_found : (limit : ℕ) (inner : Reader) → Sound context expression inner → (input : Input) (e : Expr) (rest : Input) (x : Lexeme) (others : List Lexeme) (f : List ℕ)
+    → input.left ≡ x ∷ others → x.word ≡ words.Name f → plain_name context limit inner f input ≡ Ok (e, rest) → Consumed context primary input e rest
+  unfolding plain_name
+  plain_name_found limit inner sound input e rest x others f is named found = elim (chosen (is_mark marks.Open (second input)) _ _ _ found) [
+    inl p ↦ let o = second_mark input x others marks.Open is p.0 in by_function o (function_of f) refl p.1
+    | inr p ↦ named_value_found input e rest x others f is named p.1 ] where
+    by_function : Front others (words.Mark marks.Open) → (o : Option Function) → function_of f ≡ o → call_by limit inner input o ≡ Ok (e, rest) → Consumed context primary input e rest
+    by_function o None absent found = absurd (cc)
+    by_function o (Some function) there found = elim (chosen (is_mark marks.Close (third input)) _ _ _ found) [
+      inl p ↦ absurd (cc (p.1))
+      | inr p ↦ called_found limit inner sound input e rest x o.lexeme o.others f function (is ∙ ap (λ xs. x ∷ xs) o.is) named there o.word p.1 ]
+
+  typed_found : (input rest : Input) (o : Option (List ℕ)) → plain_name_of (next input) ≡ o → type_by input o ≡ Ok rest
+    → (x : Lexeme) × (t : List ℕ) × (x.word ≡ words.Name t) × (same_word t (codes "TEXT") ≡ true) × (input.left ≡ x ∷ rest.left)
+  typed_found input rest None absent found = absurd (cc)
+  typed_found input rest (Some t) there found = elim (chosen (same_word t (codes "TEXT")) (Ok (past 1 input)) (Err (faults.Unsupported (here input))) (Ok rest) found) [
+    inl p ↦
+      let f = front_of input.left (words.Name t) (plain_word (next input) t there) in
+      (f.lexeme, t, f.word, p.0, f.is ∙ ap (λ xs. f.lexeme ∷ xs) (sym (ap (λ xs. drop 1 xs) f.is) ∙ ap (λ i. i.left) (same_ok p.1)))
+    | inr p ↦ absurd (cc (p.1)) ]
+
+  cast_found : (inner : Reader) → Sound context expression inner → (input : Input) (e : Expr) (rest : Input) (x : Lexeme) (others : List Lexeme) → input.left ≡ x ∷ others
+    → x.word ≡ words.Keyword keywords.Cast → cast inner input ≡ Ok (e, rest) → Consumed context primary input e rest
+  unfolding cast
+  cast_found inner sound input e rest x others is word found =
+    let b = bind_ok (expect_mark marks.Open (past 1 input)) _ (e, rest) found in
+    let o = expected_mark marks.Open (past 1 input) b.0 b.1 in
+    let i = bind_ok (inner b.0) _ (e, rest) b.2 in
+    let c = sound b.0 i.0.0 i.0.1 i.1 in
+    let a = bind_ok (expect_keyword keywords.As i.0.1) _ (e, rest) i.2 in
+    let k = expected_keyword keywords.As i.0.1 a.0 a.1 in
+    let t = bind_ok (type_by a.0 (plain_name_of (next a.0))) _ (e, rest) a.2 in
+    let y = typed_found a.0 t.0 (plain_name_of (next a.0)) refl t.1 in
+    let d = bind_ok (expect_mark marks.Close t.0) _ (e, rest) t.2 in
+    let z = expected_mark marks.Close t.0 d.0 d.1 in
+    let S : Expr → Type 0 = λ v. Spells context primary (x ∷ o.0 ∷ (c.consumed ++ k.0 ∷ y.0 ∷ z.0 ∷ [])) v in
+    record {
+      consumed = x ∷ o.0 ∷ (c.consumed ++ k.0 ∷ y.0 ∷ z.0 ∷ []);
+      left = is ∙ ap (λ xs. x ∷ xs) (sym (ap (λ xs. drop 1 xs) is) ∙ o.2 ∙ ap (λ xs. o.0 ∷ xs) (c.left
+        ∙ ap (λ xs. c.consumed ++ xs) (k.2 ∙ ap (λ xs. k.0 ∷ xs) (y.4 ∙ ap (λ xs. y.0 ∷ xs) (z.2 ∙ ap (λ r. z.0 ∷ r.left) (ok_pair d.2).1)))
+        ∙ sym (append_assoc c.consumed (k.0 ∷ y.0 ∷ z.0 ∷ []) rest.left)));
+      spelled = subst S (ok_pair d.2).0 (cast_spelled x o.0 k.0 y.0 z.0 word o.1 c.spelled k.1 y.2 y.3 z.1);
+    }
+
+  bracketed_found : (inner : Reader) → Sound context expression inner → (input : Input) (e : Expr) (rest : Input) (x : Lexeme) (others : List Lexeme) → input.left ≡ x ∷ others
+    → x.word ≡ words.Mark marks.Open → bracketed inner input ≡ Ok (e, rest) → Consumed context primary input e rest
+  unfolding bracketed
+  bracketed_found inner sound input e rest x others is word found =
+    let i = bind_ok (inner (past 1 input)) _ (e, rest) found in
+    let c = sound (past 1 input) i.0.0 i.0.1 i.1 in
+    let d = bind_ok (expect_mark marks.Close i.0.1) _ (e, rest) i.2 in
+    let z = expected_mark marks.Close i.0.1 d.0 d.1 in
+    let S : Expr → Type 0 = λ v. Spells context primary (x ∷ (c.consumed ++ z.0 ∷ [])) v in
+    record {
+      consumed = x ∷ (c.consumed ++ z.0 ∷ []);
+      left = is ∙ ap (λ xs. x ∷ xs) (sym (ap (λ xs. drop 1 xs) is) ∙ c.left ∙ ap (λ xs. c.consumed ++ xs) (z.2 ∙ ap (λ r. z.0 ∷ r.left) (ok_pair d.2).1) ∙ sym (append_assoc c.consumed (z.0 ∷ []) rest.left));
+      spelled = subst S (ok_pair d.2).0 (brackets x z.0 word c.spelled z.1);
+    }
+
+  negative_found : (input : Input) (e : Expr) (rest : Input) (x : Lexeme) (others : List Lexeme) (o : Option Word) → input.left ≡ x ∷ others → x.word ≡ words.Mark marks.Minus
+    → second input ≡ o → negative_by input o ≡ Ok (e, rest) → Consumed context primary input e rest
+  negative_found input e rest x others None is word e2 found = absurd (cc)
+  negative_found input e rest x others (Some (words.Number n)) is word there found =
+    let f = front_of others (words.Number n) (ap (λ xs. first_word (drop 1 xs)) (sym is) ∙ there) in
+    two_words input e (exprs.Number (opposite n)) rest x f.lexeme f.others (is ∙ ap (λ xs. x ∷ xs) f.is) (negative x f.lexeme word f.word) found
+  negative_found input e rest x others (Some (words.Keyword k)) is word there found = absurd (cc)
+  negative_found input e rest x others (Some (words.Name t)) is word there found = absurd (cc)
+  negative_found input e rest x others (Some (words.Quoted t)) is word there found = absurd (cc)
+  negative_found input e rest x others (Some (words.Text t)) is word there found = absurd (cc)
+  negative_found input e rest x others (Some (words.Mark m)) is word there found = absurd (cc)
+
+  keyword_value_found : (inner : Reader) → Sound context expression inner → (input : Input) (e : Expr) (rest : Input) (x : Lexeme) (others : List Lexeme) (k : Keyword) → input.left ≡ x ∷ others
+    → x.word ≡ words.Keyword k → keyword_value inner k input ≡ Ok (e, rest) → Consumed context primary input e rest
+  keyword_value_found inner sound input e rest x others keywords.Null is word found = one_word input e exprs.Null rest x others is (null x word) found
+  keyword_value_found inner sound input e rest x others keywords.True is word found = one_word input e (exprs.Number (pos 1)) rest x others is (true_word x word) found
+  keyword_value_found inner sound input e rest x others keywords.False is word found = one_word input e (exprs.Number (pos 0)) rest x others is (false_word x word) found
+  keyword_value_found inner sound input e rest x others keywords.Cast is word found = cast_found inner sound input e rest x others is word found
+  keyword_value_found inner sound input e rest x others keywords.Select is word found = absurd (cc)
+  keyword_value_found inner sound input e rest x others keywords.From is word found = absurd (cc)
+  keyword_value_found inner sound input e rest x others keywords.Where is word found = absurd (cc)
+  keyword_value_found inner sound input e rest x others keywords.As is word found = absurd (cc)
+  keyword_value_found inner sound input e rest x others keywords.And is word found = absurd (cc)
+  keyword_value_found inner sound input e rest x others keywords.Or is word found = absurd (cc)
+  keyword_value_found inner sound input e rest x others keywords.Not is word found = absurd (cc)
+  keyword_value_found inner sound input e rest x others keywords.Is is word found = absurd (cc)
+  keyword_value_found inner sound input e rest x others keywords.In is word found = absurd (cc)
+  keyword_value_found inner sound input e rest x others keywords.LeftOut is word found = absurd (cc)
+
+  mark_value_found : (inner : Reader) → Sound context expression inner → (input : Input) (e : Expr) (rest : Input) (x : Lexeme) (others : List Lexeme) (m : Mark) → input.left ≡ x ∷ others
+    → x.word ≡ words.Mark m → mark_value inner m input ≡ Ok (e, rest) → Consumed context primary input e rest
+  unfolding mark_value
+  mark_value_found inner sound input e rest x others m is word found = elim (chosen (same_mark m marks.Open) _ _ _ found) [
+    inl p ↦ bracketed_found inner sound input e rest x others is (word ∙ ap words.Mark (same_mark_is m marks.Open p.0)) p.1
+    | inr p ↦ elim (chosen (same_mark m marks.Minus) _ _ _ p.1) [
+      inl q ↦ negative_found input e rest x others (second input) is (word ∙ ap words.Mark (same_mark_is m marks.Minus q.0)) refl q.1
+      | inr q ↦ absurd (cc (q.1)) ] ]
+
+  prime_found : (limit : ℕ) (inner : Reader) → Sound context expression inner → Sound context primary (prime context limit inner)
+  unfolding prime
+  prime_found limit inner sound input e rest found = by_word (next input) refl found where
+    by_word : (o : Option Word) → next input ≡ o → prime_by context limit inner input o ≡ Ok (e, rest) → Consumed context primary input e rest
+    by_word None there found = absurd (cc)
+    by_word (Some (words.Number n)) there found = let f = front_of input.left (words.Number n) there in one_word input e (exprs.Number n) rest f.lexeme f.others f.is (number f.lexeme f.word) found
+    by_word (Some (words.Text t)) there found = let f = front_of input.left (words.Text t) there in one_word input e (exprs.Text t) rest f.lexeme f.others f.is (text f.lexeme f.word) found
+    by_word (Some (words.Quoted name)) there found = let f = front_of input.left (words.Quoted name) there in quoted_name_found input e rest f.lexeme f.others name f.is f.word found
+    by_word (Some (words.Name name)) there found = let f = front_of input.left (words.Name name) there in plain_name_found limit inner sound input e rest f.lexeme f.others name f.is f.word found
+    by_word (Some (words.Keyword k)) there found = let f = front_of input.left (words.Keyword k) there in keyword_value_found inner sound input e rest f.lexeme f.others k f.is f.word found
+    by_word (Some (words.Mark m)) there found = let f = front_of input.left (words.Mark m) there in mark_value_found inner sound input e rest f.lexeme f.others m f.is f.word found
+
+  whole_found : (limit : ℕ) (inner : Reader) → Sound context expression inner → Sound context expression (whole context limit inner)
+  unfolding whole
+  whole_found limit inner sound input e rest found =
+    let joins = chain_found levels.Joining limit (prime context limit inner) (prime_found limit inner sound) in
+    let orders = chain_found levels.Order limit _ joins in
+    let sames = chain_found levels.Same limit _ orders in
+    let ands = chain_found levels.And limit _ (negation_found _ sames limit) in
+    let ors = chain_found levels.Or limit _ ands in
+    let b = bind_ok (chain levels.Or limit _ input) (λ x. cond (is_arithmetic (next x.1)) (Err (faults.Unsupported (here x.1))) (Ok x)) (e, rest) found in
+    elim (chosen (is_arithmetic (next b.0.1)) _ _ _ b.2) [
+      inl p ↦ absurd (cc (p.1))
+      | inr p ↦ ors input e rest (b.1 ∙ p.1) ]
+
+  -- what is read as an expression is spelled so
+  pub expr_found : (limit depth : ℕ) → Sound context expression (expr context limit depth)
+  unfolding expr
+  expr_found limit zero input e rest found = absurd (cc)
+  expr_found limit (suc depth) input e rest found = whole_found limit (expr context limit depth) (expr_found limit depth) input e rest found
