@@ -1,5 +1,6 @@
 pub mod Cuts
 pub mod Decimals
+pub mod Scopes
 pub mod ValueExamples
 pub mod ValueLaws
 pub mod Found

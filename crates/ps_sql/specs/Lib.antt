@@ -6,5 +6,6 @@ pub mod Json
 pub mod Meaning
 pub mod Queries
 pub mod Spelled
+pub mod SpelledQueries
 pub mod Spellings
 pub mod Words
