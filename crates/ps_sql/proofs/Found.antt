@@ -107,39 +107,39 @@ keyword_in_is k (words.Number n) e = absurd (cc)
 
 -- a list whose first word is known
 
-record Front (xs : List Lexeme) (w : Word) : Type 0 where
-  lexeme : Lexeme
-  others : List Lexeme
-  is : xs ≡ lexeme ∷ others
-  word : lexeme.word ≡ w
+pub record Front (xs : List Lexeme) (w : Word) : Type 0 where
+  pub lexeme : Lexeme
+  pub others : List Lexeme
+  pub is : xs ≡ lexeme ∷ others
+  pub word : lexeme.word ≡ w
 
-front_of : (xs : List Lexeme) (w : Word) → first_word xs ≡ Some w → Front xs w
+pub front_of : (xs : List Lexeme) (w : Word) → first_word xs ≡ Some w → Front xs w
 front_of [] w e = absurd (cc)
 front_of (x ∷ xs) w e = record { lexeme = x; others = xs; is = refl; word = same_Some x.word w e }
 
-front_mark : (xs : List Lexeme) (m : Mark) → is_mark m (first_word xs) ≡ true → Front xs (words.Mark m)
+pub front_mark : (xs : List Lexeme) (m : Mark) → is_mark m (first_word xs) ≡ true → Front xs (words.Mark m)
 unfolding is_mark
 front_mark [] m e = absurd (cc)
 front_mark (x ∷ xs) m e = record { lexeme = x; others = xs; is = refl; word = mark_in_is m x.word e }
 
-front_keyword : (xs : List Lexeme) (k : Keyword) → is_keyword k (first_word xs) ≡ true → Front xs (words.Keyword k)
+pub front_keyword : (xs : List Lexeme) (k : Keyword) → is_keyword k (first_word xs) ≡ true → Front xs (words.Keyword k)
 unfolding is_keyword
 front_keyword [] k e = absurd (cc)
 front_keyword (x ∷ xs) k e = record { lexeme = x; others = xs; is = refl; word = keyword_in_is k x.word e }
 
 -- a step that gave something
 
-bind_ok : {A B : Type 0} (m : Result A SqlFault) (f : A → Result B SqlFault) (y : B) → (m >>= f) ≡ Ok y → (x : A) × (m ≡ Ok x) × (f x ≡ Ok y)
+pub bind_ok : {A B : Type 0} (m : Result A SqlFault) (f : A → Result B SqlFault) (y : B) → (m >>= f) ≡ Ok y → (x : A) × (m ≡ Ok x) × (f x ≡ Ok y)
 bind_ok (Ok x) f y e = (x, refl, e)
 bind_ok (Err fault) f y e = absurd (cc)
 
-same_ok : {A : Type 0} {x y : A} → ◌≡◌ {A = Result A SqlFault} (Ok x) (Ok y) → x ≡ y
+pub same_ok : {A : Type 0} {x y : A} → ◌≡◌ {A = Result A SqlFault} (Ok x) (Ok y) → x ≡ y
 same_ok e = cc
 
-ok_pair : {A B : Type 0} {a c : A} {b d : B} → ◌≡◌ {A = Result (A × B) SqlFault} (Ok (a, b)) (Ok (c, d)) → (a ≡ c) × (b ≡ d)
+pub ok_pair : {A B : Type 0} {a c : A} {b d : B} → ◌≡◌ {A = Result (A × B) SqlFault} (Ok (a, b)) (Ok (c, d)) → (a ≡ c) × (b ≡ d)
 ok_pair e = (ap (λ x. x.0) (same_ok e), ap (λ x. x.1) (same_ok e))
 
-expected_mark : (m : Mark) (input rest : Input) → expect_mark m input ≡ Ok rest → (x : Lexeme) × (x.word ≡ words.Mark m) × (input.left ≡ x ∷ rest.left)
+pub expected_mark : (m : Mark) (input rest : Input) → expect_mark m input ≡ Ok rest → (x : Lexeme) × (x.word ≡ words.Mark m) × (input.left ≡ x ∷ rest.left)
 unfolding expect_mark
 expected_mark m input rest e = elim (chosen (is_mark m (next input)) (Ok (past 1 input)) (Err (refusal input)) (Ok rest) e) [
   inl p ↦
@@ -148,7 +148,7 @@ expected_mark m input rest e = elim (chosen (is_mark m (next input)) (Ok (past 1
     (f.lexeme, f.word, f.is ∙ ap (λ xs. f.lexeme ∷ xs) (ap (λ xs. drop 1 xs) (sym f.is) ∙ left))
   | inr p ↦ absurd (cc (p.1)) ]
 
-expected_keyword : (k : Keyword) (input rest : Input) → expect_keyword k input ≡ Ok rest → (x : Lexeme) × (x.word ≡ words.Keyword k) × (input.left ≡ x ∷ rest.left)
+pub expected_keyword : (k : Keyword) (input rest : Input) → expect_keyword k input ≡ Ok rest → (x : Lexeme) × (x.word ≡ words.Keyword k) × (input.left ≡ x ∷ rest.left)
 unfolding expect_keyword
 expected_keyword k input rest e = elim (chosen (is_keyword k (next input)) (Ok (past 1 input)) (Err (refusal input)) (Ok rest) e) [
   inl p ↦

@@ -4,6 +4,7 @@ pub mod Scopes
 pub mod ValueExamples
 pub mod ValueLaws
 pub mod Found
+pub mod FoundQueries
 pub mod GrammarLaws
 pub mod LexemeLaws
 pub mod QueryLaws
