@@ -1,11 +1,15 @@
 -- The turns of the reading of outputs.
 use Rattle.std.proofs.Common.{◌≡◌, ℕ, zero, suc, ◌-◌, ◌<◌, Bool, true, false, List, length, refl, sym, ap, subst, ◌∙◌, arith}
-use Rattle.std.specs.Prelude.{Result, Ok, Err, if◌then◌else◌}
+use Rattle.std.specs.Prelude.{Result, Ok, Err, OnOk, IfOk, if◌then◌else◌}
 use Rattle.ps_sql.specs.declared.words.Mark.TheVariants as marks
 use Rattle.ps_sql.specs.declared.contexts.Context.{Context}
 use Rattle.ps_sql.specs.declared.contexts.Listed.{Listed}
 use Rattle.ps_sql.specs.Inputs.{Input, ◌>>=◌, next, past, is_mark, refusal}
-use Rattle.ps_sql.specs.Queries.{item, items}
+use Rattle.ps_sql.specs.Queries.{item, items, parameter_query, data_query}
+use Rattle.ps_sql.specs.SpelledQueries.{IsParameterQuery, IsDataQuery}
+use Rattle.ps_sql.specs.declared.queries.ParameterQuery.{ParameterQuery}
+use Rattle.ps_sql.specs.declared.queries.DataQuery.{DataQuery}
+use Rattle.ps_sql.proofs.FoundQueries.{parameter_query_found, data_query_found}
 use Rattle.ps_sql.specs.declared.words.Lexeme.{Lexeme}
 use Rattle.ps_sql.specs.declared.faults.SqlFault.{SqlFault}
 use Rattle.ps_sql.specs.declared.faults.SqlFault.TheVariants as faults
@@ -28,22 +32,42 @@ items_turn (suc turns) context limit listed input e = ap (λ n. item context lim
 
 pub ruleset items_laws = (items_none, items_turn)
 
+some_reading : {X : Type 0} (text : List ℕ) (lexemes : List Lexeme) (answer : Result X SqlFault) → AreLexemes 0 text lexemes → OnOk answer ((xs : List Lexeme) × AreLexemes 0 text xs)
+some_reading text lexemes (Ok x) are = (lexemes, are)
+some_reading text lexemes (Err fault) are = tt
+
 -- what is read from the one reading of a text
 pub answers_read : {X : Type 0} (read : ℕ → Input → Result X SqlFault) (text : List ℕ) (lexemes : List Lexeme) (answer : Result X SqlFault)
   → AreLexemes 0 text lexemes → Reads answer (read (length lexemes) (input_of text lexemes)) → AnswersQuery read text answer
 answers_read read text lexemes answer are reads = record {
+    read_from = some_reading text lexemes answer are;
     words = λ others are'. subst (λ xs. Reads answer (read (length xs) (input_of text xs))) (same_lexemes are are') reads;
     bad = λ at stops. absurd (not_both are stops);
   }
 
 -- what stops the reading of a text's lexemes stops that of its query
-pub answers_stopped : {X : Type 0} (read : ℕ → Input → Result X SqlFault) (text : List ℕ) (fault : SqlFault) (lexemes : Result (List Lexeme) SqlFault)
-  → lexemes ≡ Err fault → AnswersLexemes text lexemes → AnswersQuery read text (Err fault)
-answers_stopped read text fault lexemes e answers = let F : Result (List Lexeme) SqlFault → Type 0 = λ r. AnswersLexemes text r in stopped fault (subst F e answers) where
-  stopped : (fault : SqlFault) → AnswersLexemes text (Err fault) → AnswersQuery read text (Err fault)
-  stopped (faults.BadToken place) stops = record { words = λ xs are. absurd (not_both are stops); bad = λ at stops'. ap (λ n. Err (faults.BadToken n)) (same_stop stops' stops) }
-  stopped faults.Memory stops = record { words = λ xs are. tt; bad = λ at stops'. tt }
-  stopped (faults.Unexpected place) stops = absurd stops
-  stopped (faults.Unsupported place) stops = absurd stops
+pub answers_stopped : {X : Type 0} (read : ℕ → Input → Result X SqlFault) (text : List ℕ) (fault : SqlFault) → AnswersLexemes text (Err fault) → AnswersQuery read text (Err fault)
+answers_stopped read text (faults.BadToken place) stops = record {
+    read_from = tt; words = λ xs are. absurd (not_both are stops); bad = λ at stops'. ap (λ n. Err (faults.BadToken n)) (same_stop stops' stops)
+  }
+answers_stopped read text faults.Memory stops = record { read_from = tt; words = λ xs are. tt; bad = λ at stops'. tt }
+answers_stopped read text (faults.Unexpected place) stops = absurd stops
+answers_stopped read text (faults.Unsupported place) stops = absurd stops
 
 pub ruleset answers = (answers_read, answers_stopped)
+
+-- the public clauses
+
+pub parameter_found : (text : List ℕ) (answer : Result ParameterQuery SqlFault) → AnswersQuery parameter_query text answer
+  → IfOk answer (λ query. (lexemes : List Lexeme) × AreLexemes 0 text lexemes × IsParameterQuery lexemes query)
+parameter_found text (Ok query) answers = let r = answers.read_from in
+    (r.0, r.1, parameter_query_found (length r.0) (input_of text r.0) query (answers.words r.0 r.1))
+parameter_found text (Err fault) answers = tt
+
+pub data_found : (text : List ℕ) (answer : Result DataQuery SqlFault) → AnswersQuery data_query text answer
+  → IfOk answer (λ query. (lexemes : List Lexeme) × AreLexemes 0 text lexemes × IsDataQuery lexemes query)
+data_found text (Ok query) answers = let r = answers.read_from in
+    (r.0, r.1, data_query_found (length r.0) (input_of text r.0) query (answers.words r.0 r.1))
+data_found text (Err fault) answers = tt
+
+pub ruleset found = (parameter_found, data_found)

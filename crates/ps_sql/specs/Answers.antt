@@ -1,5 +1,5 @@
 -- What a call answers, want of memory aside.
-use Rattle.std.specs.Prelude.{◌≡◌, ℕ, List, length, Result, Ok, Err}
+use Rattle.std.specs.Prelude.{◌≡◌, ℕ, List, length, Result, Ok, Err, OnOk}
 use Rattle.ps_sql.specs.declared.faults.SqlFault.{SqlFault}
 use Rattle.ps_sql.specs.declared.faults.SqlFault.TheVariants as faults
 use Rattle.ps_sql.specs.declared.words.Lexeme.{Lexeme}
@@ -53,5 +53,6 @@ input_of text lexemes = record { left = lexemes; end = length text }
 
 -- a query is read from the lexemes of its text, or the text has a place where none begins
 pub record AnswersQuery {X : Type 0} (read : ℕ → Input → Result X SqlFault) (text : List ℕ) (answer : Result X SqlFault) : Type 0 where
+  pub read_from : OnOk answer ((lexemes : List Lexeme) × AreLexemes 0 text lexemes)
   pub words : (lexemes : List Lexeme) → AreLexemes 0 text lexemes → Reads answer (read (length lexemes) (input_of text lexemes))
   pub bad : (at : ℕ) → Stops 0 text at → Reads answer (Err (faults.BadToken at))

@@ -1,7 +1,8 @@
 ghost use Rattle.std.specs.Prelude.{◌≡◌, ℕ, ◌<◌, List, length, IfOk};
 ghost use Rattle.std.specs.Option.{option_copied};
 ghost use Rattle.ps_sql.specs.declared.words.Lexeme.{Lexeme};
-ghost use Rattle.ps_sql.specs.Answers.{AnswersQuery, Reads, ReadsOn, StepsOn};
+ghost use Rattle.ps_sql.specs.Answers.{AnswersQuery, Reads, ReadsOn, StepsOn, input_of};
+ghost use Rattle.ps_sql.specs.SpelledQueries.{IsDataQuery, IsParameterQuery};
 ghost use Rattle.ps_sql.specs.Inputs.{next};
 ghost use Rattle.ps_sql.specs.Lexemes.{AreLexemes, Stops};
 ghost use Rattle.ps_sql.specs.Queries.{alias, begins_clause, condition, data_query, finish, item, items, nothing_listed, output, outputs, own_name, own_output, parameter_query, parameters_of, scope_of, source, table_clause};
@@ -279,20 +280,53 @@ fn data_query(
     })
 }
 
+/// The parameter query of a text, from its lexemes.
+#[tactic(auto, using(crate::proofs::QueryLaws::answers))]
+fn scan_parameter_query(alloc: Global, text: &Text) -> Result<ParameterQuery, SqlFault>
+    requires { length text.now < 4294967295 }
+    ensures { AnswersQuery parameter_query text.now result }
+{
+    let lexemes = match lexemes(alloc, text) {
+        Ok(lexemes) => lexemes,
+        Err(fault) => return Err(fault),
+    };
+    let end = text.bytes().len() as u32;
+    parameter_query(alloc, lexemes.len(), &mut Cursor::new(lexemes.as_slice(), end))
+}
+
+/// The data query of a text, from its lexemes.
+#[tactic(auto, using(crate::proofs::QueryLaws::answers))]
+fn scan_data_query(alloc: Global, text: &Text) -> Result<DataQuery, SqlFault>
+    requires { length text.now < 4294967295 }
+    ensures { AnswersQuery data_query text.now result }
+{
+    let lexemes = match lexemes(alloc, text) {
+        Ok(lexemes) => lexemes,
+        Err(fault) => return Err(fault),
+    };
+    let end = text.bytes().len() as u32;
+    data_query(alloc, lexemes.len(), &mut Cursor::new(lexemes.as_slice(), end))
+}
+
 /// The parameter query that a text is:
 ///
 /// `SELECT [output {, output}] [FROM table] [WHERE expr] [;]`
 ///
-/// where an output is `expr [AS name]`. All tokens are read before the grammar. `Unexpected` and `Unsupported` stand
-/// at the first token that fits no rule, or that is SQL and not of this profile; docs/FORMATS.md has the grammar.
-#[tactic(auto, using(crate::proofs::QueryLaws::answers))]
+/// where an output is `expr [AS name]`. All tokens are read before the grammar: `BadToken` is that of `tokens`.
+/// `Unexpected` and `Unsupported` stand at the first token that fits no rule, or that is SQL and not of this profile;
+/// docs/FORMATS.md has the grammar and each cause.
+#[tactic(auto, using(crate::proofs::QueryLaws::found))]
 pub fn read_parameter_query(alloc: Global, text: &Text) -> Result<ParameterQuery, SqlFault>
     requires { length text.now < 4294967295 }
-    ensures { AnswersQuery parameter_query text.now result }
+    // What is read is spelled so.
+    ensures found { IfOk result
+        (λ query. (lexemes : List Lexeme) × AreLexemes 0 text.now lexemes × IsParameterQuery lexemes query) }
+    // Which query it is, or which fault and where.
+    ensures exact { (lexemes : List Lexeme) → AreLexemes 0 text.now lexemes
+        → Reads result (parameter_query (length lexemes) (input_of text.now lexemes)) }
+    ensures bad { (at : ℕ) → Stops 0 text.now at → Reads result (Err (SqlFault.BadToken at)) }
 {
-    let lexemes = lexemes(alloc, text)?;
-    let end = text.bytes().len() as u32;
-    parameter_query(alloc, lexemes.len(), &mut Cursor::new(lexemes.as_slice(), end))
+    scan_parameter_query(alloc, text)
 }
 
 /// The data query that a text is:
@@ -300,12 +334,16 @@ pub fn read_parameter_query(alloc: Global, text: &Text) -> Result<ParameterQuery
 /// `SELECT item {, item} FROM table [[AS] name] [WHERE expr] [;]`
 ///
 /// where an item is `*`, at most once, or an output. Faults are those of `read_parameter_query`.
-#[tactic(auto, using(crate::proofs::QueryLaws::answers))]
+#[tactic(auto, using(crate::proofs::QueryLaws::found))]
 pub fn read_data_query(alloc: Global, text: &Text) -> Result<DataQuery, SqlFault>
     requires { length text.now < 4294967295 }
-    ensures { AnswersQuery data_query text.now result }
+    // What is read is spelled so.
+    ensures found { IfOk result
+        (λ query. (lexemes : List Lexeme) × AreLexemes 0 text.now lexemes × IsDataQuery lexemes query) }
+    // Which query it is, or which fault and where.
+    ensures exact { (lexemes : List Lexeme) → AreLexemes 0 text.now lexemes
+        → Reads result (data_query (length lexemes) (input_of text.now lexemes)) }
+    ensures bad { (at : ℕ) → Stops 0 text.now at → Reads result (Err (SqlFault.BadToken at)) }
 {
-    let lexemes = lexemes(alloc, text)?;
-    let end = text.bytes().len() as u32;
-    data_query(alloc, lexemes.len(), &mut Cursor::new(lexemes.as_slice(), end))
+    scan_data_query(alloc, text)
 }
