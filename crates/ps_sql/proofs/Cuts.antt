@@ -1,13 +1,13 @@
 -- Each word ends behind an ASCII byte.
-use Rattle.std.proofs.Common.{◌≡◌, ◌≢◌, ℕ, zero, suc, ◌+◌, ◌-◌, ◌<◌, ◌≤◌, Bool, true, false, cond, eqb, ltb, leb, List, [], ◌∷◌, ◌++◌, length, get_or, take, drop, Option, Some, None, refl, sym, ap, ◌∙◌, ◌⊎◌, inl, inr, ⊎_elim, arith, length-drop, get_or-drop}
-use Rattle.std.specs.Prelude.{pos, ◌&&◌, ◌||◌, not, IfSome}
+use Rattle.std.proofs.Common.{◌≡◌, ℕ, zero, suc, ◌+◌, ◌-◌, ◌<◌, ◌≤◌, Bool, true, false, cond, eqb, leb, List, [], ◌∷◌, ◌++◌, length, get_or, take, drop, Option, Some, None, refl, sym, ap, ◌∙◌, ◌⊎◌, inl, inr, arith, length-drop, get_or-drop}
+use Rattle.std.specs.Prelude.{pos, ◌&&◌, IfSome}
 use Rattle.std.specs.List.{prefix_len}
 use Rattle.std.proofs.lemmas.Bool.Decides.{nat_tests}
 use Rattle.std.proofs.lemmas.List.Sums.{prefix_len-le-length, prefix_len_passes}
 use Rattle.ps_sql.specs.declared.words.Word.{Word}
 use Rattle.ps_sql.specs.declared.words.Word.TheVariants as words
 use Rattle.ps_sql.specs.declared.words.Mark.{Mark}
-use Rattle.ps_sql.specs.Words.{decimal_after, greatest_number, ends_number, is_digit, is_letter, begins_name, continues_name, number_at, name_at, quoted, quoted_word, behind, marked, single_mark, longest_mark, word_at, CutsBehindAscii}
+use Rattle.ps_sql.specs.Words.{decimal_after, greatest_number, ends_number, is_digit, begins_name, continues_name, number_at, quoted, quoted_word, behind, marked, single_mark, longest_mark, word_at, CutsBehindAscii}
 
 -- which way a test went
 pub chosen : {A : Type 0} (b : Bool) (x y z : A) → cond b x y ≡ z → ((b ≡ true) × (x ≡ z)) ⊎ ((b ≡ false) × (y ≡ z))
@@ -40,19 +40,24 @@ single_cut b m e = grind (arith, nat_tests)
 
 -- the last byte of a mark
 longest_cut : (b c d : ℕ) (m : Mark × ℕ) → longest_mark b c d ≡ Some m
-  → ((m.1 ≡ 1) × (0 < b) × (b < 128)) ⊎ (((m.1 ≡ 2) × (0 < c) × (c < 128)) ⊎ ((m.1 ≡ 3) × (0 < d) × (d < 128)))
+    → ((m.1 ≡ 1) × (0 < b) × (b < 128)) ⊎ (((m.1 ≡ 2) × (0 < c) × (c < 128)) ⊎ ((m.1 ≡ 3) × (0 < d) × (d < 128)))
 unfolding longest_mark
 longest_cut b c d m e = elim (chosen (eqb b 45) _ _ _ e) [
-  inl p ↦ grind (arith, nat_tests)
+  | inl p ↦ grind (arith, nat_tests)
   | inr p ↦ elim (chosen (eqb b 60) _ _ _ p.1) [
-    inl q ↦ grind (arith, nat_tests)
+    | inl q ↦ grind (arith, nat_tests)
     | inr q ↦ elim (chosen (eqb b 62) _ _ _ q.1) [
-      inl r ↦ grind (arith, nat_tests)
+      | inl r ↦ grind (arith, nat_tests)
       | inr r ↦ elim (chosen (eqb b 33) _ _ _ r.1) [
-        inl s ↦ grind (arith, nat_tests)
+        | inl s ↦ grind (arith, nat_tests)
         | inr s ↦ elim (chosen (eqb b 124) _ _ _ s.1) [
-          inl t ↦ grind (arith, nat_tests)
-          | inr t ↦ inl (single_cut b m t.1) ] ] ] ] ]
+          | inl t ↦ grind (arith, nat_tests)
+          | inr t ↦ inl (single_cut b m t.1)
+        ]
+      ]
+    ]
+  ]
+]
 
 -- a byte other than 0 is no end
 pub within_by_byte : (bytes : List ℕ) (i : ℕ) → 0 < get_or bytes i 0 → i < length bytes
@@ -62,14 +67,16 @@ within_by_byte (b ∷ rest) (suc i) h = omega (arith, within_by_byte rest i h)
 
 pub mark_cuts : (bytes : List ℕ) (m : Mark × ℕ) → longest_mark (get_or bytes 0 0) (get_or bytes 1 0) (get_or bytes 2 0) ≡ Some m → CutsBehindAscii bytes m.1
 mark_cuts bytes m e = elim (longest_cut _ _ _ m e) [
-  inl p ↦ rw p.0 (record { some = omega arith; within = within_by_byte bytes 0 p.1; ascii = p.2 })
+  | inl p ↦ rw p.0 (record { some = omega arith; within = within_by_byte bytes 0 p.1; ascii = p.2 })
   | inr o ↦ elim o [
-    inl p ↦ rw p.0 (record { some = omega arith; within = within_by_byte bytes 1 p.1; ascii = p.2 })
-    | inr p ↦ rw p.0 (record { some = omega arith; within = within_by_byte bytes 2 p.1; ascii = p.2 }) ] ]
+    | inl p ↦ rw p.0 (record { some = omega arith; within = within_by_byte bytes 1 p.1; ascii = p.2 })
+    | inr p ↦ rw p.0 (record { some = omega arith; within = within_by_byte bytes 2 p.1; ascii = p.2 })
+  ]
+]
 
 -- what stands behind a front was read there
 pub behind_some : (front : List ℕ) (n : ℕ) (inner : Option (List ℕ × ℕ)) (found : List ℕ × ℕ) → behind front n inner ≡ Some found
-  → (was : List ℕ × ℕ) × (inner ≡ Some was) × (front ++ was.0 ≡ found.0) × (n + was.1 ≡ found.1)
+    → (was : List ℕ × ℕ) × (inner ≡ Some was) × (front ++ was.0 ≡ found.0) × (n + was.1 ≡ found.1)
 behind_some front n None found e = absurd (cc)
 behind_some front n (Some was) found e = (was, refl, cc, cc)
 
@@ -79,16 +86,20 @@ unfolding quoted
 quoted_cut quote [] found e = absurd (cc)
 quoted_cut quote (b ∷ []) found e = elim (chosen (eqb b quote) _ _ _ e) [ inl p ↦ grind (arith, nat_tests) | inr p ↦ absurd (cc (p.1)) ]
 quoted_cut quote (b ∷ c ∷ rest) found e = elim (chosen (eqb b quote) _ _ _ e) [
-  inl p ↦ elim (chosen (eqb c quote) _ _ _ p.1) [ inl q ↦ 
-      (let w = behind_some (quote ∷ []) 2 (quoted quote rest) found q.1 in
-       let h = quoted_cut quote rest w.0 w.1 in
-       let last : found.1 - 1 ≡ suc (suc (w.0.1 - 1)) = omega (arith, w.3, h.0) in
-       (omega (arith, w.3, h.0), omega (arith, w.3, h.1), ap (λ n. get_or (b ∷ c ∷ rest) n 0) last ∙ h.2)) | inr q ↦ grind (arith, nat_tests) ]
-  | inr p ↦ 
+  | inl p ↦ elim (chosen (eqb c quote) _ _ _ p.1) [
+    | inl q ↦
+        (let w = behind_some (quote ∷ []) 2 (quoted quote rest) found q.1 in
+        let h = quoted_cut quote rest w.0 w.1 in
+        let last : found.1 - 1 ≡ suc (suc (w.0.1 - 1)) = omega (arith, w.3, h.0) in
+        (omega (arith, w.3, h.0), omega (arith, w.3, h.1), ap (λ n. get_or (b ∷ c ∷ rest) n 0) last ∙ h.2))
+    | inr q ↦ grind (arith, nat_tests)
+  ]
+  | inr p ↦
       (let w = behind_some (b ∷ []) 1 (quoted quote (c ∷ rest)) found p.1 in
-       let h = quoted_cut quote (c ∷ rest) w.0 w.1 in
-       let last : found.1 - 1 ≡ suc (w.0.1 - 1) = omega (arith, w.3, h.0) in
-       (omega (arith, w.3, h.0), omega (arith, w.3, h.1), ap (λ n. get_or (b ∷ c ∷ rest) n 0) last ∙ h.2)) ]
+      let h = quoted_cut quote (c ∷ rest) w.0 w.1 in
+      let last : found.1 - 1 ≡ suc (w.0.1 - 1) = omega (arith, w.3, h.0) in
+      (omega (arith, w.3, h.0), omega (arith, w.3, h.1), ap (λ n. get_or (b ∷ c ∷ rest) n 0) last ∙ h.2))
+]
 
 -- it is behind the quote within the text
 pub quoted_within : (quote : ℕ) (bytes : List ℕ) (o : Option (List ℕ × ℕ)) → o ≡ quoted quote bytes → IfSome o (λ found. found.1 ≤ length bytes)
@@ -96,7 +107,7 @@ quoted_within quote bytes None e = tt
 quoted_within quote bytes (Some found) e = (quoted_cut quote bytes found (sym e)).1
 
 quoted_word_cuts : (make : List ℕ → Word) (quote : ℕ) (bytes : List ℕ) (found : Word × ℕ) → get_or bytes 0 0 ≡ quote → 0 < quote → quote < 128
-  → quoted_word make (quoted quote (drop 1 bytes)) ≡ Some found → CutsBehindAscii bytes found.1
+    → quoted_word make (quoted quote (drop 1 bytes)) ≡ Some found → CutsBehindAscii bytes found.1
 quoted_word_cuts make quote bytes found first some ascii e = quoted_word_cuts_at (quoted quote (drop 1 bytes)) refl e where
   quoted_word_cuts_at : (inner : Option (List ℕ × ℕ)) → quoted quote (drop 1 bytes) ≡ inner → quoted_word make inner ≡ Some found → CutsBehindAscii bytes found.1
   quoted_word_cuts_at None is e = absurd (cc)
@@ -114,12 +125,13 @@ quoted_word_cuts make quote bytes found first some ascii e = quoted_word_cuts_at
 pub number_cuts : (bytes : List ℕ) (found : Word × ℕ) → is_digit (get_or bytes 0 0) ≡ true → number_at bytes ≡ Some found → CutsBehindAscii bytes found.1
 unfolding number_at
 number_cuts bytes found first e =
-  let n = prefix_len is_digit bytes in let value = decimal_after 0 (take n bytes) in
-  elim (chosen (leb value greatest_number && ends_number (drop n bytes)) (Some (words.Number (pos value), n)) None (Some found) e) [
-  inl p ↦
-    let size : prefix_len is_digit bytes ≡ found.1 = cc (p.1) in
-    rw (← size) (prefix_cuts is_digit bytes digit_ascii (within_by_byte bytes 0 (grind (arith, nat_tests))) first)
-  | inr p ↦ absurd (cc (p.1)) ]
+    let n = prefix_len is_digit bytes in let value = decimal_after 0 (take n bytes) in
+    elim (chosen (leb value greatest_number && ends_number (drop n bytes)) (Some (words.Number (pos value), n)) None (Some found) e) [
+      | inl p ↦
+          let size : prefix_len is_digit bytes ≡ found.1 = cc (p.1) in
+          rw (← size) (prefix_cuts is_digit bytes digit_ascii (within_by_byte bytes 0 (grind (arith, nat_tests))) first)
+      | inr p ↦ absurd (cc (p.1))
+    ]
 
 pub name_cuts : (bytes : List ℕ) → begins_name (get_or bytes 0 0) ≡ true → CutsBehindAscii bytes (prefix_len continues_name bytes)
 name_cuts bytes first = prefix_cuts continues_name bytes name_ascii (within_by_byte bytes 0 (grind (arith, nat_tests))) (begins_continues (get_or bytes 0 0) first)
@@ -134,14 +146,18 @@ marked_cuts bytes found e = marked_cuts_at (longest_mark (get_or bytes 0 0) (get
 pub word_cuts : (bytes : List ℕ) (found : Word × ℕ) → word_at bytes ≡ Some found → CutsBehindAscii bytes found.1
 unfolding word_at
 word_cuts bytes found e = elim (chosen (begins_name (get_or bytes 0 0)) _ _ _ e) [
-  inl p ↦ let size : prefix_len continues_name bytes ≡ found.1 = cc (p.1) in rw (← size) (name_cuts bytes p.0)
+  | inl p ↦ let size : prefix_len continues_name bytes ≡ found.1 = cc (p.1) in rw (← size) (name_cuts bytes p.0)
   | inr p ↦ elim (chosen (is_digit (get_or bytes 0 0)) _ _ _ p.1) [
-    inl q ↦ number_cuts bytes found q.0 q.1
+    | inl q ↦ number_cuts bytes found q.0 q.1
     | inr q ↦ elim (chosen (eqb (get_or bytes 0 0) 34) _ _ _ q.1) [
-      inl r ↦ quoted_word_cuts words.Quoted 34 bytes found (grind (arith, nat_tests)) (omega arith) (omega arith) r.1
+      | inl r ↦ quoted_word_cuts words.Quoted 34 bytes found (grind (arith, nat_tests)) (omega arith) (omega arith) r.1
       | inr r ↦ elim (chosen (eqb (get_or bytes 0 0) 39) _ _ _ r.1) [
-        inl s ↦ quoted_word_cuts words.Text 39 bytes found (grind (arith, nat_tests)) (omega arith) (omega arith) s.1
-        | inr s ↦ marked_cuts bytes found s.1 ] ] ] ]
+        | inl s ↦ quoted_word_cuts words.Text 39 bytes found (grind (arith, nat_tests)) (omega arith) (omega arith) s.1
+        | inr s ↦ marked_cuts bytes found s.1
+      ]
+    ]
+  ]
+]
 
 -- behind an ASCII byte at the front
 pub first_cuts : (bytes : List ℕ) → 0 < get_or bytes 0 0 → get_or bytes 0 0 < 128 → CutsBehindAscii bytes 1

@@ -1,9 +1,8 @@
 -- The turns of the readings that count down.
-use Rattle.std.proofs.Common.{◌≡◌, ℕ, zero, suc, ◌+◌, ◌-◌, ◌<◌, ◌≤◌, Bool, true, false, cond, List, [], ◌∷◌, ◌++◌, refl, sym, ap, ◌∙◌, arith, sub-one}
-use Rattle.std.specs.Prelude.{Result, Ok, Err, if◌then◌else◌}
+use Rattle.std.proofs.Common.{◌≡◌, ℕ, zero, suc, ◌-◌, ◌<◌, List, [], ◌∷◌, ◌++◌, refl, ap, arith}
+use Rattle.std.specs.Prelude.{Ok, Err, if◌then◌else◌}
 use Rattle.ps_sql.specs.declared.expressions.Expr.{Expr}
 use Rattle.ps_sql.specs.declared.expressions.Expr.TheVariants as exprs
-use Rattle.ps_sql.specs.declared.faults.SqlFault.{SqlFault}
 use Rattle.ps_sql.specs.declared.faults.SqlFault.TheVariants as faults
 use Rattle.ps_sql.specs.declared.words.Keyword.TheVariants as keywords
 use Rattle.ps_sql.specs.declared.words.Mark.TheVariants as marks
@@ -28,15 +27,15 @@ negation_none zero operand input e = refl
 negation_none (suc turns) operand input e = absurd (omega arith)
 
 pub negation_turn : (turns : ℕ) (operand : Reader) (input : Input) → 0 < turns
-  → negation turns operand input ≡ (if is_keyword keywords.Not (next input)
+    → negation turns operand input ≡ (if is_keyword keywords.Not (next input)
     then (if is_keyword keywords.In (second input) then Err (faults.Unsupported (here input))
-      else (negation (turns - 1) operand (past 1 input) >>= λ x. Ok (exprs.Not x.0, x.1)))
+    else (negation (turns - 1) operand (past 1 input) >>= λ x. Ok (exprs.Not x.0, x.1)))
     else operand input)
 unfolding negation
 negation_turn zero operand input e = absurd (omega arith)
 negation_turn (suc turns) operand input e = ap (λ n. if is_keyword keywords.Not (next input)
     then (if is_keyword keywords.In (second input) then Err (faults.Unsupported (here input))
-      else (negation n operand (past 1 input) >>= λ x. Ok (exprs.Not x.0, x.1)))
+    else (negation n operand (past 1 input) >>= λ x. Ok (exprs.Not x.0, x.1)))
     else operand input) (omega arith)
 
 pub more_none : (level : Level) (turns : ℕ) (operand : Reader) (left : Expr) (input : Input) → turns ≡ 0 → more level turns operand left input ≡ Err (refusal input)
@@ -45,7 +44,7 @@ more_none level zero operand left input e = refl
 more_none level (suc turns) operand left input e = absurd (omega arith)
 
 pub more_turn : (level : Level) (turns : ℕ) (operand : Reader) (left : Expr) (input : Input) → 0 < turns
-  → more level turns operand left input ≡ (step level operand left input >>= go_on (more level (turns - 1) operand))
+    → more level turns operand left input ≡ (step level operand left input >>= go_on (more level (turns - 1) operand))
 unfolding more
 more_turn level zero operand left input e = absurd (omega arith)
 more_turn level (suc turns) operand left input e = ap (λ n. step level operand left input >>= go_on (more level n operand)) (omega arith)
@@ -56,7 +55,7 @@ arguments_none zero inner read input e = refl
 arguments_none (suc turns) inner read input e = absurd (omega arith)
 
 pub arguments_turn : (turns : ℕ) (inner : Reader) (read : List Expr) (input : Input) → 0 < turns
-  → more_arguments turns inner read input ≡ (if is_mark marks.Comma (next input)
+    → more_arguments turns inner read input ≡ (if is_mark marks.Comma (next input)
     then (inner (past 1 input) >>= λ x. more_arguments (turns - 1) inner (read ++ x.0 ∷ []) x.1)
     else Ok (read, input))
 unfolding more_arguments

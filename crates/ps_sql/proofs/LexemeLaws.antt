@@ -1,5 +1,5 @@
 -- One step of the reading of lexemes.
-use Rattle.std.proofs.Common.{◌≡◌, ◌≢◌, ℕ, zero, suc, ◌+◌, ◌-◌, ◌<◌, ◌≤◌, Bool, true, false, List, [], ◌∷◌, ◌++◌, length, get_or, take, drop, Option, Some, None, refl, sym, ap, subst, ◌∙◌, ◌⊎◌, inl, inr, arith, append-nil, append_assoc, length-take}
+use Rattle.std.proofs.Common.{◌≡◌, ℕ, ◌+◌, ◌<◌, Bool, true, false, List, [], ◌∷◌, ◌++◌, length, get_or, take, drop, Some, None, refl, sym, ap, subst, ◌∙◌, ◌⊎◌, inl, inr, arith, length-take}
 use Rattle.std.specs.Prelude.{◌||◌, ◌==◌, map, Result, Ok, Err}
 use Rattle.std.proofs.lemmas.List.{take-append-drop}
 use Rattle.std.proofs.lemmas.Option.{same_Some}
@@ -10,7 +10,7 @@ use Rattle.ps_sql.specs.declared.words.Token.{Token}
 use Rattle.ps_sql.specs.declared.faults.SqlFault.{SqlFault}
 use Rattle.ps_sql.specs.declared.faults.SqlFault.TheVariants as faults
 use Rattle.ps_sql.specs.Answers.{AnswersTokens, Reads}
-use Rattle.ps_sql.specs.Words.{is_blank, word_at, longest_mark, single_mark, CutsBehindAscii}
+use Rattle.ps_sql.specs.Words.{is_blank, word_at, longest_mark, single_mark}
 use Rattle.ps_sql.specs.Spellings.{IsWord}
 use Rattle.ps_sql.specs.Lexemes.{AreLexemes, none_left, blank_next, word_next, Stops, no_word, past_blank, past_word, HasNoWord, lexeme_at, AreTokens, token_of}
 use Rattle.ps_sql.proofs.Cuts.{word_cuts}
@@ -29,7 +29,7 @@ pub parts : (bytes : List ℕ) (found : Word × ℕ) → word_at bytes ≡ Some 
 parts bytes found e = let cuts = word_cuts bytes found e in (sym (take-append-drop found.1 bytes), simp length-take (omega arith))
 
 pub word_lexemes : (at : ℕ) (bytes : List ℕ) (found : Word × ℕ) (more : List Lexeme) → word_at bytes ≡ Some found
-  → AreLexemes (at + found.1) (drop found.1 bytes) more → AreLexemes at bytes (record { word = found.0; from = at; upto = at + found.1 } ∷ more)
+    → AreLexemes (at + found.1) (drop found.1 bytes) more → AreLexemes at bytes (record { word = found.0; from = at; upto = at + found.1 } ∷ more)
 word_lexemes at bytes found more e is =
     let p = parts bytes found e in
     let F : ℕ → Type 0 = λ n. AreLexemes at bytes (record { word = found.0; from = at; upto = at + n } ∷ more) in
@@ -37,7 +37,7 @@ word_lexemes at bytes found more e is =
     subst F p.1 (word_next found.0 (take found.1 bytes) (drop found.1 bytes) p.0 (word_found bytes found e) (subst G (sym p.1) is))
 
 pub word_stops : (at : ℕ) (bytes : List ℕ) (found : Word × ℕ) (place : ℕ) → word_at bytes ≡ Some found
-  → Stops (at + found.1) (drop found.1 bytes) place → Stops at bytes place
+    → Stops (at + found.1) (drop found.1 bytes) place → Stops at bytes place
 word_stops at bytes found place e is =
     let p = parts bytes found e in
     let G : ℕ → Type 0 = λ n. Stops (at + n) (drop found.1 bytes) place in
@@ -64,14 +64,16 @@ or_either false b e = inr e
 blank_no_word : (b : ℕ) (rest : List ℕ) → is_blank b ≡ true → word_at (b ∷ rest) ≡ None
 unfolding word_at longest_mark single_mark
 blank_no_word b rest blank = elim (or_either (b == 32 || b == 9 || b == 10) (b == 13) blank) [
-  inl p ↦ elim (or_either (b == 32 || b == 9) (b == 10) p) [
-    inl q ↦ elim (or_either (b == 32) (b == 9) q) [ inl r ↦ rw (sym (eqb_same 32 b r)) refl | inr r ↦ rw (sym (eqb_same 9 b r)) refl ]
-    | inr q ↦ rw (sym (eqb_same 10 b q)) refl ]
-  | inr p ↦ rw (sym (eqb_same 13 b p)) refl ]
+  | inl p ↦ elim (or_either (b == 32 || b == 9) (b == 10) p) [
+    | inl q ↦ elim (or_either (b == 32) (b == 9) q) [ inl r ↦ rw (sym (eqb_same 32 b r)) refl | inr r ↦ rw (sym (eqb_same 9 b r)) refl ]
+    | inr q ↦ rw (sym (eqb_same 10 b q)) refl
+  ]
+  | inr p ↦ rw (sym (eqb_same 13 b p)) refl
+]
 
 -- one word begins a text at most, and it takes one number of bytes
 same_front : {bytes : List ℕ} (w w' : Word) (a a' r r' : List ℕ) → bytes ≡ a ++ r → IsWord w a r → bytes ≡ a' ++ r' → IsWord w' a' r'
-  → (w ≡ w') × (length a ≡ length a') × (r ≡ r')
+    → (w ≡ w') × (length a ≡ length a') × (r ≡ r')
 same_front {bytes} w w' a a' r r' e is e' is' =
     let read : word_at bytes ≡ Some (w, length a) = ap word_at e ∙ word_only w a r is in
     let read' : word_at bytes ≡ Some (w', length a') = ap word_at e' ∙ word_only w' a' r' is' in

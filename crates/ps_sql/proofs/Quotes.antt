@@ -1,5 +1,5 @@
 -- What stands between quotes, read piece by piece.
-use Rattle.std.proofs.Common.{◌≡◌, ◌≢◌, ℕ, suc, ◌+◌, ◌-◌, ◌<◌, ◌≤◌, Bool, true, false, cond, eqb, List, [], ◌∷◌, ◌++◌, length, get_or, Option, Some, None, refl, sym, ap, ◌∙◌, arith, append_assoc, append-nil, length-append, add_assoc, zero-add}
+use Rattle.std.proofs.Common.{◌≡◌, ◌≢◌, ℕ, suc, ◌+◌, ◌-◌, ◌<◌, ◌≤◌, true, false, eqb, List, [], ◌∷◌, ◌++◌, length, get_or, Option, Some, None, refl, sym, ap, ◌∙◌, arith, append_assoc, append-nil, length-append, add_assoc, zero-add}
 use Rattle.std.proofs.lemmas.Bool.Decides.{nat_tests}
 use Rattle.ps_sql.specs.Words.{behind, quoted}
 
@@ -27,12 +27,12 @@ quoted_open quote (b ∷ c ∷ rest) none = rw (eqb_no b quote (none 0 (omega ar
 
 -- what stands before the first quote belongs to the text
 pub quoted_front : (quote : ℕ) (front rest : List ℕ) → ((i : ℕ) → i < length front → get_or front i 0 ≢ quote)
-  → quoted quote (front ++ quote ∷ rest) ≡ behind front (length front) (quoted quote (quote ∷ rest))
+    → quoted quote (front ++ quote ∷ rest) ≡ behind front (length front) (quoted quote (quote ∷ rest))
 unfolding quoted
 quoted_front quote [] rest none = sym (behind-nothing _)
 quoted_front quote (b ∷ []) rest none = rw (eqb_no b quote (none 0 (omega arith))) refl
 quoted_front quote (b ∷ c ∷ front) rest none = rw (eqb_no b quote (none 0 (omega arith)))
-  (ap (behind (b ∷ []) 1) (quoted_front quote (c ∷ front) rest (λ i h. none (suc i) (omega arith)))
+    (ap (behind (b ∷ []) 1) (quoted_front quote (c ∷ front) rest (λ i h. none (suc i) (omega arith)))
     ∙ behind-behind (b ∷ []) (c ∷ front) 1 (length (c ∷ front)) _ ∙ ap (λ n. behind (b ∷ c ∷ front) n (quoted quote (quote ∷ rest))) (omega arith))
 
 -- two quotes stand for one
@@ -51,31 +51,31 @@ some_pair p q = cc
 
 -- a reading that goes on behind a quote that no quote follows has come to its end
 pub quoted_ends : (quote : ℕ) (text content left before after : List ℕ) → length left ≤ length text
-  → quoted quote text ≡ behind content (length text - length left) (quoted quote left)
-  → left ≡ before ++ quote ∷ after → ((i : ℕ) → i < length before → get_or before i 0 ≢ quote) → ((more : List ℕ) → after ≢ quote ∷ more)
-  → quoted quote text ≡ Some (content ++ before, length text - length after)
+    → quoted quote text ≡ behind content (length text - length left) (quoted quote left)
+    → left ≡ before ++ quote ∷ after → ((i : ℕ) → i < length before → get_or before i 0 ≢ quote) → ((more : List ℕ) → after ≢ quote ∷ more)
+    → quoted quote text ≡ Some (content ++ before, length text - length after)
 quoted_ends quote text content left before after within so_far parts none closed =
     let front = quoted_front quote before after none in
     let size : length left ≡ length before + suc (length after) = ap length parts ∙ length-append before (quote ∷ after) in
     let count : length text - length left + (length before + 1) ≡ length text - length after = omega arith in
     so_far ∙ ap (behind content (length text - length left)) (ap (quoted quote) parts ∙ front ∙ ap (behind before (length before)) (quoted_closed quote after closed))
-      ∙ some_pair (ap (λ xs. content ++ xs) (append-nil before)) count
+    ∙ some_pair (ap (λ xs. content ++ xs) (append-nil before)) count
 
 -- a reading that goes on behind two quotes goes on behind them
 pub quoted_goes_on : (quote : ℕ) (text content left before after more : List ℕ) → length left ≤ length text
-  → quoted quote text ≡ behind content (length text - length left) (quoted quote left)
-  → left ≡ before ++ quote ∷ after → ((i : ℕ) → i < length before → get_or before i 0 ≢ quote) → after ≡ quote ∷ more
-  → quoted quote text ≡ behind ((content ++ before) ++ quote ∷ []) (length text - length more) (quoted quote more)
+    → quoted quote text ≡ behind content (length text - length left) (quoted quote left)
+    → left ≡ before ++ quote ∷ after → ((i : ℕ) → i < length before → get_or before i 0 ≢ quote) → after ≡ quote ∷ more
+    → quoted quote text ≡ behind ((content ++ before) ++ quote ∷ []) (length text - length more) (quoted quote more)
 quoted_goes_on quote text content left before after more within so_far parts none twice =
     let front = quoted_front quote before after none in
     let size : length left ≡ length before + suc (length after) = ap length parts ∙ length-append before (quote ∷ after) in
     let rest : length after ≡ suc (length more) = ap length twice in
     let count : length text - length left + length before + 2 ≡ length text - length more = omega arith in
     so_far ∙ ap (behind content (length text - length left)) (ap (quoted quote) parts ∙ front ∙ ap (λ xs. behind before (length before) (quoted quote (quote ∷ xs))) twice ∙ ap (behind before (length before)) (quoted_twice quote more))
-      ∙ behind-behind content before (length text - length left) (length before) _
-      ∙ behind-behind (content ++ before) (quote ∷ []) (length text - length left + length before) 2 (quoted quote more)
-      ∙ ap (λ n. behind ((content ++ before) ++ quote ∷ []) n (quoted quote more)) count
+    ∙ behind-behind content before (length text - length left) (length before) _
+    ∙ behind-behind (content ++ before) (quote ∷ []) (length text - length left + length before) 2 (quoted quote more)
+    ∙ ap (λ n. behind ((content ++ before) ++ quote ∷ []) n (quoted quote more)) count
 
 pub quoted_never : (quote : ℕ) (text content left : List ℕ) (n : ℕ) → quoted quote text ≡ behind content n (quoted quote left)
-  → ((i : ℕ) → i < length left → get_or left i 0 ≢ quote) → quoted quote text ≡ None
+    → ((i : ℕ) → i < length left → get_or left i 0 ≢ quote) → quoted quote text ≡ None
 quoted_never quote text content left n so_far none = so_far ∙ ap (behind content n) (quoted_open quote left none)

@@ -1,5 +1,5 @@
 -- What is read with a table known is read the same with none known.
-use Rattle.std.proofs.Common.{◌≡◌, ℕ, zero, suc, Bool, true, false, cond, eqb, List, [], ◌∷◌, ◌++◌, length, Option, Some, None, refl, sym, ap, ◌∙◌}
+use Rattle.std.proofs.Common.{◌≡◌, ℕ, zero, suc, Bool, true, false, cond, List, [], ◌∷◌, ◌++◌, Option, Some, None, refl, ap, ◌∙◌}
 use Rattle.std.specs.Prelude.{Result, Ok, Err, ◌&&◌, not, bytes_eq, codes}
 use Rattle.ps_sql.specs.declared.words.Word.{Word}
 use Rattle.ps_sql.specs.declared.words.Word.TheVariants as words
@@ -23,7 +23,7 @@ use Rattle.ps_sql.specs.declared.contexts.Level.TheVariants as levels
 use Rattle.ps_sql.specs.declared.contexts.Step.{Step}
 use Rattle.ps_sql.specs.declared.contexts.Step.TheVariants as steps
 use Rattle.ps_sql.specs.Inputs.{Input, ◌>>=◌, next, second, third, fourth, here, past, is_mark, is_keyword, name_of, plain_name_of, same_mark, expect_mark, expect_keyword}
-use Rattle.ps_sql.specs.Grammar.{Reader, allows_column, allows_qualifier, column, qualified, qualified_by, bucket, request, request_or, token_user, token_or, dotted, quoted_name, function_of, more_arguments, arguments, called, call_by, named_value, plain_name, type_by, cast, keyword_value, bracketed, mark_value, prime_by, prime, operator_at, is_same, step_by, step, go_on, more, chain, negation, is_arithmetic, whole, expr}
+use Rattle.ps_sql.specs.Grammar.{Reader, allows_column, allows_qualifier, column, qualified, qualified_by, bucket, request, request_or, token_user, token_or, dotted, quoted_name, function_of, more_arguments, arguments, called, call_by, named_value, plain_name, type_by, cast, keyword_value, bracketed, mark_value, prime_by, prime, operator_at, is_same, step_by, step, go_on, more, chain, negation, whole, expr}
 use Rattle.ps_sql.specs.Queries.{output, item, items, outputs, nothing_listed, begins_clause}
 
 if_both : {A : Type 0} (b : Bool) (y z y' z' : Result A SqlFault) (x : A) → (y ≡ Ok x → y' ≡ Ok x) → (z ≡ Ok x → z' ≡ Ok x) → cond b y z ≡ Ok x → cond b y' z' ≡ Ok x
@@ -31,7 +31,7 @@ if_both true y z y' z' x f g e = f e
 if_both false y z y' z' x f g e = g e
 
 bind_both : {A B : Type 0} (m m' : Result A SqlFault) (f f' : A → Result B SqlFault) (y : B) → ((x : A) → m ≡ Ok x → m' ≡ Ok x) → ((x : A) → f x ≡ Ok y → f' x ≡ Ok y)
-  → (m >>= f) ≡ Ok y → (m' >>= f') ≡ Ok y
+    → (m >>= f) ≡ Ok y → (m' >>= f') ≡ Ok y
 bind_both (Ok x) m' f f' y g h e = ap (λ r. r >>= f') (g x refl) ∙ h x e
 bind_both (Err fault) m' f f' y g h e = absurd (cc)
 
@@ -79,14 +79,15 @@ module _ (is_data : Bool) (scope : Scope) where
   unfolding Follows dotted
   dotted_any qualifier input x e =
       if_both (bytes_eq qualifier (codes "bucket")) _ _ _ _ x (bucket_any input x)
-        (if_both (bytes_eq qualifier (codes "request")) _ _ _ _ x (by_request (plain_name_of (third input)))
-          (if_both (bytes_eq qualifier (codes "token_parameters")) _ _ _ _ x (by_token (plain_name_of (third input))) (qualified_any qualifier input x))) e where
-    by_request : (o : Option (List ℕ)) → request_or known qualifier input o ≡ Ok x → request_or any qualifier input o ≡ Ok x
-    by_request None e = qualified_any qualifier input x e
-    by_request (Some name) e = if_both (is_mark marks.Open (fourth input)) _ _ _ _ x (request_any name input x) (qualified_any qualifier input x) e
-    by_token : (o : Option (List ℕ)) → token_or known qualifier input o ≡ Ok x → token_or any qualifier input o ≡ Ok x
-    by_token None e = qualified_any qualifier input x e
-    by_token (Some name) e = if_both (bytes_eq name (codes "user_id")) _ _ _ _ x (token_any input x) (qualified_any qualifier input x) e
+      (if_both (bytes_eq qualifier (codes "request")) _ _ _ _ x (by_request (plain_name_of (third input)))
+      (if_both (bytes_eq qualifier (codes "token_parameters")) _ _ _ _ x (by_token (plain_name_of (third input))) (qualified_any qualifier input x))) e where
+        by_request : (o : Option (List ℕ)) → request_or known qualifier input o ≡ Ok x → request_or any qualifier input o ≡ Ok x
+        by_request None e = qualified_any qualifier input x e
+        by_request (Some name) e = if_both (is_mark marks.Open (fourth input)) _ _ _ _ x (request_any name input x) (qualified_any qualifier input x) e
+
+        by_token : (o : Option (List ℕ)) → token_or known qualifier input o ≡ Ok x → token_or any qualifier input o ≡ Ok x
+        by_token None e = qualified_any qualifier input x e
+        by_token (Some name) e = if_both (bytes_eq name (codes "user_id")) _ _ _ _ x (token_any input x) (qualified_any qualifier input x) e
 
   quoted_name_any : (name : List ℕ) → Follows (quoted_name known name) (quoted_name any name)
   unfolding Follows quoted_name
@@ -97,11 +98,11 @@ module _ (is_data : Bool) (scope : Scope) where
   named_value_any name input x e = if_both (is_mark marks.Dot (second input)) _ _ _ _ x (dotted_any name input x) (column_any name input x) e
 
   more_arguments_any : (inner inner' : Reader) → Follows inner inner' → (turns : ℕ) (read : List Expr) (input : Input) (x : List Expr × Input)
-    → more_arguments turns inner read input ≡ Ok x → more_arguments turns inner' read input ≡ Ok x
+      → more_arguments turns inner read input ≡ Ok x → more_arguments turns inner' read input ≡ Ok x
   unfolding Follows more_arguments
   more_arguments_any inner inner' follows zero read input x e = e
   more_arguments_any inner inner' follows (suc turns) read input x e =
-    if_both (is_mark marks.Comma (next input)) _ _ _ _ x
+      if_both (is_mark marks.Comma (next input)) _ _ _ _ x
       (bind_both (inner (past 1 input)) (inner' (past 1 input)) _ _ x (follows (past 1 input)) (λ y e. more_arguments_any inner inner' follows turns (read ++ y.0 ∷ []) y.1 x e)) (λ e. e) e
 
   arguments_any : (limit : ℕ) (inner inner' : Reader) → Follows inner inner' → (input : Input) (x : List Expr × Input) → arguments limit inner input ≡ Ok x → arguments limit inner' input ≡ Ok x
@@ -111,22 +112,22 @@ module _ (is_data : Bool) (scope : Scope) where
   called_any : (limit : ℕ) (inner inner' : Reader) → Follows inner inner' → (function : Function) → Follows (called limit inner function) (called limit inner' function)
   unfolding Follows called
   called_any limit inner inner' follows function input x e =
-    bind_both (arguments limit inner (past 2 input)) (arguments limit inner' (past 2 input)) _ _ x (arguments_any limit inner inner' follows (past 2 input)) (λ y e. e) e
+      bind_both (arguments limit inner (past 2 input)) (arguments limit inner' (past 2 input)) _ _ x (arguments_any limit inner inner' follows (past 2 input)) (λ y e. e) e
 
   plain_name_any : (limit : ℕ) (inner inner' : Reader) → Follows inner inner' → (name : List ℕ) → Follows (plain_name known limit inner name) (plain_name any limit inner' name)
   unfolding Follows plain_name
   plain_name_any limit inner inner' follows name input x e =
       if_both (is_mark marks.Open (second input)) _ _ _ _ x (by_function (function_of name)) (named_value_any name input x) e where
-    by_function : (o : Option Function) → call_by limit inner input o ≡ Ok x → call_by limit inner' input o ≡ Ok x
-    by_function None e = e
-    by_function (Some function) e = if_both (is_mark marks.Close (third input)) _ _ _ _ x (λ e. e) (called_any limit inner inner' follows function input x) e
+        by_function : (o : Option Function) → call_by limit inner input o ≡ Ok x → call_by limit inner' input o ≡ Ok x
+        by_function None e = e
+        by_function (Some function) e = if_both (is_mark marks.Close (third input)) _ _ _ _ x (λ e. e) (called_any limit inner inner' follows function input x) e
 
   cast_any : (inner inner' : Reader) → Follows inner inner' → Follows (cast inner) (cast inner')
   unfolding Follows cast
   cast_any inner inner' follows input x e =
-    let after : Expr × Input → Result (Expr × Input) SqlFault = λ z. expect_keyword keywords.As z.1 >>= λ named. type_by named (plain_name_of (next named)) >>= λ typed.
+      let after : Expr × Input → Result (Expr × Input) SqlFault = λ z. expect_keyword keywords.As z.1 >>= λ named. type_by named (plain_name_of (next named)) >>= λ typed.
       expect_mark marks.Close typed >>= λ rest. Ok (exprs.CastText z.0, rest) in
-    bind_both (expect_mark marks.Open (past 1 input)) (expect_mark marks.Open (past 1 input)) (λ y. inner y >>= after) (λ y. inner' y >>= after) x (λ y e. e)
+      bind_both (expect_mark marks.Open (past 1 input)) (expect_mark marks.Open (past 1 input)) (λ y. inner y >>= after) (λ y. inner' y >>= after) x (λ y e. e)
       (λ y e. bind_both (inner y) (inner' y) after after x (follows y) (λ z e. e) e) e
 
   keyword_value_any : (inner inner' : Reader) → Follows inner inner' → (k : Keyword) → Follows (keyword_value inner k) (keyword_value inner' k)
@@ -178,10 +179,10 @@ module _ (is_data : Bool) (scope : Scope) where
   more_any at operand operand' follows zero left input x e = e
   more_any at operand operand' follows (suc turns) left input x e =
       bind_both (step at operand left input) (step at operand' left input) _ _ x (step_any at operand operand' follows left input) (λ y e. by_step (more_any at operand operand' follows turns) y.0 y.1 e) e where
-    by_step : ((left : Expr) (input : Input) (x : Expr × Input) → more at turns operand left input ≡ Ok x → more at turns operand' left input ≡ Ok x) → (st : Step) (r : Input)
-      → go_on (more at turns operand) (st, r) ≡ Ok x → go_on (more at turns operand') (st, r) ≡ Ok x
-    by_step again (steps.Done done) r e = e
-    by_step again (steps.Goes longer) r e = again longer r x e
+        by_step : ((left : Expr) (input : Input) (x : Expr × Input) → more at turns operand left input ≡ Ok x → more at turns operand' left input ≡ Ok x) → (st : Step) (r : Input)
+            → go_on (more at turns operand) (st, r) ≡ Ok x → go_on (more at turns operand') (st, r) ≡ Ok x
+        by_step again (steps.Done done) r e = e
+        by_step again (steps.Goes longer) r e = again longer r x e
 
   chain_any : (at : Level) (limit : ℕ) (operand operand' : Reader) → Follows operand operand' → Follows (chain at limit operand) (chain at limit operand')
   unfolding Follows chain
@@ -191,19 +192,19 @@ module _ (is_data : Bool) (scope : Scope) where
   unfolding Follows negation
   negation_any operand operand' follows zero input x e = e
   negation_any operand operand' follows (suc turns) input x e =
-    if_both (is_keyword keywords.Not (next input)) _ _ _ _ x
+      if_both (is_keyword keywords.Not (next input)) _ _ _ _ x
       (if_both (is_keyword keywords.In (second input)) _ _ _ _ x (λ e. e)
-        (bind_both (negation turns operand (past 1 input)) (negation turns operand' (past 1 input)) _ _ x (negation_any operand operand' follows turns (past 1 input)) (λ y e. e)))
+      (bind_both (negation turns operand (past 1 input)) (negation turns operand' (past 1 input)) _ _ x (negation_any operand operand' follows turns (past 1 input)) (λ y e. e)))
       (follows input x) e
 
   whole_any : (limit : ℕ) (inner inner' : Reader) → Follows inner inner' → Follows (whole known limit inner) (whole any limit inner')
   unfolding Follows whole
   whole_any limit inner inner' follows input x e =
-    let joins = chain_any levels.Joining limit _ _ (prime_any limit inner inner' follows) in
-    let orders = chain_any levels.Order limit _ _ joins in
-    let sames = chain_any levels.Same limit _ _ orders in
-    let ands = chain_any levels.And limit _ _ (negation_any _ _ sames limit) in
-    bind_both _ _ _ _ x (chain_any levels.Or limit _ _ ands input) (λ y e. e) e
+      let joins = chain_any levels.Joining limit _ _ (prime_any limit inner inner' follows) in
+      let orders = chain_any levels.Order limit _ _ joins in
+      let sames = chain_any levels.Same limit _ _ orders in
+      let ands = chain_any levels.And limit _ _ (negation_any _ _ sames limit) in
+      bind_both _ _ _ _ x (chain_any levels.Or limit _ _ ands input) (λ y e. e) e
 
   expr_any : (limit depth : ℕ) → Follows (expr known limit depth) (expr any limit depth)
   unfolding Follows expr
@@ -217,16 +218,16 @@ module _ (is_data : Bool) (scope : Scope) where
   item_any : (limit : ℕ) (listed : Listed) (input : Input) (x : Listed × Input) → item known limit listed input ≡ Ok x → item any limit listed input ≡ Ok x
   unfolding item known any
   item_any limit listed input x e =
-    if_both ((is_data && not listed.star) && is_mark marks.Star (next input)) _ _ _ _ x (λ e. e) (bind_both _ _ _ _ x (output_any limit input) (λ y e. e)) e
+      if_both ((is_data && not listed.star) && is_mark marks.Star (next input)) _ _ _ _ x (λ e. e) (bind_both _ _ _ _ x (output_any limit input) (λ y e. e)) e
 
   items_any : (turns limit : ℕ) (listed : Listed) (input : Input) (x : Listed × Input) → items turns known limit listed input ≡ Ok x → items turns any limit listed input ≡ Ok x
   unfolding items
   items_any zero limit listed input x e = e
   items_any (suc turns) limit listed input x e =
-    bind_both (item known limit listed input) (item any limit listed input) _ _ x (item_any limit listed input)
+      bind_both (item known limit listed input) (item any limit listed input) _ _ x (item_any limit listed input)
       (λ y e. if_both (is_mark marks.Comma (next y.1)) _ _ _ _ x (items_any turns limit y.0 (past 1 y.1) x) (λ e. e) e) e
 
   pub outputs_any : (limit : ℕ) (input : Input) (x : Listed × Input) → outputs (record { is_data = is_data; scope = scope }) limit input ≡ Ok x
-    → outputs (record { is_data = is_data; scope = scopes.Any }) limit input ≡ Ok x
+      → outputs (record { is_data = is_data; scope = scopes.Any }) limit input ≡ Ok x
   unfolding outputs known any
   outputs_any limit input x e = if_both (not is_data && begins_clause input) _ _ _ _ x (λ e. e) (items_any limit limit nothing_listed input x) e

@@ -1,13 +1,12 @@
 -- Worked values.
-use Rattle.std.proofs.Common.{◌≡◌, ℕ, pos, negsuc, List, [], ◌∷◌, Some, None, refl, ap, ◌∙◌}
+use Rattle.std.proofs.Common.{◌≡◌, pos, [], ◌∷◌, refl, ap, ◌∙◌}
 use Rattle.std.specs.Prelude.{codes}
 use Rattle.std.specs.Fmt.{digits}
-use Rattle.ps_values.specs.declared.values.Value.{Value}
 use Rattle.ps_values.specs.declared.values.Value.TheVariants.{Null, Int, Text}
 use Rattle.ps_sql.specs.declared.expressions.Operator.TheVariants as operators
 use Rattle.ps_sql.specs.declared.expressions.Function.TheVariants as functions
 use Rattle.ps_sql.specs.declared.expressions.Expr.TheVariants as exprs
-use Rattle.ps_sql.specs.Meaning.{Given, two_value, call_value, column_value, truth_value, opposite_truth, value_of}
+use Rattle.ps_sql.specs.Meaning.{Given, two_value, call_value, column_value, value_of}
 use Rattle.ps_sql.proofs.ValueLaws.{value_of-Two, value_of-Number, value_of-Null}
 
 -- Unknown OR True is True, Unknown AND True is Unknown, Unknown AND False is False
@@ -74,5 +73,5 @@ column_missing = refl
 -- a whole expression: 2 = 2 OR NULL
 whole : (given : Given) → value_of given (exprs.Two operators.Or (exprs.Two operators.Equal (exprs.Number (pos 2)) (exprs.Number (pos 2))) exprs.Null) ≡ Int (pos 1)
 whole given = value_of-Two given operators.Or _ _
-  ∙ ap (λ a. two_value operators.Or a (value_of given exprs.Null)) (value_of-Two given operators.Equal _ _ ∙ ap (λ n. two_value operators.Equal n n) (value_of-Number given (pos 2)))
-  ∙ ap (two_value operators.Or (Int (pos 1))) (value_of-Null given)
+    ∙ ap (λ a. two_value operators.Or a (value_of given exprs.Null)) (value_of-Two given operators.Equal _ _ ∙ ap (λ n. two_value operators.Equal n n) (value_of-Number given (pos 2)))
+    ∙ ap (two_value operators.Or (Int (pos 1))) (value_of-Null given)

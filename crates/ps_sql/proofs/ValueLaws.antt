@@ -1,7 +1,6 @@
 -- The value of each form of expression, from the values of its parts.
-use Rattle.std.proofs.Common.{◌≡◌, ℕ, ℤ, pos, Bool, List, [], ◌∷◌, Option, Some, None, refl, sym, ap, ◌∙◌, map}
-use Rattle.std.specs.Prelude.{not, if◌then◌else◌, codes}
-use Rattle.ps_values.specs.declared.columns.Column.{Column}
+use Rattle.std.proofs.Common.{◌≡◌, ℕ, ℤ, Bool, List, sym, ap, ◌∙◌, map}
+use Rattle.std.specs.Prelude.{not, if◌then◌else◌}
 use Rattle.ps_values.specs.declared.values.Value.{Value}
 use Rattle.ps_values.specs.declared.values.Value.TheVariants.{Null, Int, Text}
 use Rattle.ps_values.specs.Values.{truth_of, is_null}
@@ -10,10 +9,8 @@ use Rattle.ps_sql.specs.declared.expressions.Expr.TheOpen.{Expr-F}
 use Rattle.ps_sql.specs.declared.expressions.Expr.TheOpen as layers
 use Rattle.ps_sql.specs.declared.expressions.Expr.TheVariants as exprs
 use Rattle.ps_sql.specs.declared.expressions.Operator.{Operator}
-use Rattle.ps_sql.specs.declared.expressions.Operator.TheVariants as operators
 use Rattle.ps_sql.specs.declared.expressions.Function.{Function}
-use Rattle.ps_sql.specs.declared.expressions.Function.TheVariants as functions
-use Rattle.ps_sql.specs.Meaning.{Asker, Given, Holds, value_of, layer_value, column_value, two_value, call_value, text_value, text_of, truth_value, opposite_truth, bool_value}
+use Rattle.ps_sql.specs.Meaning.{Given, value_of, layer_value, column_value, two_value, call_value, text_value, text_of, truth_value, opposite_truth, bool_value}
 
 module _ (given : Given) where
   pub value_of-Null : value_of given exprs.Null ≡ Null

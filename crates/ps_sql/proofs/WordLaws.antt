@@ -1,5 +1,5 @@
 -- The word that is read at the front of a text is the one that is written there, and there is no other.
-use Rattle.std.proofs.Common.{◌≡◌, ◌≢◌, ℕ, zero, suc, pos, ◌+◌, ◌-◌, ◌<◌, ◌≤◌, Bool, true, false, cond, eqb, ltb, leb, List, [], ◌∷◌, ◌++◌, length, get_or, take, drop, Option, Some, None, refl, sym, ap, subst, ◌∙◌, ◌⊎◌, inl, inr, arith, append_assoc, length-append, length-take, add-one, one-add}
+use Rattle.std.proofs.Common.{◌≡◌, ℕ, zero, suc, pos, ◌+◌, ◌<◌, ◌≤◌, Bool, true, false, cond, eqb, leb, List, [], ◌∷◌, ◌++◌, length, get_or, take, drop, Option, Some, None, refl, sym, ap, subst, ◌∙◌, ◌⊎◌, inl, inr, arith, append_assoc, length-append, length-take, one-add}
 use Rattle.std.specs.Prelude.{◌&&◌, ◌||◌, not}
 use Rattle.std.specs.List.{prefix_len, list_all}
 use Rattle.std.proofs.lemmas.Option.{same_Some}
@@ -10,7 +10,7 @@ use Rattle.ps_sql.specs.declared.words.Word.TheVariants as words
 use Rattle.ps_sql.specs.declared.words.Keyword.{Keyword}
 use Rattle.ps_sql.specs.declared.words.Mark.{Mark}
 use Rattle.ps_sql.specs.declared.words.Mark.TheVariants as marks
-use Rattle.ps_sql.specs.Words.{is_blank, is_digit, begins_name, continues_name, decimal_after, greatest_number, ends_number, named, keyword_of, name_at, number_at, word_at, quoted, quoted_word, behind, single_mark, longest_mark, marked, CutsBehindAscii}
+use Rattle.ps_sql.specs.Words.{is_digit, begins_name, continues_name, decimal_after, greatest_number, ends_number, named, keyword_of, name_at, number_at, word_at, quoted, quoted_word, behind, single_mark, longest_mark, marked}
 use Rattle.ps_sql.specs.Spellings.{IsWord, IsName, IsNumber, IsQuoted, IsMark, ends_mark, doubled}
 use Rattle.ps_sql.proofs.Cuts.{chosen, word_cuts, first_cuts, name_cuts, number_cuts, mark_cuts, behind_some, within_by_byte}
 use Rattle.ps_sql.proofs.Quotes.{eqb_yes, eqb_no, quoted_twice, quoted_closed, some_pair}
@@ -101,19 +101,23 @@ name_only written after is =
 number_found : (bytes : List ℕ) (found : Word × ℕ) → is_digit (get_or bytes 0 0) ≡ true → number_at bytes ≡ Some found → IsWord found.0 (take found.1 bytes) (drop found.1 bytes)
 unfolding number_at
 number_found bytes found first e =
-  let n = prefix_len is_digit bytes in let value = decimal_after 0 (take n bytes) in
-  elim (chosen (leb value greatest_number && ends_number (drop n bytes)) (Some (words.Number (pos value), n)) None (Some found) e) [
-    inl p ↦
-      let both = and_both (leb value greatest_number) (ends_number (drop n bytes)) p.0 in
-      let F : Word × ℕ → Type 0 = λ x. IsWord x.0 (take x.1 bytes) (drop x.1 bytes) in
-      subst F (same_Some (words.Number (pos value), n) found p.1) (record {
-        some = rw (length-take) (omega (arith, (number_cuts bytes (words.Number (pos value), n) first (rw p.0 refl)).within, (number_cuts bytes (words.Number (pos value), n) first (rw p.0 refl)).some));
-        each = prefix_each is_digit bytes;
-        small = grind (arith, nat_tests, both.0);
-        whole = prefix_ends is_digit refl bytes;
-        ends = both.1;
-      }, refl)
-    | inr p ↦ absurd (cc (p.1)) ]
+    let n = prefix_len is_digit bytes in let value = decimal_after 0 (take n bytes) in
+    elim (chosen (leb value greatest_number && ends_number (drop n bytes)) (Some (words.Number (pos value), n)) None (Some found) e) [
+      | inl p ↦
+          let both = and_both (leb value greatest_number) (ends_number (drop n bytes)) p.0 in
+          let F : Word × ℕ → Type 0 = λ x. IsWord x.0 (take x.1 bytes) (drop x.1 bytes) in
+          subst F (same_Some (words.Number (pos value), n) found p.1) (
+            record {
+              some = rw (length-take) (omega (arith, (number_cuts bytes (words.Number (pos value), n) first (rw p.0 refl)).within, (number_cuts bytes (words.Number (pos value), n) first (rw p.0 refl)).some));
+              each = prefix_each is_digit bytes;
+              small = grind (arith, nat_tests, both.0);
+              whole = prefix_ends is_digit refl bytes;
+              ends = both.1;
+            },
+            refl,
+          )
+      | inr p ↦ absurd (cc (p.1))
+    ]
 
 number_only : (written after : List ℕ) → IsNumber written after → word_at (written ++ after) ≡ Some (words.Number (pos (decimal_after 0 written)), length written)
 unfolding word_at number_at
@@ -138,46 +142,49 @@ pair_of : (a : List ℕ) (n : ℕ) (found : List ℕ × ℕ) → a ≡ found.0 �
 pair_of a n found p q = λ i. (p i, q i)
 
 quoted_found : (quote : ℕ) (bytes : List ℕ) (found : List ℕ × ℕ) → 0 < quote → quoted quote bytes ≡ Some found
-  → (take found.1 bytes ≡ doubled quote found.0 ++ quote ∷ []) × (eqb (get_or (drop found.1 bytes) 0 0) quote ≡ false)
+    → (take found.1 bytes ≡ doubled quote found.0 ++ quote ∷ []) × (eqb (get_or (drop found.1 bytes) 0 0) quote ≡ false)
 unfolding quoted
 quoted_found quote [] found some e = absurd (cc)
 quoted_found quote (b ∷ []) found some e = elim (chosen (eqb b quote) _ _ _ e) [
-  inl p ↦
-    let same : b ≡ quote = grind (arith, nat_tests, p.0) in
-    let F : List ℕ × ℕ → Type 0 = λ x. (take x.1 (b ∷ []) ≡ doubled quote x.0 ++ quote ∷ []) × (eqb (get_or (drop x.1 (b ∷ [])) 0 0) quote ≡ false) in
-    subst F (same_Some ([], 1) found p.1) (ap (λ x. x ∷ []) same, eqb_no 0 quote (omega arith))
-  | inr p ↦ absurd (cc (p.1)) ]
+  | inl p ↦
+      let same : b ≡ quote = grind (arith, nat_tests, p.0) in
+      let F : List ℕ × ℕ → Type 0 = λ x. (take x.1 (b ∷ []) ≡ doubled quote x.0 ++ quote ∷ []) × (eqb (get_or (drop x.1 (b ∷ [])) 0 0) quote ≡ false) in
+      subst F (same_Some ([], 1) found p.1) (ap (λ x. x ∷ []) same, eqb_no 0 quote (omega arith))
+  | inr p ↦ absurd (cc (p.1))
+]
 quoted_found quote (b ∷ c ∷ rest) found some e = elim (chosen (eqb b quote) _ _ _ e) [
-  inl p ↦
-    let same : b ≡ quote = grind (arith, nat_tests, p.0) in
-    elim (chosen (eqb c quote) _ _ _ p.1) [
-      inl q ↦
-        let again : c ≡ quote = grind (arith, nat_tests, q.0) in
-        let w = behind_some (quote ∷ []) 2 (quoted quote rest) found q.1 in
-        let h = quoted_found quote rest w.0 some w.1 in
-        let F : List ℕ × ℕ → Type 0 = λ x. (take x.1 (b ∷ c ∷ rest) ≡ doubled quote x.0 ++ quote ∷ []) × (eqb (get_or (drop x.1 (b ∷ c ∷ rest)) 0 0) quote ≡ false) in
-        let twice : doubled quote (quote ∷ w.0.0) ≡ quote ∷ quote ∷ doubled quote w.0.0 = rw (eqb_yes quote) refl in
-        let size : suc (suc w.0.1) ≡ found.1 = omega (arith, w.3) in
-        subst F (pair_of (quote ∷ w.0.0) (suc (suc w.0.1)) found w.2 size) (rw twice (rw (same, again) (ap (λ xs. quote ∷ quote ∷ xs) h.0)), h.1)
-      | inr q ↦
-        let F : List ℕ × ℕ → Type 0 = λ x. (take x.1 (b ∷ c ∷ rest) ≡ doubled quote x.0 ++ quote ∷ []) × (eqb (get_or (drop x.1 (b ∷ c ∷ rest)) 0 0) quote ≡ false) in
-        subst F (same_Some ([], 1) found q.1) (ap (λ x. x ∷ []) same, q.0) ]
+  | inl p ↦
+      let same : b ≡ quote = grind (arith, nat_tests, p.0) in
+      elim (chosen (eqb c quote) _ _ _ p.1) [
+        | inl q ↦
+            let again : c ≡ quote = grind (arith, nat_tests, q.0) in
+            let w = behind_some (quote ∷ []) 2 (quoted quote rest) found q.1 in
+            let h = quoted_found quote rest w.0 some w.1 in
+            let F : List ℕ × ℕ → Type 0 = λ x. (take x.1 (b ∷ c ∷ rest) ≡ doubled quote x.0 ++ quote ∷ []) × (eqb (get_or (drop x.1 (b ∷ c ∷ rest)) 0 0) quote ≡ false) in
+            let twice : doubled quote (quote ∷ w.0.0) ≡ quote ∷ quote ∷ doubled quote w.0.0 = rw (eqb_yes quote) refl in
+            let size : suc (suc w.0.1) ≡ found.1 = omega (arith, w.3) in
+            subst F (pair_of (quote ∷ w.0.0) (suc (suc w.0.1)) found w.2 size) (rw twice (rw (same, again) (ap (λ xs. quote ∷ quote ∷ xs) h.0)), h.1)
+        | inr q ↦
+            let F : List ℕ × ℕ → Type 0 = λ x. (take x.1 (b ∷ c ∷ rest) ≡ doubled quote x.0 ++ quote ∷ []) × (eqb (get_or (drop x.1 (b ∷ c ∷ rest)) 0 0) quote ≡ false) in
+            subst F (same_Some ([], 1) found q.1) (ap (λ x. x ∷ []) same, q.0)
+      ]
   | inr p ↦
-    let w = behind_some (b ∷ []) 1 (quoted quote (c ∷ rest)) found p.1 in
-    let h = quoted_found quote (c ∷ rest) w.0 some w.1 in
-    let F : List ℕ × ℕ → Type 0 = λ x. (take x.1 (b ∷ c ∷ rest) ≡ doubled quote x.0 ++ quote ∷ []) × (eqb (get_or (drop x.1 (b ∷ c ∷ rest)) 0 0) quote ≡ false) in
-    let once : doubled quote (b ∷ w.0.0) ≡ b ∷ doubled quote w.0.0 = rw p.0 refl in
-    let size : suc w.0.1 ≡ found.1 = omega (arith, w.3) in
-    subst F (pair_of (b ∷ w.0.0) (suc w.0.1) found w.2 size) (rw once (ap (λ xs. b ∷ xs) h.0), h.1) ]
+      let w = behind_some (b ∷ []) 1 (quoted quote (c ∷ rest)) found p.1 in
+      let h = quoted_found quote (c ∷ rest) w.0 some w.1 in
+      let F : List ℕ × ℕ → Type 0 = λ x. (take x.1 (b ∷ c ∷ rest) ≡ doubled quote x.0 ++ quote ∷ []) × (eqb (get_or (drop x.1 (b ∷ c ∷ rest)) 0 0) quote ≡ false) in
+      let once : doubled quote (b ∷ w.0.0) ≡ b ∷ doubled quote w.0.0 = rw p.0 refl in
+      let size : suc w.0.1 ≡ found.1 = omega (arith, w.3) in
+      subst F (pair_of (b ∷ w.0.0) (suc w.0.1) found w.2 size) (rw once (ap (λ xs. b ∷ xs) h.0), h.1)
+]
 
 quoted_only : (quote : ℕ) (text after : List ℕ) → eqb (get_or after 0 0) quote ≡ false
-  → quoted quote (doubled quote text ++ quote ∷ after) ≡ Some (text, length (doubled quote text) + 1)
+    → quoted quote (doubled quote text ++ quote ∷ after) ≡ Some (text, length (doubled quote text) + 1)
 quoted_only quote [] after e = quoted_closed quote after (λ more same. absurd (false≢true (sym e ∙ ap (λ xs. eqb (get_or xs 0 0) quote) same ∙ eqb_yes quote)))
 quoted_only quote (b ∷ text) after e = quoted_only_at (quoted_only quote text after e) (eqb b quote) refl where
   quoted_only_at : quoted quote (doubled quote text ++ quote ∷ after) ≡ Some (text, length (doubled quote text) + 1) → (v : Bool) → eqb b quote ≡ v
-    → quoted quote (cond v (quote ∷ quote ∷ doubled quote text) (b ∷ doubled quote text) ++ quote ∷ after) ≡ Some (b ∷ text, length (cond v (quote ∷ quote ∷ doubled quote text) (b ∷ doubled quote text)) + 1)
+      → quoted quote (cond v (quote ∷ quote ∷ doubled quote text) (b ∷ doubled quote text) ++ quote ∷ after) ≡ Some (b ∷ text, length (cond v (quote ∷ quote ∷ doubled quote text) (b ∷ doubled quote text)) + 1)
   quoted_only_at before true same = quoted_twice quote (doubled quote text ++ quote ∷ after) ∙ ap (behind (quote ∷ []) 2) before
-    ∙ some_pair (ap (λ x. x ∷ text) (eqb_same quote b same)) (omega arith)
+      ∙ some_pair (ap (λ x. x ∷ text) (eqb_same quote b same)) (omega arith)
   quoted_only_at before false same = quoted_step quote b (doubled quote text ++ quote ∷ after) same ∙ ap (behind (b ∷ []) 1) before ∙ some_pair refl (omega arith)
 
 -- marks
@@ -185,7 +192,7 @@ quoted_only quote (b ∷ text) after e = quoted_only_at (quoted_only quote text 
 -- a mark of one, two or three bytes
 abbrev Shape : ℕ → ℕ → ℕ → Mark × ℕ → Type 0
 Shape b c d m = ((m.1 ≡ 1) × IsMark m.0 (b ∷ []) × (ends_mark m.0 c ≡ true))
-  ⊎ (((m.1 ≡ 2) × IsMark m.0 (b ∷ c ∷ []) × (ends_mark m.0 d ≡ true)) ⊎ ((m.1 ≡ 3) × IsMark m.0 (b ∷ c ∷ d ∷ []) × (m.0 ≡ marks.DoubleArrow)))
+    ⊎ (((m.1 ≡ 2) × IsMark m.0 (b ∷ c ∷ []) × (ends_mark m.0 d ≡ true)) ⊎ ((m.1 ≡ 3) × IsMark m.0 (b ∷ c ∷ d ∷ []) × (m.0 ≡ marks.DoubleArrow)))
 
 one_byte : (b c d k : ℕ) (mark : Mark) (m : Mark × ℕ) → eqb b k ≡ true → IsMark mark (k ∷ []) → ends_mark mark c ≡ true → Some (mark, 1) ≡ Some m → Shape b c d m
 one_byte b c d k mark m same is ends e =
@@ -198,10 +205,11 @@ two_bytes b c d k l mark m same again is ends e =
     subst F (same_Some (mark, 2) m e) (subst (λ x. Shape x c d (mark, 2)) (eqb_same k b same) (subst (λ x. Shape k x d (mark, 2)) (eqb_same l c again) (inr (inl (refl, is, ends)))))
 
 single_step : (b c d k : ℕ) (mark : Mark) (others : Option (Mark × ℕ)) (m : Mark × ℕ) → IsMark mark (k ∷ []) → ends_mark mark c ≡ true
-  → (others ≡ Some m → Shape b c d m) → cond (eqb b k) (Some (mark, 1)) others ≡ Some m → Shape b c d m
+    → (others ≡ Some m → Shape b c d m) → cond (eqb b k) (Some (mark, 1)) others ≡ Some m → Shape b c d m
 single_step b c d k mark others m is ends more e = elim (chosen (eqb b k) (Some (mark, 1)) others (Some m) e) [
-  inl p ↦ one_byte b c d k mark m p.0 is ends p.1
-  | inr p ↦ more p.1 ]
+  | inl p ↦ one_byte b c d k mark m p.0 is ends p.1
+  | inr p ↦ more p.1
+]
 
 single_shape : (b c d : ℕ) (m : Mark × ℕ) → single_mark b ≡ Some m → Shape b c d m
 unfolding single_mark
@@ -217,35 +225,47 @@ not_same v e = rw e refl
 mark_shape : (b c d : ℕ) (m : Mark × ℕ) → longest_mark b c d ≡ Some m → Shape b c d m
 unfolding longest_mark
 mark_shape b c d m e = elim (chosen (eqb b 45) _ _ _ e) [
-  inl p ↦ elim (chosen (eqb c 62) _ _ _ p.1) [
-    inl q ↦ elim (chosen (eqb d 62) _ _ _ q.1) [
-      inl r ↦ let F : Mark × ℕ → Type 0 = λ y. Shape b c d y in
-        subst F (same_Some (marks.DoubleArrow, 3) m r.1) (subst (λ x. Shape x c d (marks.DoubleArrow, 3)) (eqb_same 45 b p.0)
+  | inl p ↦ elim (chosen (eqb c 62) _ _ _ p.1) [
+    | inl q ↦ elim (chosen (eqb d 62) _ _ _ q.1) [
+      | inl r ↦ let F : Mark × ℕ → Type 0 = λ y. Shape b c d y in
+          subst F (same_Some (marks.DoubleArrow, 3) m r.1) (subst (λ x. Shape x c d (marks.DoubleArrow, 3)) (eqb_same 45 b p.0)
           (subst (λ x. Shape 45 x d (marks.DoubleArrow, 3)) (eqb_same 62 c q.0) (subst (λ x. Shape 45 62 x (marks.DoubleArrow, 3)) (eqb_same 62 d r.0) (inr (inr (refl, refl, refl))))))
-      | inr r ↦ two_bytes b c d 45 62 marks.Arrow m p.0 q.0 refl (not_same _ r.0) r.1 ]
-    | inr q ↦ one_byte b c d 45 marks.Minus m p.0 refl (not_same _ q.0) q.1 ]
+      | inr r ↦ two_bytes b c d 45 62 marks.Arrow m p.0 q.0 refl (not_same _ r.0) r.1
+    ]
+    | inr q ↦ one_byte b c d 45 marks.Minus m p.0 refl (not_same _ q.0) q.1
+  ]
   | inr p ↦ elim (chosen (eqb b 60) _ _ _ p.1) [
-    inl q ↦ elim (chosen (eqb c 61) _ _ _ q.1) [
-      inl r ↦ two_bytes b c d 60 61 marks.LessEqual m q.0 r.0 refl refl r.1
+    | inl q ↦ elim (chosen (eqb c 61) _ _ _ q.1) [
+      | inl r ↦ two_bytes b c d 60 61 marks.LessEqual m q.0 r.0 refl refl r.1
       | inr r ↦ elim (chosen (eqb c 62) _ _ _ r.1) [
-        inl s ↦ two_bytes b c d 60 62 marks.NotEqual m q.0 s.0 (inr refl) refl s.1
-        | inr s ↦ one_byte b c d 60 marks.Less m q.0 refl (rw (r.0, s.0) refl) s.1 ] ]
+        | inl s ↦ two_bytes b c d 60 62 marks.NotEqual m q.0 s.0 (inr refl) refl s.1
+        | inr s ↦ one_byte b c d 60 marks.Less m q.0 refl (rw (r.0, s.0) refl) s.1
+      ]
+    ]
     | inr q ↦ elim (chosen (eqb b 62) _ _ _ q.1) [
-      inl r ↦ elim (chosen (eqb c 61) _ _ _ r.1) [
-        inl s ↦ two_bytes b c d 62 61 marks.GreaterEqual m r.0 s.0 refl refl s.1
-        | inr s ↦ one_byte b c d 62 marks.Greater m r.0 refl (not_same _ s.0) s.1 ]
+      | inl r ↦ elim (chosen (eqb c 61) _ _ _ r.1) [
+        | inl s ↦ two_bytes b c d 62 61 marks.GreaterEqual m r.0 s.0 refl refl s.1
+        | inr s ↦ one_byte b c d 62 marks.Greater m r.0 refl (not_same _ s.0) s.1
+      ]
       | inr r ↦ elim (chosen (eqb b 33) _ _ _ r.1) [
-        inl s ↦ elim (chosen (eqb c 61) _ _ _ s.1) [
-          inl t ↦ two_bytes b c d 33 61 marks.NotEqual m s.0 t.0 (inl refl) refl t.1
-          | inr t ↦ absurd (cc (t.1)) ]
+        | inl s ↦ elim (chosen (eqb c 61) _ _ _ s.1) [
+          | inl t ↦ two_bytes b c d 33 61 marks.NotEqual m s.0 t.0 (inl refl) refl t.1
+          | inr t ↦ absurd (cc (t.1))
+        ]
         | inr s ↦ elim (chosen (eqb b 124) _ _ _ s.1) [
-          inl t ↦ elim (chosen (eqb c 124) _ _ _ t.1) [
-            inl u ↦ two_bytes b c d 124 124 marks.Join m t.0 u.0 refl refl u.1
-            | inr u ↦ absurd (cc (u.1)) ]
-          | inr t ↦ single_shape b c d m t.1 ] ] ] ] ]
+          | inl t ↦ elim (chosen (eqb c 124) _ _ _ t.1) [
+            | inl u ↦ two_bytes b c d 124 124 marks.Join m t.0 u.0 refl refl u.1
+            | inr u ↦ absurd (cc (u.1))
+          ]
+          | inr t ↦ single_shape b c d m t.1
+        ]
+      ]
+    ]
+  ]
+]
 
 shape_found : (bytes : List ℕ) (m : Mark × ℕ) → m.1 ≤ length bytes → Shape (get_or bytes 0 0) (get_or bytes 1 0) (get_or bytes 2 0) m
-  → IsMark m.0 (take m.1 bytes) × (ends_mark m.0 (get_or (drop m.1 bytes) 0 0) ≡ true)
+    → IsMark m.0 (take m.1 bytes) × (ends_mark m.0 (get_or (drop m.1 bytes) 0 0) ≡ true)
 shape_found [] m within (inl s) = absurd (omega (arith, s.0))
 shape_found [] m within (inr (inl s)) = absurd (omega (arith, s.0))
 shape_found [] m within (inr (inr s)) = absurd (omega (arith, s.0))
@@ -260,7 +280,7 @@ shape_found (b ∷ c ∷ d ∷ rest) m within (inr (inl s)) = rw s.0 (s.1, s.2)
 shape_found (b ∷ c ∷ d ∷ rest) m within (inr (inr s)) = rw s.0 (s.1, rw s.2 refl)
 
 mark_found : (bytes : List ℕ) (m : Mark × ℕ) → longest_mark (get_or bytes 0 0) (get_or bytes 1 0) (get_or bytes 2 0) ≡ Some m
-  → IsMark m.0 (take m.1 bytes) × (ends_mark m.0 (get_or (drop m.1 bytes) 0 0) ≡ true)
+    → IsMark m.0 (take m.1 bytes) × (ends_mark m.0 (get_or (drop m.1 bytes) 0 0) ≡ true)
 mark_found bytes m e = shape_found bytes m (mark_cuts bytes m e).within (mark_shape _ _ _ m e)
 
 not_true : (v : Bool) → not v ≡ true → v ≡ false
@@ -297,8 +317,8 @@ mark_only marks.Less written after is ends =
 mark_only marks.Greater written after is ends = let F : List ℕ → Type 0 = λ w. word_at (w ++ after) ≡ Some (words.Mark marks.Greater, length w) in subst F (sym is) (rw (not_true (eqb (get_or after 0 0) 61) ends) refl)
 
 quoted_word_found : (make : List ℕ → Word) (quote : ℕ) (bytes : List ℕ) (found : Word × ℕ)
-  → ((t written after : List ℕ) → IsQuoted quote t written after → IsWord (make t) written after) → 0 < quote → quote ≡ get_or bytes 0 0
-  → quoted_word make (quoted quote (drop 1 bytes)) ≡ Some found → IsWord found.0 (take found.1 bytes) (drop found.1 bytes)
+    → ((t written after : List ℕ) → IsQuoted quote t written after → IsWord (make t) written after) → 0 < quote → quote ≡ get_or bytes 0 0
+    → quoted_word make (quoted quote (drop 1 bytes)) ≡ Some found → IsWord found.0 (take found.1 bytes) (drop found.1 bytes)
 quoted_word_found make quote [] found makes some first e = absurd (omega arith)
 quoted_word_found make quote (b ∷ rest) found makes some first e = quoted_word_found_at (quoted quote rest) refl e where
   quoted_word_found_at : (o : Option (List ℕ × ℕ)) → quoted quote rest ≡ o → quoted_word make o ≡ Some found → IsWord found.0 (take found.1 (b ∷ rest)) (drop found.1 (b ∷ rest))
@@ -319,25 +339,29 @@ marked_found bytes found e = marked_found_at (longest_mark (get_or bytes 0 0) (g
       subst F (same_Some (words.Mark m.0, m.1) found e) (mark_found bytes m is)
 
 quoted_word_only : (make : List ℕ → Word) (quote : ℕ) (t written after : List ℕ) → IsQuoted quote t written after
-  → word_at (quote ∷ ((doubled quote t ++ quote ∷ []) ++ after)) ≡ quoted_word make (quoted quote ((doubled quote t ++ quote ∷ []) ++ after))
-  → word_at (written ++ after) ≡ Some (make t, length written)
+    → word_at (quote ∷ ((doubled quote t ++ quote ∷ []) ++ after)) ≡ quoted_word make (quoted quote ((doubled quote t ++ quote ∷ []) ++ after))
+    → word_at (written ++ after) ≡ Some (make t, length written)
 quoted_word_only make quote t written after is begins =
     let inner : quoted quote ((doubled quote t ++ quote ∷ []) ++ after) ≡ Some (t, length (doubled quote t) + 1)
-      = ap (quoted quote) (append_assoc (doubled quote t) (quote ∷ []) after) ∙ quoted_only quote t after is.ends in
+    = ap (quoted quote) (append_assoc (doubled quote t) (quote ∷ []) after) ∙ quoted_only quote t after is.ends in
     let size : 1 + (length (doubled quote t) + 1) ≡ length written = omega (arith, ap length is.between, length-append (doubled quote t) (quote ∷ [])) in
     ap (λ w. word_at (w ++ after)) is.between ∙ begins ∙ ap (quoted_word make) inner ∙ ap (λ n. Some (make t, n)) size
 
 pub word_found : (bytes : List ℕ) (found : Word × ℕ) → word_at bytes ≡ Some found → IsWord found.0 (take found.1 bytes) (drop found.1 bytes)
 unfolding word_at
 word_found bytes found e = elim (chosen (begins_name (get_or bytes 0 0)) _ _ _ e) [
-  inl p ↦ name_found bytes found p.0 p.1
+  | inl p ↦ name_found bytes found p.0 p.1
   | inr p ↦ elim (chosen (is_digit (get_or bytes 0 0)) _ _ _ p.1) [
-    inl q ↦ number_found bytes found q.0 q.1
+    | inl q ↦ number_found bytes found q.0 q.1
     | inr q ↦ elim (chosen (eqb (get_or bytes 0 0) 34) _ _ _ q.1) [
-      inl r ↦ quoted_word_found words.Quoted 34 bytes found (λ t written after is. is) (omega arith) (eqb_same 34 _ r.0) r.1
+      | inl r ↦ quoted_word_found words.Quoted 34 bytes found (λ t written after is. is) (omega arith) (eqb_same 34 _ r.0) r.1
       | inr r ↦ elim (chosen (eqb (get_or bytes 0 0) 39) _ _ _ r.1) [
-        inl s ↦ quoted_word_found words.Text 39 bytes found (λ t written after is. is) (omega arith) (eqb_same 39 _ s.0) s.1
-        | inr s ↦ marked_found bytes found s.1 ] ] ] ]
+        | inl s ↦ quoted_word_found words.Text 39 bytes found (λ t written after is. is) (omega arith) (eqb_same 39 _ s.0) s.1
+        | inr s ↦ marked_found bytes found s.1
+      ]
+    ]
+  ]
+]
 
 pub word_only : (word : Word) (written rest : List ℕ) → IsWord word written rest → word_at (written ++ rest) ≡ Some (word, length written)
 unfolding word_at

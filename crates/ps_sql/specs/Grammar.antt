@@ -1,5 +1,5 @@
 -- The reading of expressions, from left to right: what is read and what is left, or the first fault.
-use Rattle.std.specs.Prelude.{◌≡◌, ℕ, ℤ, zero, suc, pos, neg_ℤ, int_lt, ◌-◌, Bool, true, false, not, ◌&&◌, ◌||◌, ◌==◌, if◌then◌else◌, List, [], ◌∷◌, ◌++◌, length, Option, Some, None, Result, Ok, Err, bytes_eq, codes}
+use Rattle.std.specs.Prelude.{ℕ, ℤ, zero, suc, pos, neg_ℤ, int_lt, Bool, true, false, not, ◌&&◌, ◌||◌, ◌==◌, if◌then◌else◌, List, [], ◌∷◌, ◌++◌, length, Option, Some, None, Result, Ok, Err, bytes_eq, codes}
 use Rattle.ps_sql.specs.declared.words.Word.{Word}
 use Rattle.ps_sql.specs.declared.words.Word.TheVariants as words
 use Rattle.ps_sql.specs.declared.words.Keyword.{Keyword}
@@ -63,8 +63,8 @@ bucket context input = bucket_by context.is_data input (name_of (third input))
 
 unfoldable pub request_value : List ℕ → Option Expr
 request_value name = if same_word name (codes "user_id") then Some exprs.UserId
-  else (if same_word name (codes "jwt") then Some exprs.Jwt
-  else (if same_word name (codes "parameters") then Some exprs.Parameters else None))
+    else (if same_word name (codes "jwt") then Some exprs.Jwt
+    else (if same_word name (codes "parameters") then Some exprs.Parameters else None))
 
 abbrev pub request_by : Input → Option Expr → Result (Expr × Input) SqlFault
 request_by input None = Err (faults.Unsupported (here input))
@@ -89,9 +89,9 @@ token_or context qualifier input (Some name) = if bytes_eq name (codes "user_id"
 -- what begins with an unquoted name and a dot
 unfoldable pub dotted : Context → List ℕ → Reader
 dotted context qualifier input = if bytes_eq qualifier (codes "bucket") then bucket context input
-  else (if bytes_eq qualifier (codes "request") then request_or context qualifier input (plain_name_of (third input))
-  else (if bytes_eq qualifier (codes "token_parameters") then token_or context qualifier input (plain_name_of (third input))
-  else qualified context qualifier input))
+    else (if bytes_eq qualifier (codes "request") then request_or context qualifier input (plain_name_of (third input))
+    else (if bytes_eq qualifier (codes "token_parameters") then token_or context qualifier input (plain_name_of (third input))
+    else qualified context qualifier input))
 
 -- what begins with a quoted name
 unfoldable pub quoted_name : Context → List ℕ → Reader
@@ -101,11 +101,11 @@ quoted_name context name input = if is_mark marks.Dot (second input) then qualif
 
 unfoldable pub function_of : List ℕ → Option Function
 function_of name = if same_word name (codes "upper") then Some functions.Upper
-  else (if same_word name (codes "lower") then Some functions.Lower
-  else (if same_word name (codes "length") then Some functions.Length
-  else (if same_word name (codes "ifnull") then Some functions.IfNull
-  else (if same_word name (codes "iif") then Some functions.Iif
-  else (if same_word name (codes "typeof") then Some functions.TypeOf else None)))))
+    else (if same_word name (codes "lower") then Some functions.Lower
+    else (if same_word name (codes "length") then Some functions.Length
+    else (if same_word name (codes "ifnull") then Some functions.IfNull
+    else (if same_word name (codes "iif") then Some functions.Iif
+    else (if same_word name (codes "typeof") then Some functions.TypeOf else None)))))
 
 -- how many arguments a function takes
 abbrev pub arity : Function → ℕ
@@ -120,8 +120,8 @@ arity functions.TypeOf = 1
 unfoldable pub more_arguments : ℕ → Reader → List Expr → Input → Result (List Expr × Input) SqlFault
 more_arguments zero inner read input = Err (refusal input)
 more_arguments (suc turns) inner read input = if is_mark marks.Comma (next input)
-  then (inner (past 1 input) >>= λ x. more_arguments turns inner (read ++ x.0 ∷ []) x.1)
-  else Ok (read, input)
+    then (inner (past 1 input) >>= λ x. more_arguments turns inner (read ++ x.0 ∷ []) x.1)
+    else Ok (read, input)
 
 unfoldable pub arguments : ℕ → Reader → Input → Result (List Expr × Input) SqlFault
 arguments limit inner input = do
@@ -144,7 +144,7 @@ named_value context name input = if is_mark marks.Dot (second input) then dotted
 -- what begins with an unquoted name
 unfoldable pub plain_name : Context → ℕ → Reader → List ℕ → Reader
 plain_name context limit inner name input = if is_mark marks.Open (second input) then call_by limit inner input (function_of name)
-  else named_value context name input
+    else named_value context name input
 
 -- what begins with a keyword
 
@@ -200,7 +200,7 @@ bracketed inner input = do
 
 unfoldable pub mark_value : Reader → Mark → Reader
 mark_value inner mark input = if same_mark mark marks.Open then bracketed inner input
-  else (if same_mark mark marks.Minus then negative_by input (second input) else Err (refusal input))
+    else (if same_mark mark marks.Minus then negative_by input (second input) else Err (refusal input))
 
 -- what stands between operators
 abbrev pub prime_by : Context → ℕ → Reader → Input → Option Word → Result (Expr × Input) SqlFault
@@ -228,14 +228,14 @@ abbrev pub operator_of_mark : Level → Mark → Option Operator
 operator_of_mark levels.Or m = None
 operator_of_mark levels.And m = None
 operator_of_mark levels.Same m = if same_mark m marks.Equal then Some operators.Equal
-  else (if same_mark m marks.NotEqual then Some operators.NotEqual else None)
+    else (if same_mark m marks.NotEqual then Some operators.NotEqual else None)
 operator_of_mark levels.Order m = if same_mark m marks.Less then Some operators.Less
-  else (if same_mark m marks.LessEqual then Some operators.LessEqual
-  else (if same_mark m marks.Greater then Some operators.Greater
-  else (if same_mark m marks.GreaterEqual then Some operators.GreaterEqual else None)))
+    else (if same_mark m marks.LessEqual then Some operators.LessEqual
+    else (if same_mark m marks.Greater then Some operators.Greater
+    else (if same_mark m marks.GreaterEqual then Some operators.GreaterEqual else None)))
 operator_of_mark levels.Joining m = if same_mark m marks.Join then Some operators.Join
-  else (if same_mark m marks.Arrow then Some operators.Arrow
-  else (if same_mark m marks.DoubleArrow then Some operators.DoubleArrow else None))
+    else (if same_mark m marks.Arrow then Some operators.Arrow
+    else (if same_mark m marks.DoubleArrow then Some operators.DoubleArrow else None))
 
 abbrev pub operator_by : Level → Option Word → Option Operator
 operator_by level None = None
@@ -252,8 +252,8 @@ operator_at level input = operator_by level (next input)
 -- behind IS: NULL, or NOT and NULL
 unfoldable pub null_test : Expr → Reader
 null_test of input = if is_keyword keywords.Not (next input) && not (is_keyword keywords.In (second input))
-  then (expect_keyword keywords.Null (past 1 input) >>= λ rest. Ok (exprs.IsNull of true, rest))
-  else (expect_keyword keywords.Null input >>= λ rest. Ok (exprs.IsNull of false, rest))
+    then (expect_keyword keywords.Null (past 1 input) >>= λ rest. Ok (exprs.IsNull of true, rest))
+    else (expect_keyword keywords.Null input >>= λ rest. Ok (exprs.IsNull of false, rest))
 
 abbrev pub is_same : Level → Bool
 is_same levels.Same = true
@@ -271,8 +271,8 @@ step_by operand left input (Some operator) = do
 -- one operator behind what was read, if one comes
 unfoldable pub step : Level → Reader → Expr → Input → Result (Step × Input) SqlFault
 step level operand left input = if is_same level && is_keyword keywords.Is (next input)
-  then (null_test left (past 1 input) >>= λ x. Ok (steps.Goes x.0, x.1))
-  else step_by operand left input (operator_at level input)
+    then (null_test left (past 1 input) >>= λ x. Ok (steps.Goes x.0, x.1))
+    else step_by operand left input (operator_at level input)
 
 abbrev pub go_on : (Expr → Reader) → Step × Input → Result (Expr × Input) SqlFault
 go_on more (steps.Done whole, rest) = Ok (whole, rest)
@@ -292,9 +292,9 @@ chain level limit operand input = do
 unfoldable pub negation : ℕ → Reader → Reader
 negation zero operand input = Err (refusal input)
 negation (suc turns) operand input = if is_keyword keywords.Not (next input)
-  then (if is_keyword keywords.In (second input) then Err (faults.Unsupported (here input))
+    then (if is_keyword keywords.In (second input) then Err (faults.Unsupported (here input))
     else (negation turns operand (past 1 input) >>= λ x. Ok (exprs.Not x.0, x.1)))
-  else operand input
+    else operand input
 
 abbrev pub joins : Context → ℕ → Reader → Reader
 joins context limit inner = chain levels.Joining limit (prime context limit inner)

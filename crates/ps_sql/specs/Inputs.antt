@@ -1,5 +1,5 @@
 -- What is left to read: words, and where the text ends.
-use Rattle.std.specs.Prelude.{◌≡◌, ℕ, Bool, true, false, ◌&&◌, ◌==◌, if◌then◌else◌, List, [], ◌∷◌, drop, Option, Some, None, Result, Ok, Err}
+use Rattle.std.specs.Prelude.{ℕ, Bool, false, ◌&&◌, ◌==◌, if◌then◌else◌, List, [], ◌∷◌, drop, Option, Some, None, Result, Ok, Err}
 use Rattle.ps_sql.specs.declared.words.Word.{Word}
 use Rattle.ps_sql.specs.declared.words.Word.TheVariants as words
 use Rattle.ps_sql.specs.declared.words.Keyword.{Keyword}
@@ -140,8 +140,8 @@ plain_name_of (Some word) = plain_name_in word
 -- the fault of a word that fits no rule: a word from JOIN to LIKE, and NOT before IN, are not supported
 unfoldable pub refusal : Input → SqlFault
 refusal input = if is_keyword keywords.LeftOut (next input) then faults.Unsupported (here input)
-  else (if is_keyword keywords.Not (next input) && is_keyword keywords.In (second input) then faults.Unsupported (here input)
-  else faults.Unexpected (here input))
+    else (if is_keyword keywords.Not (next input) && is_keyword keywords.In (second input) then faults.Unsupported (here input)
+    else faults.Unexpected (here input))
 
 -- what follows a step that may fail
 infixl 10 ◌>>=◌

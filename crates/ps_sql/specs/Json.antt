@@ -1,6 +1,6 @@
 -- JSON texts as SQL reads them: each number that is no signed 64-bit whole number is null.
-use Rattle.std.specs.Prelude.{ℕ, ℤ, pos, Bool, true, false, List, Option, Some, None, option_map}
-use Rattle.serde_json.specs.Data.{Num, Data, null, boolean, number, string, array, object, Items, no_items, item, Members, no_members, member}
+use Rattle.std.specs.Prelude.{ℕ, ℤ, pos, true, false, List, Option, Some, None, option_map}
+use Rattle.serde_json.specs.Data.{Data, null, boolean, number, string, array, object, Items, no_items, item, Members, no_members, member}
 use Rattle.serde_json.specs.Find.{as_i64, of_integer}
 use Rattle.serde_json.specs.Written.{compact_text}
 use Rattle.ps_values.specs.Documents.{json_of}

@@ -1,13 +1,11 @@
 -- The lexemes of a text: its words in order, and where each stands.
-use Rattle.std.specs.Prelude.{◌≡◌, ℕ, ◌+◌, true, false, List, [], ◌∷◌, ◌++◌, length, map, Result, Ok, Err}
+use Rattle.std.specs.Prelude.{◌≡◌, ℕ, ◌+◌, true, false, List, [], ◌∷◌, ◌++◌, length, map}
 use Rattle.ps_sql.specs.declared.words.Word.{Word}
 use Rattle.ps_sql.specs.declared.words.Word.TheVariants as words
 use Rattle.ps_sql.specs.declared.words.Token.{Token}
 use Rattle.ps_sql.specs.declared.words.TokenKind.{TokenKind}
 use Rattle.ps_sql.specs.declared.words.TokenKind.TheVariants as kinds
 use Rattle.ps_sql.specs.declared.words.Lexeme.{Lexeme}
-use Rattle.ps_sql.specs.declared.faults.SqlFault.{SqlFault}
-use Rattle.ps_sql.specs.declared.faults.SqlFault.TheVariants as faults
 use Rattle.ps_sql.specs.Words.{is_blank}
 use Rattle.ps_sql.specs.Spellings.{IsWord}
 
@@ -19,7 +17,7 @@ pub data AreLexemes : ℕ → List ℕ → List Lexeme → Type 0 where
   none_left : {at : ℕ} → AreLexemes at [] []
   blank_next : {at b : ℕ} {rest : List ℕ} {lexemes : List Lexeme} → is_blank b ≡ true → AreLexemes (at + 1) rest lexemes → AreLexemes at (b ∷ rest) lexemes
   word_next : {at : ℕ} {bytes : List ℕ} {lexemes : List Lexeme} (word : Word) (written rest : List ℕ) → bytes ≡ written ++ rest → IsWord word written rest
-    → AreLexemes (at + length written) rest lexemes → AreLexemes at bytes (lexeme_at at word written ∷ lexemes)
+      → AreLexemes (at + length written) rest lexemes → AreLexemes at bytes (lexeme_at at word written ∷ lexemes)
 
 -- no word begins the bytes
 abbrev pub HasNoWord : List ℕ → Type 0
@@ -30,7 +28,7 @@ pub data Stops : ℕ → List ℕ → ℕ → Type 0 where
   no_word : {at b : ℕ} {rest : List ℕ} → is_blank b ≡ false → HasNoWord (b ∷ rest) → Stops at (b ∷ rest) at
   past_blank : {at b place : ℕ} {rest : List ℕ} → is_blank b ≡ true → Stops (at + 1) rest place → Stops at (b ∷ rest) place
   past_word : {at place : ℕ} {bytes : List ℕ} (word : Word) (written rest : List ℕ) → bytes ≡ written ++ rest → IsWord word written rest
-    → Stops (at + length written) rest place → Stops at bytes place
+      → Stops (at + length written) rest place → Stops at bytes place
 
 abbrev pub kind_of : Word → TokenKind
 kind_of (words.Keyword k) = kinds.Name

@@ -1,8 +1,7 @@
 -- The reading of queries, from left to right: the query, or the first fault.
-use Rattle.std.specs.Prelude.{◌≡◌, ℕ, zero, suc, Bool, true, false, not, ◌&&◌, ◌||◌, if◌then◌else◌, List, [], ◌∷◌, ◌++◌, length, Option, Some, None, is_some, Result, Ok, Err, codes}
+use Rattle.std.specs.Prelude.{ℕ, zero, suc, Bool, true, false, not, ◌&&◌, ◌||◌, if◌then◌else◌, List, [], ◌∷◌, ◌++◌, Option, Some, None, is_some, Result, Ok, Err, codes}
 use Rattle.ps_sql.specs.declared.words.Keyword.TheVariants as keywords
 use Rattle.ps_sql.specs.declared.words.Mark.TheVariants as marks
-use Rattle.ps_sql.specs.declared.words.Lexeme.{Lexeme}
 use Rattle.ps_sql.specs.declared.expressions.Expr.{Expr}
 use Rattle.ps_sql.specs.declared.expressions.Expr.TheVariants as exprs
 use Rattle.ps_sql.specs.declared.queries.Output.{Output}
@@ -15,7 +14,7 @@ use Rattle.ps_sql.specs.declared.contexts.Listed.{Listed}
 use Rattle.ps_sql.specs.declared.contexts.Source.{Source}
 use Rattle.ps_sql.specs.declared.faults.SqlFault.{SqlFault}
 use Rattle.ps_sql.specs.declared.faults.SqlFault.TheVariants as faults
-use Rattle.ps_sql.specs.Inputs.{Input, ◌>>=◌, next, here, past, is_mark, is_keyword, name_of, refusal, expect_mark, expect_keyword, expect_name}
+use Rattle.ps_sql.specs.Inputs.{Input, ◌>>=◌, next, here, past, is_mark, is_keyword, name_of, refusal, expect_keyword, expect_name}
 use Rattle.ps_sql.specs.Grammar.{expr}
 
 -- the name of an output without AS: a column's own, and that of the asker's user
@@ -37,18 +36,18 @@ unfoldable pub output : Context → ℕ → Input → Result (Output × Input) S
 output context limit input = do
   x ← expr context limit limit input
   if is_keyword keywords.As (next x.1) then (expect_name (past 1 x.1) >>= λ name. Ok (record { name = name.0; expr = x.0 }, name.1))
-    else (if is_mark marks.Comma (next x.1) || begins_clause x.1 then own_output input x.0 x.1 (own_name x.0) else Err (refusal x.1))
+      else (if is_mark marks.Comma (next x.1) || begins_clause x.1 then own_output input x.0 x.1 (own_name x.0) else Err (refusal x.1))
 
 -- an output behind those that were read, or the one `*` of a data query
 unfoldable pub item : Context → ℕ → Listed → Input → Result (Listed × Input) SqlFault
 item context limit listed input = if (context.is_data && not listed.star) && is_mark marks.Star (next input)
-  then Ok (record { star = true; outputs = listed.outputs }, past 1 input)
-  else (output context limit input >>= λ x. Ok (record { star = listed.star; outputs = listed.outputs ++ x.0 ∷ [] }, x.1))
+    then Ok (record { star = true; outputs = listed.outputs }, past 1 input)
+    else (output context limit input >>= λ x. Ok (record { star = listed.star; outputs = listed.outputs ++ x.0 ∷ [] }, x.1))
 
 unfoldable pub items : ℕ → Context → ℕ → Listed → Input → Result (Listed × Input) SqlFault
 items zero context limit listed input = Err (refusal input)
 items (suc turns) context limit listed input = item context limit listed input >>= λ x.
-  if is_mark marks.Comma (next x.1) then items turns context limit x.0 (past 1 x.1) else Ok x
+    if is_mark marks.Comma (next x.1) then items turns context limit x.0 (past 1 x.1) else Ok x
 
 abbrev pub nothing_listed : Listed
 nothing_listed = record { star = false; outputs = [] }
@@ -59,8 +58,8 @@ outputs context limit input = if not context.is_data && begins_clause input then
 
 unfoldable pub condition : Context → ℕ → Input → Result (Option Expr × Input) SqlFault
 condition context limit input = if is_keyword keywords.Where (next input)
-  then (expr context limit limit (past 1 input) >>= λ x. Ok (Some x.0, x.1))
-  else Ok (None, input)
+    then (expr context limit limit (past 1 input) >>= λ x. Ok (Some x.0, x.1))
+    else Ok (None, input)
 
 abbrev pub behind_semicolon : Input → Input
 behind_semicolon input = if is_mark marks.Semicolon (next input) then past 1 input else input
@@ -73,8 +72,8 @@ finish input = let rest = behind_semicolon input in if is_some (next rest) then 
 
 unfoldable pub table_clause : Input → Result (Option (List ℕ) × Input) SqlFault
 table_clause input = if is_keyword keywords.From (next input)
-  then (expect_name (past 1 input) >>= λ name. Ok (Some name.0, name.1))
-  else Ok (None, input)
+    then (expect_name (past 1 input) >>= λ name. Ok (Some name.0, name.1))
+    else Ok (None, input)
 
 abbrev pub scope_of : Option (List ℕ) → Scope
 scope_of None = scopes.NoTable
@@ -102,8 +101,8 @@ alias_by table input (Some name) = Ok (record { table = table; kind = name }, pa
 
 unfoldable pub alias : List ℕ → Input → Result (Source × Input) SqlFault
 alias table input = if is_keyword keywords.As (next input)
-  then (expect_name (past 1 input) >>= λ name. Ok (record { table = table; kind = name.0 }, name.1))
-  else alias_by table input (name_of (next input))
+    then (expect_name (past 1 input) >>= λ name. Ok (record { table = table; kind = name.0 }, name.1))
+    else alias_by table input (name_of (next input))
 
 unfoldable pub source : Input → Result (Source × Input) SqlFault
 source input = do

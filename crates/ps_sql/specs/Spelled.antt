@@ -1,5 +1,5 @@
 -- The grammar of expressions: which lexemes spell which expression in a query.
-use Rattle.std.specs.Prelude.{◌≡◌, ℕ, pos, Bool, true, false, ◌&&◌, ◌||◌, List, [], ◌∷◌, ◌++◌, length, Option, Some, None, bytes_eq, codes}
+use Rattle.std.specs.Prelude.{◌≡◌, pos, Bool, true, false, ◌&&◌, ◌||◌, List, [], ◌∷◌, ◌++◌, length, Some, bytes_eq, codes}
 use Rattle.ps_sql.specs.declared.words.Word.{Word}
 use Rattle.ps_sql.specs.declared.words.Word.TheVariants as words
 use Rattle.ps_sql.specs.declared.words.Keyword.TheVariants as keywords
@@ -76,17 +76,15 @@ mutual
     -- operators of a level group to the left
     alone : {at : Level} {xs : List Lexeme} {e : Expr} → Spells context (side at) xs e → Spells context (level at) xs e
     between : {xs ys : List Lexeme} {left right : Expr} (operator : Operator) (sign : Lexeme) → Spells context (level (level_of operator)) xs left
-      → sign.word ≡ sign_of operator → Spells context (side (level_of operator)) ys right → Spells context (level (level_of operator)) (xs ++ sign ∷ ys) (exprs.Two operator left right)
+        → sign.word ≡ sign_of operator → Spells context (side (level_of operator)) ys right → Spells context (level (level_of operator)) (xs ++ sign ∷ ys) (exprs.Two operator left right)
     is_null : {xs : List Lexeme} {e : Expr} (is last : Lexeme) → Spells context (level levels.Same) xs e
-      → is.word ≡ words.Keyword keywords.Is → last.word ≡ words.Keyword keywords.Null → Spells context (level levels.Same) (xs ++ is ∷ last ∷ []) (exprs.IsNull e false)
+        → is.word ≡ words.Keyword keywords.Is → last.word ≡ words.Keyword keywords.Null → Spells context (level levels.Same) (xs ++ is ∷ last ∷ []) (exprs.IsNull e false)
     is_not_null : {xs : List Lexeme} {e : Expr} (is second last : Lexeme) → Spells context (level levels.Same) xs e
-      → is.word ≡ words.Keyword keywords.Is → second.word ≡ words.Keyword keywords.Not → last.word ≡ words.Keyword keywords.Null
-      → Spells context (level levels.Same) (xs ++ is ∷ second ∷ last ∷ []) (exprs.IsNull e true)
-
+        → is.word ≡ words.Keyword keywords.Is → second.word ≡ words.Keyword keywords.Not → last.word ≡ words.Keyword keywords.Null
+        → Spells context (level levels.Same) (xs ++ is ∷ second ∷ last ∷ []) (exprs.IsNull e true)
     -- NOT
     not_negated : {xs : List Lexeme} {e : Expr} → Spells context (level levels.Same) xs e → Spells context negation xs e
     negated : {xs : List Lexeme} {e : Expr} (first : Lexeme) → first.word ≡ words.Keyword keywords.Not → Spells context negation xs e → Spells context negation (first ∷ xs) (exprs.Not e)
-
     -- values
     number : (x : Lexeme) {n : _} → x.word ≡ words.Number n → Spells context primary (x ∷ []) (exprs.Number n)
     negative : (minus x : Lexeme) {n : _} → minus.word ≡ words.Mark marks.Minus → x.word ≡ words.Number n → Spells context primary (minus ∷ x ∷ []) (exprs.Number (opposite n))
@@ -94,33 +92,30 @@ mutual
     null : (x : Lexeme) → x.word ≡ words.Keyword keywords.Null → Spells context primary (x ∷ []) exprs.Null
     true_word : (x : Lexeme) → x.word ≡ words.Keyword keywords.True → Spells context primary (x ∷ []) (exprs.Number (pos 1))
     false_word : (x : Lexeme) → x.word ≡ words.Keyword keywords.False → Spells context primary (x ∷ []) (exprs.Number (pos 0))
-
     -- columns, and parameters of the bucket
     column : (x : Lexeme) {name : _} → name_in x.word ≡ Some name → allows_column context.scope ≡ true → Spells context primary (x ∷ []) (exprs.Column name)
     qualified : (q dot x : Lexeme) {qualifier name : _} → name_in q.word ≡ Some qualifier → dot.word ≡ words.Mark marks.Dot → name_in x.word ≡ Some name
-      → is_taken q.word x.word ≡ false → allows_qualifier context.scope qualifier ≡ true → Spells context primary (q ∷ dot ∷ x ∷ []) (exprs.Column name)
+        → is_taken q.word x.word ≡ false → allows_qualifier context.scope qualifier ≡ true → Spells context primary (q ∷ dot ∷ x ∷ []) (exprs.Column name)
     bucket : (q dot x : Lexeme) {name : _} → q.word ≡ words.Name (codes "bucket") → dot.word ≡ words.Mark marks.Dot → name_in x.word ≡ Some name
-      → context.is_data ≡ true → Spells context primary (q ∷ dot ∷ x ∷ []) (exprs.Bucket name)
-
+        → context.is_data ≡ true → Spells context primary (q ∷ dot ∷ x ∷ []) (exprs.Bucket name)
     -- the asker's values
     request : (q dot x opening closing : Lexeme) {f : _} {value : Expr} → q.word ≡ words.Name (codes "request") → dot.word ≡ words.Mark marks.Dot → x.word ≡ words.Name f
-      → request_value f ≡ Some value → opening.word ≡ words.Mark marks.Open → closing.word ≡ words.Mark marks.Close → context.is_data ≡ false
-      → Spells context primary (q ∷ dot ∷ x ∷ opening ∷ closing ∷ []) value
+        → request_value f ≡ Some value → opening.word ≡ words.Mark marks.Open → closing.word ≡ words.Mark marks.Close → context.is_data ≡ false
+        → Spells context primary (q ∷ dot ∷ x ∷ opening ∷ closing ∷ []) value
     token_user : (q dot x : Lexeme) → q.word ≡ words.Name (codes "token_parameters") → dot.word ≡ words.Mark marks.Dot → x.word ≡ words.Name (codes "user_id")
-      → context.is_data ≡ false → Spells context primary (q ∷ dot ∷ x ∷ []) exprs.UserId
-
+        → context.is_data ≡ false → Spells context primary (q ∷ dot ∷ x ∷ []) exprs.UserId
     -- functions, CAST and brackets
     call : (x opening closing : Lexeme) {f : _} {function : Function} {xs : List Lexeme} {es : List Expr} → x.word ≡ words.Name f → function_of f ≡ Some function
-      → opening.word ≡ words.Mark marks.Open → AreArguments context xs es → length es ≡ arity function → closing.word ≡ words.Mark marks.Close
-      → Spells context primary (x ∷ opening ∷ (xs ++ closing ∷ [])) (exprs.Call function es)
+        → opening.word ≡ words.Mark marks.Open → AreArguments context xs es → length es ≡ arity function → closing.word ≡ words.Mark marks.Close
+        → Spells context primary (x ∷ opening ∷ (xs ++ closing ∷ [])) (exprs.Call function es)
     cast : (x opening behind type closing : Lexeme) {xs : List Lexeme} {e : Expr} {t : _} → x.word ≡ words.Keyword keywords.Cast → opening.word ≡ words.Mark marks.Open
-      → Spells context expression xs e → behind.word ≡ words.Keyword keywords.As → type.word ≡ words.Name t → same_word t (codes "TEXT") ≡ true → closing.word ≡ words.Mark marks.Close
-      → Spells context primary (x ∷ opening ∷ (xs ++ behind ∷ type ∷ closing ∷ [])) (exprs.CastText e)
+        → Spells context expression xs e → behind.word ≡ words.Keyword keywords.As → type.word ≡ words.Name t → same_word t (codes "TEXT") ≡ true → closing.word ≡ words.Mark marks.Close
+        → Spells context primary (x ∷ opening ∷ (xs ++ behind ∷ type ∷ closing ∷ [])) (exprs.CastText e)
     brackets : (opening closing : Lexeme) {xs : List Lexeme} {e : Expr} → opening.word ≡ words.Mark marks.Open → Spells context expression xs e → closing.word ≡ words.Mark marks.Close
-      → Spells context primary (opening ∷ (xs ++ closing ∷ [])) e
+        → Spells context primary (opening ∷ (xs ++ closing ∷ [])) e
 
   -- expressions with commas between them
   pub data AreArguments (context : Context) : List Lexeme → List Expr → Type 0 where
     first : {xs : List Lexeme} {e : Expr} → Spells context expression xs e → AreArguments context xs (e ∷ [])
     further : {xs ys : List Lexeme} {es : List Expr} {e : Expr} (comma : Lexeme) → AreArguments context xs es → comma.word ≡ words.Mark marks.Comma
-      → Spells context expression ys e → AreArguments context (xs ++ comma ∷ ys) (es ++ e ∷ [])
+        → Spells context expression ys e → AreArguments context (xs ++ comma ∷ ys) (es ++ e ∷ [])

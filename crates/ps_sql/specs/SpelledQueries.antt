@@ -8,7 +8,6 @@ use Rattle.ps_sql.specs.declared.expressions.Expr.{Expr}
 use Rattle.ps_sql.specs.declared.queries.Output.{Output}
 use Rattle.ps_sql.specs.declared.queries.ParameterQuery.{ParameterQuery}
 use Rattle.ps_sql.specs.declared.queries.DataQuery.{DataQuery}
-use Rattle.ps_sql.specs.declared.contexts.Scope.{Scope}
 use Rattle.ps_sql.specs.declared.contexts.Scope.TheVariants as scopes
 use Rattle.ps_sql.specs.declared.contexts.Context.{Context}
 use Rattle.ps_sql.specs.declared.contexts.Listed.{Listed}
@@ -20,7 +19,7 @@ use Rattle.ps_sql.specs.Spelled.{Spells, expression}
 -- an output: an expression and AS and a name, or an expression with a name of its own
 pub data IsOutput (context : Context) : List Lexeme → Output → Type 0 where
   named : {xs : List Lexeme} {e : Expr} {name : List ℕ} (behind x : Lexeme) → Spells context expression xs e → behind.word ≡ words.Keyword keywords.As
-    → name_in x.word ≡ Some name → IsOutput context (xs ++ behind ∷ x ∷ []) (record { name = name; expr = e })
+      → name_in x.word ≡ Some name → IsOutput context (xs ++ behind ∷ x ∷ []) (record { name = name; expr = e })
   own : {xs : List Lexeme} {e : Expr} {name : List ℕ} → Spells context expression xs e → own_name e ≡ Some name → IsOutput context xs (record { name = name; expr = e })
 
 -- one output, or the `*` of a data query, behind those that were listed
@@ -32,7 +31,7 @@ pub data IsItem (context : Context) (listed : Listed) : List Lexeme → Listed �
 pub data AreItems (context : Context) : Listed → List Lexeme → Listed → Type 0 where
   last : {before after : Listed} {xs : List Lexeme} → IsItem context before xs after → AreItems context before xs after
   further : {before between after : Listed} {xs ys : List Lexeme} (comma : Lexeme) → IsItem context before xs between → comma.word ≡ words.Mark marks.Comma
-    → AreItems context between ys after → AreItems context before (xs ++ comma ∷ ys) after
+      → AreItems context between ys after → AreItems context before (xs ++ comma ∷ ys) after
 
 -- all outputs; a parameter query may have none
 pub data AreOutputs (context : Context) : List Lexeme → Listed → Type 0 where
@@ -58,9 +57,9 @@ pub data IsTable : List Lexeme → Option (List ℕ) → Type 0 where
 pub data IsSource : List Lexeme → Source → Type 0 where
   itself : {name : List ℕ} (from x : Lexeme) → from.word ≡ words.Keyword keywords.From → name_in x.word ≡ Some name → IsSource (from ∷ x ∷ []) (record { table = name; kind = name })
   alias : {name kind : List ℕ} (from x y : Lexeme) → from.word ≡ words.Keyword keywords.From → name_in x.word ≡ Some name → name_in y.word ≡ Some kind
-    → IsSource (from ∷ x ∷ y ∷ []) (record { table = name; kind = kind })
+      → IsSource (from ∷ x ∷ y ∷ []) (record { table = name; kind = kind })
   alias_with_as : {name kind : List ℕ} (from x behind y : Lexeme) → from.word ≡ words.Keyword keywords.From → name_in x.word ≡ Some name → behind.word ≡ words.Keyword keywords.As
-    → name_in y.word ≡ Some kind → IsSource (from ∷ x ∷ behind ∷ y ∷ []) (record { table = name; kind = kind })
+      → name_in y.word ≡ Some kind → IsSource (from ∷ x ∷ behind ∷ y ∷ []) (record { table = name; kind = kind })
 
 -- SELECT [outputs] [FROM table] [WHERE condition] [;]
 pub record IsParameterQuery (lexemes : List Lexeme) (query : ParameterQuery) : Type 0 where

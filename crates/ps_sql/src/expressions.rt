@@ -59,9 +59,13 @@ pub enum Expr {
     /// A text in single quotes, without them.
     Text(Text),
     /// A column, by its own name alone.
-    Column { name: Text },
+    Column {
+        name: Text,
+    },
     /// `bucket.name`: a parameter of the bucket.
-    Bucket { name: Text },
+    Bucket {
+        name: Text,
+    },
     /// `request.user_id()` and `token_parameters.user_id`: the asker's user.
     UserId,
     /// `request.jwt()`: the asker's payload.
@@ -74,11 +78,18 @@ pub enum Expr {
         arguments: Items<Expr>,
     },
     /// `CAST(of AS TEXT)`
-    CastText { of: Boxed<Expr> },
+    CastText {
+        of: Boxed<Expr>,
+    },
     /// `NOT of`
-    Not { of: Boxed<Expr> },
+    Not {
+        of: Boxed<Expr>,
+    },
     /// `of IS NULL`, or `of IS NOT NULL` where negated.
-    IsNull { of: Boxed<Expr>, negated: bool },
+    IsNull {
+        of: Boxed<Expr>,
+        negated: bool,
+    },
     /// An operator between two sides.
     Two {
         operator: Operator,

@@ -69,9 +69,9 @@ fn qualified(
         }
         Some(name) => {
             if is_qualifier_allowed(&context.scope, qualifier) {
-                let name = name.copy(alloc)?;
+                let column = name.copy(alloc)?;
                 cursor.skip(3);
-                return Ok(Expr::Column { name });
+                return Ok(Expr::Column { name: column });
             }
             Err(cursor.unsupported())
         }
@@ -80,11 +80,7 @@ fn qualified(
 
 /// `bucket.name`.
 #[tactic(auto, unfolding(crate::specs::Grammar::bucket))]
-fn bucket(
-    alloc: Global,
-    context: &Context,
-    cursor: &mut Cursor<'_>,
-) -> Result<Expr, SqlFault>
+fn bucket(alloc: Global, context: &Context, cursor: &mut Cursor<'_>) -> Result<Expr, SqlFault>
     ensures { ReadsOn result cursor.new (bucket context.now cursor.old) }
 {
     match cursor.name(2) {
@@ -370,11 +366,7 @@ pub fn is_arithmetic_next(cursor: &Cursor<'_>) -> bool
 
 /// `IS NULL` and `IS NOT NULL`, behind IS.
 #[tactic(auto, unfolding(crate::specs::Grammar::null_test))]
-pub fn null_test(
-    alloc: Global,
-    of: Expr,
-    cursor: &mut Cursor<'_>,
-) -> Result<Expr, SqlFault>
+pub fn null_test(alloc: Global, of: Expr, cursor: &mut Cursor<'_>) -> Result<Expr, SqlFault>
     ensures { ReadsOn result cursor.new (null_test of cursor.old) }
 {
     let negated = cursor.is_keyword(0, Keyword::Not) && !cursor.is_keyword(1, Keyword::In);

@@ -249,11 +249,7 @@ fn parameter_query(
 
 /// The words of a data query.
 #[tactic(auto, unfolding(crate::specs::Queries::data_query))]
-fn data_query(
-    alloc: Global,
-    limit: usize,
-    cursor: &mut Cursor<'_>,
-) -> Result<DataQuery, SqlFault>
+fn data_query(alloc: Global, limit: usize, cursor: &mut Cursor<'_>) -> Result<DataQuery, SqlFault>
     ensures { Reads result (data_query limit cursor.old) }
 {
     cursor.expect_keyword(Keyword::Select)?;
@@ -291,7 +287,11 @@ fn scan_parameter_query(alloc: Global, text: &Text) -> Result<ParameterQuery, Sq
         Err(fault) => return Err(fault),
     };
     let end = text.bytes().len() as u32;
-    parameter_query(alloc, lexemes.len(), &mut Cursor::new(lexemes.as_slice(), end))
+    parameter_query(
+        alloc,
+        lexemes.len(),
+        &mut Cursor::new(lexemes.as_slice(), end),
+    )
 }
 
 /// The data query of a text, from its lexemes.
@@ -305,7 +305,11 @@ fn scan_data_query(alloc: Global, text: &Text) -> Result<DataQuery, SqlFault>
         Err(fault) => return Err(fault),
     };
     let end = text.bytes().len() as u32;
-    data_query(alloc, lexemes.len(), &mut Cursor::new(lexemes.as_slice(), end))
+    data_query(
+        alloc,
+        lexemes.len(),
+        &mut Cursor::new(lexemes.as_slice(), end),
+    )
 }
 
 /// The parameter query that a text is:

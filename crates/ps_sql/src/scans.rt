@@ -267,11 +267,7 @@ fn number(bytes: &[u8]) -> Option<(i64, usize)>
 
 /// Behind an opening quote: the text up to the quote that closes it, and how many bytes it and that quote take.
 #[tactic(auto, using(crate::proofs::Cuts::quoted_within))]
-fn quoted_text(
-    alloc: Global,
-    quote: char,
-    text: &str,
-) -> Result<Option<(Text, usize)>, Memory>
+fn quoted_text(alloc: Global, quote: char, text: &str) -> Result<Option<(Text, usize)>, Memory>
     requires { quote < 128 }
     ensures value { IfOk result (λ found. found ≡ quoted quote text.now) }
     ensures bound { IfOk result (λ found. IfSome found (λ f. f.1 ≤ length text.now)) }
@@ -284,10 +280,7 @@ fn quoted_text(
         };
         content.push_str(before)?;
         let Some(more) = after.strip_prefix(quote) else {
-            return Ok(Some((
-                Text::from_string(content),
-                text.len() - after.len(),
-            )));
+            return Ok(Some((Text::from_string(content), text.len() - after.len())));
         };
         content.push(quote)?;
         left = more;

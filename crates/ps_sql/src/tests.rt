@@ -1,7 +1,4 @@
-use crate::{
-    Expr, SqlFault, TokenKind, read_data_query,
-    read_parameter_query, tokens,
-};
+use crate::{Expr, SqlFault, TokenKind, read_data_query, read_parameter_query, tokens};
 use ps_values::Text;
 use std::alloc::Global;
 use std::test::Fail;
@@ -133,30 +130,90 @@ fn reads_data_queries(rt: HostRuntime) -> Result<(), Fail> {
     let table = [
         ("SELECT * FROM items", "true items items -"),
         ("SELECT * FROM items;", "true items items -"),
-        ("select * from items where owner = bucket.u", "true items items (owner Equal bucket.u)"),
+        (
+            "select * from items where owner = bucket.u",
+            "true items items (owner Equal bucket.u)",
+        ),
         ("SELECT a, b AS c FROM t u", "false a=a c=b t u -"),
-        ("SELECT u.a FROM t AS u WHERE u.a > 1", "false a=a t u (a Greater 1)"),
-        ("SELECT *, upper(name) AS n FROM t", "true n=Upper(name;) t t -"),
-        ("SELECT a FROM t WHERE a = 1 OR b = 2 AND NOT c = 3", "false a=a t t ((a Equal 1) Or ((b Equal 2) And NOT((c Equal 3))))"),
-        ("SELECT a FROM t WHERE a = b = c", "false a=a t t ((a Equal b) Equal c)"),
-        ("SELECT a FROM t WHERE a = b < c", "false a=a t t (a Equal (b Less c))"),
-        ("SELECT a FROM t WHERE a || b -> 'c' ->> 0 = d", "false a=a t t ((((a Join b) Arrow 'c') DoubleArrow 0) Equal d)"),
-        ("SELECT a FROM t WHERE a IS NOT NULL AND b IS NULL", "false a=a t t (NULL?true(a) And NULL?false(b))"),
-        ("SELECT a FROM t WHERE a <> b", "false a=a t t (a NotEqual b)"),
-        ("SELECT a FROM t WHERE a != b", "false a=a t t (a NotEqual b)"),
-        ("SELECT a FROM t WHERE (a OR b) AND TRUE", "false a=a t t ((a Or b) And 1)"),
-        ("SELECT a FROM t WHERE a IN b AND FALSE", "false a=a t t ((a Within b) And 0)"),
+        (
+            "SELECT u.a FROM t AS u WHERE u.a > 1",
+            "false a=a t u (a Greater 1)",
+        ),
+        (
+            "SELECT *, upper(name) AS n FROM t",
+            "true n=Upper(name;) t t -",
+        ),
+        (
+            "SELECT a FROM t WHERE a = 1 OR b = 2 AND NOT c = 3",
+            "false a=a t t ((a Equal 1) Or ((b Equal 2) And NOT((c Equal 3))))",
+        ),
+        (
+            "SELECT a FROM t WHERE a = b = c",
+            "false a=a t t ((a Equal b) Equal c)",
+        ),
+        (
+            "SELECT a FROM t WHERE a = b < c",
+            "false a=a t t (a Equal (b Less c))",
+        ),
+        (
+            "SELECT a FROM t WHERE a || b -> 'c' ->> 0 = d",
+            "false a=a t t ((((a Join b) Arrow 'c') DoubleArrow 0) Equal d)",
+        ),
+        (
+            "SELECT a FROM t WHERE a IS NOT NULL AND b IS NULL",
+            "false a=a t t (NULL?true(a) And NULL?false(b))",
+        ),
+        (
+            "SELECT a FROM t WHERE a <> b",
+            "false a=a t t (a NotEqual b)",
+        ),
+        (
+            "SELECT a FROM t WHERE a != b",
+            "false a=a t t (a NotEqual b)",
+        ),
+        (
+            "SELECT a FROM t WHERE (a OR b) AND TRUE",
+            "false a=a t t ((a Or b) And 1)",
+        ),
+        (
+            "SELECT a FROM t WHERE a IN b AND FALSE",
+            "false a=a t t ((a Within b) And 0)",
+        ),
         ("SELECT (a) FROM t WHERE ((a))", "false a=a t t a"),
-        ("SELECT a FROM t WHERE CAST(a AS text) = '' ", "false a=a t t (TEXT(a) Equal '')"),
-        ("SELECT text FROM t WHERE text = - 5", "false text=text t t (text Equal -5)"),
-        ("SELECT \"a\"\"b\" FROM t WHERE 'it''s' = x", "false a\"b=a\"b t t ('it's' Equal x)"),
-        ("SELECT IIF(a, 1, NULL) AS x FROM t", "false x=Iif(a;1;NULL;) t t -"),
-        ("SELECT typeof(ifnull(a, 'b')) AS x FROM t", "false x=TypeOf(IfNull(a;'b';);) t t -"),
-        ("SELECT a FROM t WHERE a <= 9223372036854775807", "false a=a t t (a LessEqual 9223372036854775807)"),
+        (
+            "SELECT a FROM t WHERE CAST(a AS text) = '' ",
+            "false a=a t t (TEXT(a) Equal '')",
+        ),
+        (
+            "SELECT text FROM t WHERE text = - 5",
+            "false text=text t t (text Equal -5)",
+        ),
+        (
+            "SELECT \"a\"\"b\" FROM t WHERE 'it''s' = x",
+            "false a\"b=a\"b t t ('it's' Equal x)",
+        ),
+        (
+            "SELECT IIF(a, 1, NULL) AS x FROM t",
+            "false x=Iif(a;1;NULL;) t t -",
+        ),
+        (
+            "SELECT typeof(ifnull(a, 'b')) AS x FROM t",
+            "false x=TypeOf(IfNull(a;'b';);) t t -",
+        ),
+        (
+            "SELECT a FROM t WHERE a <= 9223372036854775807",
+            "false a=a t t (a LessEqual 9223372036854775807)",
+        ),
         ("SELECT NOT NOT a AS x FROM t", "false x=NOT(NOT(a)) t t -"),
         ("SELECT request FROM t", "false request=request t t -"),
-        ("SELECT request.x FROM t AS request", "false x=x t request -"),
-        ("SELECT length ( a ) AS n FROM t", "false n=Length(a;) t t -"),
+        (
+            "SELECT request.x FROM t AS request",
+            "false x=x t request -",
+        ),
+        (
+            "SELECT length ( a ) AS n FROM t",
+            "false n=Length(a;) t t -",
+        ),
     ];
     for (query, want) in table {
         let got = data(alloc, query)?;
@@ -231,10 +288,22 @@ fn reads_parameter_queries(rt: HostRuntime) -> Result<(), Fail> {
         ("SELECT Request.user_id()", "unexpected 22"),
         ("SELECT Request.user_id", "unsupported 7"),
         ("SELECT request.USER_ID ( ) AS u", "u=USER - -"),
-        ("SELECT request.jwt() ->> 'sub' AS s", "s=(JWT DoubleArrow 'sub') - -"),
-        ("SELECT request.parameters() -> 'x' AS s", "s=(PARAMETERS Arrow 'x') - -"),
-        ("SELECT list_id FROM members WHERE user_id = request.user_id()", "list_id=list_id members (user_id Equal USER)"),
-        ("SELECT m.list_id FROM m WHERE m.user_id = 1", "list_id=list_id m (user_id Equal 1)"),
+        (
+            "SELECT request.jwt() ->> 'sub' AS s",
+            "s=(JWT DoubleArrow 'sub') - -",
+        ),
+        (
+            "SELECT request.parameters() -> 'x' AS s",
+            "s=(PARAMETERS Arrow 'x') - -",
+        ),
+        (
+            "SELECT list_id FROM members WHERE user_id = request.user_id()",
+            "list_id=list_id members (user_id Equal USER)",
+        ),
+        (
+            "SELECT m.list_id FROM m WHERE m.user_id = 1",
+            "list_id=list_id m (user_id Equal 1)",
+        ),
         ("SELECT", "- -"),
         ("SELECT FROM t", "t -"),
         ("SELECT WHERE TRUE", "- 1"),
@@ -280,10 +349,19 @@ fn reads_tokens(rt: HostRuntime) -> Result<(), Fail> {
 #[test]
 fn copies_expressions(rt: HostRuntime) -> Result<(), Fail> {
     let alloc = rt.alloc();
-    let query = read_data_query(alloc, &text(alloc, "SELECT a FROM t WHERE iif(NOT a IS NULL, b || 'c', 2) = bucket.p")?)?;
+    let query = read_data_query(
+        alloc,
+        &text(
+            alloc,
+            "SELECT a FROM t WHERE iif(NOT a IS NULL, b || 'c', 2) = bucket.p",
+        )?,
+    )?;
     let condition = query.condition.as_ref().ok_or("no condition")?;
     let copy = condition.copy(alloc)?;
     let copied = shown(alloc, &copy)?;
-    assert_eq!(rt; copied.as_str(), "(Iif(NOT(NULL?false(a));(b Join 'c');2;) Equal bucket.p)");
+    assert_eq!(rt;
+        copied.as_str(),
+        "(Iif(NOT(NULL?false(a));(b Join 'c');2;) Equal bucket.p)"
+    );
     Ok(())
 }

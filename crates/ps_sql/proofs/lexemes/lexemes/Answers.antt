@@ -1,9 +1,8 @@
-use Rattle.std.proofs.Common.{◌≡◌, ℕ, ◌+◌, ◌-◌, ◌<◌, true, false, get_or, None, List, [], ◌∷◌, ◌++◌, length, drop, Some, rules, subst, sym, ap, ◌∙◌, arith, append-nil, append_assoc, length-drop}
+use Rattle.std.proofs.Common.{◌≡◌, ℕ, ◌+◌, ◌<◌, true, false, get_or, List, [], ◌∷◌, ◌++◌, length, Some, rules, subst, sym, ◌∙◌, arith, append-nil, append_assoc}
 use Rattle.std.proofs.lemmas.Grind.{common_steps}
-use Rattle.std.proofs.lemmas.Bool.Decides.{nat_tests}
 use Rattle.ps_sql.specs.declared.words.Lexeme.{Lexeme}
 use Rattle.ps_sql.specs.declared.words.Word.{Word}
-use Rattle.ps_sql.specs.Words.{word_at, is_blank, CutsBehindAscii}
+use Rattle.ps_sql.specs.Words.{word_at, is_blank}
 use Rattle.ps_sql.specs.Lexemes.{AreLexemes, Stops}
 use Rattle.ps_sql.proofs.Cuts.{word_cuts}
 use Rattle.ps_sql.proofs.LexemeLaws.{blank_lexemes, blank_stops, word_lexemes, word_stops, stops_here, all_read}
@@ -50,9 +49,9 @@ words-preserved c =
       utf8 = search rules;
       place = omega (arith, c.cut-in-words.ensures.parts);
       found = λ more is.
-        let whole = c.words.invariant.found (lexeme ∷ more) (word_lexemes at rest found more read (subst (L more) c.cut-in-words.ensures.back is)) in
-        let same : c.words.lexemes ++ lexeme ∷ more ≡ c.push.new.self ++ more = rw c.in_ok-push.ensures.ok (sym (append_assoc c.words.lexemes (lexeme ∷ []) more)) in
-        subst All same whole;
+          let whole = c.words.invariant.found (lexeme ∷ more) (word_lexemes at rest found more read (subst (L more) c.cut-in-words.ensures.back is)) in
+          let same : c.words.lexemes ++ lexeme ∷ more ≡ c.push.new.self ++ more = rw c.in_ok-push.ensures.ok (sym (append_assoc c.words.lexemes (lexeme ∷ []) more)) in
+          subst All same whole;
       stops = λ place is. c.words.invariant.stops place (word_stops at rest found place read (subst (S place) c.cut-in-words.ensures.back is));
     }
 

@@ -11,7 +11,7 @@ invariant-words l = record {
   utf8 : shadow (Utf8 l.rest);
   place : l.at + length l.rest ≡ length l.text;
   found : (more : List Lexeme) → AreLexemes l.at l.rest more → AreLexemes 0 l.text (l.lexemes ++ more);
-  stops : (place : ℕ) → Stops l.at l.rest place → Stops 0 l.text place
+  stops : (place : ℕ) → Stops l.at l.rest place → Stops 0 l.text place;
 }
 
 abbrev pub decreases-words : goal.decreases-words

@@ -1,4 +1,4 @@
-use Rattle.std.proofs.Common.{◌≡◌, ◌≢◌, ℕ, ◌-◌, ◌<◌, rules, List, ◌∷◌, ◌++◌, length, get_or, Some, None, sym, ap, suc, ◌+◌, ◌∙◌, length-append, arith}
+use Rattle.std.proofs.Common.{◌≡◌, ◌≢◌, ℕ, ◌-◌, ◌<◌, rules, ◌∷◌, ◌++◌, length, get_or, Some, None, sym, ap, suc, ◌+◌, ◌∙◌, length-append, arith}
 use Rattle.std.proofs.lemmas.Grind.{common_steps}
 use Rattle.std.proofs.lemmas.Str.Pattern.{split_parts, strip_prefix_char}
 use Rattle.std.specs.Prelude.{encode_utf8}

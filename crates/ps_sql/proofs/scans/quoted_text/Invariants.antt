@@ -10,7 +10,7 @@ abbrev pub invariant-pieces : goal.invariant-pieces
 invariant-pieces l = record {
   utf8 : shadow (Utf8 l.left);
   within : length l.left ≤ length l.text;
-  so_far : quoted l.quote l.text ≡ behind (string_bytes l.content) (length l.text - length l.left) (quoted l.quote l.left)
+  so_far : quoted l.quote l.text ≡ behind (string_bytes l.content) (length l.text - length l.left) (quoted l.quote l.left);
 }
 
 abbrev pub decreases-pieces : goal.decreases-pieces
