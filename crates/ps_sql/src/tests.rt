@@ -328,7 +328,9 @@ fn reads_parameter_queries(rt: HostRuntime) -> Result<(), Fail> {
 #[test]
 fn reads_tokens(rt: HostRuntime) -> Result<(), Fail> {
     let alloc = rt.alloc();
-    let read = tokens(alloc, &text(alloc, "a->>'b''' <=\"c\" 12")?)?;
+    let source = text(alloc, "a->>'b''' <=\"c\" 12")?;
+    assert!(rt; source.as_str().len() < 1000);
+    let read = tokens(alloc, &source)?;
     let table = [
         (TokenKind::Name, 0, 1),
         (TokenKind::Mark, 1, 4),
@@ -349,13 +351,12 @@ fn reads_tokens(rt: HostRuntime) -> Result<(), Fail> {
 #[test]
 fn copies_expressions(rt: HostRuntime) -> Result<(), Fail> {
     let alloc = rt.alloc();
-    let query = read_data_query(
+    let source = text(
         alloc,
-        &text(
-            alloc,
-            "SELECT a FROM t WHERE iif(NOT a IS NULL, b || 'c', 2) = bucket.p",
-        )?,
+        "SELECT a FROM t WHERE iif(NOT a IS NULL, b || 'c', 2) = bucket.p",
     )?;
+    assert!(rt; source.as_str().len() < 1000);
+    let query = read_data_query(alloc, &source)?;
     let condition = query.condition.as_ref().ok_or("no condition")?;
     let copy = condition.copy(alloc)?;
     let copied = shown(alloc, &copy)?;
