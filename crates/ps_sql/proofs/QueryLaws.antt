@@ -9,11 +9,12 @@ use Rattle.ps_sql.specs.Queries.{item, items, parameter_query, data_query}
 use Rattle.ps_sql.specs.SpelledQueries.{IsParameterQuery, IsDataQuery}
 use Rattle.ps_sql.specs.declared.queries.ParameterQuery.{ParameterQuery}
 use Rattle.ps_sql.specs.declared.queries.DataQuery.{DataQuery}
+use Rattle.ps_sql.proofs.Calm.{Calm, parameter_calm, data_calm}
 use Rattle.ps_sql.proofs.FoundQueries.{parameter_query_found, data_query_found}
 use Rattle.ps_sql.specs.declared.words.Lexeme.{Lexeme}
 use Rattle.ps_sql.specs.declared.faults.SqlFault.{SqlFault}
 use Rattle.ps_sql.specs.declared.faults.SqlFault.TheVariants as faults
-use Rattle.ps_sql.specs.Answers.{Reads, AnswersLexemes, AnswersQuery, input_of}
+use Rattle.ps_sql.specs.Answers.{Reads, AnswersLexemes, AnswersQuery, input_of, StopsAtToken}
 use Rattle.ps_sql.specs.Lexemes.{AreLexemes}
 use Rattle.ps_sql.proofs.LexemeLaws.{same_lexemes, not_both, same_stop}
 
@@ -36,10 +37,19 @@ some_reading : {X : Type 0} (text : List ℕ) (lexemes : List Lexeme) (answer : 
 some_reading text lexemes (Ok x) are = (lexemes, are)
 some_reading text lexemes (Err fault) are = tt
 
+calm_token : {X : Type 0} (read : ℕ → Input → Result X SqlFault) (text : List ℕ) (lexemes : List Lexeme) (answer : Result X SqlFault)
+    → Reads answer (read (length lexemes) (input_of text lexemes)) → Calm (read (length lexemes) (input_of text lexemes)) → StopsAtToken text answer
+calm_token read text lexemes (Ok x) reads calm = tt
+calm_token read text lexemes (Err (faults.BadToken at)) reads calm = absurd (subst Calm reads calm)
+calm_token read text lexemes (Err (faults.Unexpected at)) reads calm = tt
+calm_token read text lexemes (Err (faults.Unsupported at)) reads calm = tt
+calm_token read text lexemes (Err faults.Memory) reads calm = tt
+
 -- what is read from the one reading of a text
 pub answers_read : {X : Type 0} (read : ℕ → Input → Result X SqlFault) (text : List ℕ) (lexemes : List Lexeme) (answer : Result X SqlFault)
-    → AreLexemes 0 text lexemes → Reads answer (read (length lexemes) (input_of text lexemes)) → AnswersQuery read text answer
-answers_read read text lexemes answer are reads = record {
+    → AreLexemes 0 text lexemes → Reads answer (read (length lexemes) (input_of text lexemes)) → Calm (read (length lexemes) (input_of text lexemes)) → AnswersQuery read text answer
+answers_read read text lexemes answer are reads calm = record {
+  token = calm_token read text lexemes answer reads calm;
   read_from = some_reading text lexemes answer are;
   words = λ others are'. subst (λ xs. Reads answer (read (length xs) (input_of text xs))) (same_lexemes are are') reads;
   bad = λ at stops. absurd (not_both are stops);
@@ -48,15 +58,16 @@ answers_read read text lexemes answer are reads = record {
 -- what stops the reading of a text's lexemes stops that of its query
 pub answers_stopped : {X : Type 0} (read : ℕ → Input → Result X SqlFault) (text : List ℕ) (fault : SqlFault) → AnswersLexemes text (Err fault) → AnswersQuery read text (Err fault)
 answers_stopped read text (faults.BadToken place) stops = record {
+  token = stops;
   read_from = tt;
   words = λ xs are. absurd (not_both are stops);
   bad = λ at stops'. ap (λ n. Err (faults.BadToken n)) (same_stop stops' stops);
 }
-answers_stopped read text faults.Memory stops = record { read_from = tt; words = λ xs are. tt; bad = λ at stops'. tt }
+answers_stopped read text faults.Memory stops = record { token = tt; read_from = tt; words = λ xs are. tt; bad = λ at stops'. tt }
 answers_stopped read text (faults.Unexpected place) stops = absurd stops
 answers_stopped read text (faults.Unsupported place) stops = absurd stops
 
-pub ruleset answers = (answers_read, answers_stopped)
+pub ruleset answers = (answers_read, answers_stopped, parameter_calm, data_calm)
 
 -- the public clauses
 

@@ -51,8 +51,17 @@ StepsOn (Err fault) rest meant = Fails fault meant
 abbrev pub input_of : List ℕ → List Lexeme → Input
 input_of text lexemes = record { left = lexemes; end = length text }
 
+-- a bad token is answered where the reading of the lexemes stops
+abbrev pub StopsAtToken : {X : Type 0} → List ℕ → Result X SqlFault → Type 0
+StopsAtToken text (Ok x) = Unit {0}
+StopsAtToken text (Err (faults.BadToken at)) = Stops 0 text at
+StopsAtToken text (Err (faults.Unexpected at)) = Unit {0}
+StopsAtToken text (Err (faults.Unsupported at)) = Unit {0}
+StopsAtToken text (Err faults.Memory) = Unit {0}
+
 -- a query is read from the lexemes of its text, or the text has a place where none begins
 pub record AnswersQuery {X : Type 0} (read : ℕ → Input → Result X SqlFault) (text : List ℕ) (answer : Result X SqlFault) : Type 0 where
   pub read_from : OnOk answer ((lexemes : List Lexeme) × AreLexemes 0 text lexemes)
   pub words : (lexemes : List Lexeme) → AreLexemes 0 text lexemes → Reads answer (read (length lexemes) (input_of text lexemes))
   pub bad : (at : ℕ) → Stops 0 text at → Reads answer (Err (faults.BadToken at))
+  pub token : StopsAtToken text answer

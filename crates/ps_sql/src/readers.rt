@@ -1,7 +1,7 @@
 ghost use Rattle.std.specs.Prelude.{◌≡◌, ℕ, ◌<◌, List, length, IfOk};
 ghost use Rattle.std.specs.Option.{option_copied};
 ghost use Rattle.ps_sql.specs.declared.words.Lexeme.{Lexeme};
-ghost use Rattle.ps_sql.specs.Answers.{AnswersQuery, Reads, ReadsOn, StepsOn, input_of};
+ghost use Rattle.ps_sql.specs.Answers.{AnswersQuery, Reads, ReadsOn, StepsOn, input_of, StopsAtToken};
 ghost use Rattle.ps_sql.specs.SpelledQueries.{IsDataQuery, IsParameterQuery};
 ghost use Rattle.ps_sql.specs.Inputs.{next};
 ghost use Rattle.ps_sql.specs.Lexemes.{AreLexemes, Stops};
@@ -328,7 +328,9 @@ pub fn read_parameter_query(alloc: Global, text: &Text) -> Result<ParameterQuery
     // Which query it is, or which fault and where.
     ensures exact { (lexemes : List Lexeme) → AreLexemes 0 text.now lexemes
         → Reads result (parameter_query (length lexemes) (input_of text.now lexemes)) }
+    // Where no token begins, that is the answer, unless memory runs out; and it is the answer nowhere else.
     ensures bad { (at : ℕ) → Stops 0 text.now at → Reads result (Err (SqlFault.BadToken at)) }
+    ensures token { StopsAtToken text.now result }
 {
     scan_parameter_query(alloc, text)
 }
@@ -347,7 +349,9 @@ pub fn read_data_query(alloc: Global, text: &Text) -> Result<DataQuery, SqlFault
     // Which query it is, or which fault and where.
     ensures exact { (lexemes : List Lexeme) → AreLexemes 0 text.now lexemes
         → Reads result (data_query (length lexemes) (input_of text.now lexemes)) }
+    // Where no token begins, that is the answer, unless memory runs out; and it is the answer nowhere else.
     ensures bad { (at : ℕ) → Stops 0 text.now at → Reads result (Err (SqlFault.BadToken at)) }
+    ensures token { StopsAtToken text.now result }
 {
     scan_data_query(alloc, text)
 }
