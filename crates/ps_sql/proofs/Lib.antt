@@ -1,0 +1,13 @@
+pub mod Calm
+pub mod Cuts
+pub mod Decimals
+pub mod Scopes
+pub mod ValueExamples
+pub mod ValueLaws
+pub mod Found
+pub mod FoundQueries
+pub mod GrammarLaws
+pub mod LexemeLaws
+pub mod QueryLaws
+pub mod Quotes
+pub mod WordLaws

@@ -1,0 +1,86 @@
+-- The turns of the reading of outputs.
+use Rattle.std.proofs.Common.{◌≡◌, ℕ, zero, suc, ◌-◌, ◌<◌, List, length, refl, ap, subst, arith}
+use Rattle.std.specs.Prelude.{Result, Ok, Err, OnOk, IfOk, if◌then◌else◌}
+use Rattle.ps_sql.specs.declared.words.Mark.TheVariants as marks
+use Rattle.ps_sql.specs.declared.contexts.Context.{Context}
+use Rattle.ps_sql.specs.declared.contexts.Listed.{Listed}
+use Rattle.ps_sql.specs.Inputs.{Input, ◌>>=◌, next, past, is_mark, refusal}
+use Rattle.ps_sql.specs.Queries.{item, items, parameter_query, data_query}
+use Rattle.ps_sql.specs.SpelledQueries.{IsParameterQuery, IsDataQuery}
+use Rattle.ps_sql.specs.declared.queries.ParameterQuery.{ParameterQuery}
+use Rattle.ps_sql.specs.declared.queries.DataQuery.{DataQuery}
+use Rattle.ps_sql.proofs.Calm.{Calm, parameter_calm, data_calm}
+use Rattle.ps_sql.proofs.FoundQueries.{parameter_query_found, data_query_found}
+use Rattle.ps_sql.specs.declared.words.Lexeme.{Lexeme}
+use Rattle.ps_sql.specs.declared.faults.SqlFault.{SqlFault}
+use Rattle.ps_sql.specs.declared.faults.SqlFault.TheVariants as faults
+use Rattle.ps_sql.specs.Answers.{Reads, AnswersLexemes, AnswersQuery, input_of, StopsAtToken}
+use Rattle.ps_sql.specs.Lexemes.{AreLexemes}
+use Rattle.ps_sql.proofs.LexemeLaws.{same_lexemes, not_both, same_stop}
+
+pub items_none : (turns : ℕ) (context : Context) (limit : ℕ) (listed : Listed) (input : Input) → turns ≡ 0 → items turns context limit listed input ≡ Err (refusal input)
+unfolding items
+items_none zero context limit listed input e = refl
+items_none (suc turns) context limit listed input e = absurd (omega arith)
+
+pub items_turn : (turns : ℕ) (context : Context) (limit : ℕ) (listed : Listed) (input : Input) → 0 < turns
+    → items turns context limit listed input ≡ (item context limit listed input >>= λ x.
+    if is_mark marks.Comma (next x.1) then items (turns - 1) context limit x.0 (past 1 x.1) else Ok x)
+unfolding items
+items_turn zero context limit listed input e = absurd (omega arith)
+items_turn (suc turns) context limit listed input e = ap (λ n. item context limit listed input >>= λ x.
+    if is_mark marks.Comma (next x.1) then items n context limit x.0 (past 1 x.1) else Ok x) (omega arith)
+
+pub ruleset items_laws = (items_none, items_turn)
+
+some_reading : {X : Type 0} (text : List ℕ) (lexemes : List Lexeme) (answer : Result X SqlFault) → AreLexemes 0 text lexemes → OnOk answer ((xs : List Lexeme) × AreLexemes 0 text xs)
+some_reading text lexemes (Ok x) are = (lexemes, are)
+some_reading text lexemes (Err fault) are = tt
+
+calm_token : {X : Type 0} (read : ℕ → Input → Result X SqlFault) (text : List ℕ) (lexemes : List Lexeme) (answer : Result X SqlFault)
+    → Reads answer (read (length lexemes) (input_of text lexemes)) → Calm (read (length lexemes) (input_of text lexemes)) → StopsAtToken text answer
+calm_token read text lexemes (Ok x) reads calm = tt
+calm_token read text lexemes (Err (faults.BadToken at)) reads calm = absurd (subst Calm reads calm)
+calm_token read text lexemes (Err (faults.Unexpected at)) reads calm = tt
+calm_token read text lexemes (Err (faults.Unsupported at)) reads calm = tt
+calm_token read text lexemes (Err faults.Memory) reads calm = tt
+
+-- what is read from the one reading of a text
+pub answers_read : {X : Type 0} (read : ℕ → Input → Result X SqlFault) (text : List ℕ) (lexemes : List Lexeme) (answer : Result X SqlFault)
+    → AreLexemes 0 text lexemes → Reads answer (read (length lexemes) (input_of text lexemes)) → Calm (read (length lexemes) (input_of text lexemes)) → AnswersQuery read text answer
+answers_read read text lexemes answer are reads calm = record {
+  token = calm_token read text lexemes answer reads calm;
+  read_from = some_reading text lexemes answer are;
+  words = λ others are'. subst (λ xs. Reads answer (read (length xs) (input_of text xs))) (same_lexemes are are') reads;
+  bad = λ at stops. absurd (not_both are stops);
+}
+
+-- what stops the reading of a text's lexemes stops that of its query
+pub answers_stopped : {X : Type 0} (read : ℕ → Input → Result X SqlFault) (text : List ℕ) (fault : SqlFault) → AnswersLexemes text (Err fault) → AnswersQuery read text (Err fault)
+answers_stopped read text (faults.BadToken place) stops = record {
+  token = stops;
+  read_from = tt;
+  words = λ xs are. absurd (not_both are stops);
+  bad = λ at stops'. ap (λ n. Err (faults.BadToken n)) (same_stop stops' stops);
+}
+answers_stopped read text faults.Memory stops = record { token = tt; read_from = tt; words = λ xs are. tt; bad = λ at stops'. tt }
+answers_stopped read text (faults.Unexpected place) stops = absurd stops
+answers_stopped read text (faults.Unsupported place) stops = absurd stops
+
+pub ruleset answers = (answers_read, answers_stopped, parameter_calm, data_calm)
+
+-- the public clauses
+
+pub parameter_found : (text : List ℕ) (answer : Result ParameterQuery SqlFault) → AnswersQuery parameter_query text answer
+    → IfOk answer (λ query. (lexemes : List Lexeme) × AreLexemes 0 text lexemes × IsParameterQuery lexemes query)
+parameter_found text (Ok query) answers = let r = answers.read_from in
+    (r.0, r.1, parameter_query_found (length r.0) (input_of text r.0) query (answers.words r.0 r.1))
+parameter_found text (Err fault) answers = tt
+
+pub data_found : (text : List ℕ) (answer : Result DataQuery SqlFault) → AnswersQuery data_query text answer
+    → IfOk answer (λ query. (lexemes : List Lexeme) × AreLexemes 0 text lexemes × IsDataQuery lexemes query)
+data_found text (Ok query) answers = let r = answers.read_from in
+    (r.0, r.1, data_query_found (length r.0) (input_of text r.0) query (answers.words r.0 r.1))
+data_found text (Err fault) answers = tt
+
+pub ruleset found = (parameter_found, data_found)

@@ -1,0 +1,11 @@
+pub mod Answers
+pub mod Grammar
+pub mod Inputs
+pub mod Lexemes
+pub mod Json
+pub mod Meaning
+pub mod Queries
+pub mod Spelled
+pub mod SpelledQueries
+pub mod Spellings
+pub mod Words

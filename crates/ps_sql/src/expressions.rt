@@ -1,0 +1,160 @@
+ghost use Rattle.std.specs.Prelude.{◌≡◌, IfOk};
+
+use ps_values::{Boxed, Items, Memory, Text};
+use std::alloc::Global;
+
+/// A function of the profile, with its number of arguments.
+#[derive(Clone, Copy, Debug, PartialEq, Eq)]
+pub enum Function {
+    /// `upper(a)`: ASCII letters in capitals.
+    Upper,
+    /// `lower(a)`: ASCII letters in small.
+    Lower,
+    /// `length(a)`: the number of characters.
+    Length,
+    /// `ifnull(a, b)`: b where a is Null.
+    IfNull,
+    /// `iif(c, a, b)`: a where c is true, else b.
+    Iif,
+    /// `typeof(a)`: `null`, `integer` or `text`.
+    TypeOf,
+}
+
+/// An operator between two sides.
+#[derive(Clone, Copy, Debug, PartialEq, Eq)]
+pub enum Operator {
+    /// `OR`
+    Or,
+    /// `AND`
+    And,
+    /// `=`
+    Equal,
+    /// `!=` and `<>`
+    NotEqual,
+    /// `<`
+    Less,
+    /// `<=`
+    LessEqual,
+    /// `>`
+    Greater,
+    /// `>=`
+    GreaterEqual,
+    /// `IN`, over a JSON array
+    Within,
+    /// `||`
+    Join,
+    /// `->`
+    Arrow,
+    /// `->>`
+    DoubleArrow,
+}
+
+/// An expression. Brackets leave no node, and TRUE and FALSE are the numbers 1 and 0.
+#[derive(Debug, Drop)]
+pub enum Expr {
+    /// `NULL`
+    Null,
+    /// A whole number.
+    Number(i64),
+    /// A text in single quotes, without them.
+    Text(Text),
+    /// A column, by its own name alone.
+    Column {
+        name: Text,
+    },
+    /// `bucket.name`: a parameter of the bucket.
+    Bucket {
+        name: Text,
+    },
+    /// `request.user_id()` and `token_parameters.user_id`: the asker's user.
+    UserId,
+    /// `request.jwt()`: the asker's payload.
+    Jwt,
+    /// `request.parameters()`: the asker's parameters.
+    Parameters,
+    /// A function of its arguments.
+    Call {
+        function: Function,
+        arguments: Items<Expr>,
+    },
+    /// `CAST(of AS TEXT)`
+    CastText {
+        of: Boxed<Expr>,
+    },
+    /// `NOT of`
+    Not {
+        of: Boxed<Expr>,
+    },
+    /// `of IS NULL`, or `of IS NOT NULL` where negated.
+    IsNull {
+        of: Boxed<Expr>,
+        negated: bool,
+    },
+    /// An operator between two sides.
+    Two {
+        operator: Operator,
+        left: Boxed<Expr>,
+        right: Boxed<Expr>,
+    },
+}
+
+impl Expr {
+    /// An equal expression.
+    #[cycle(copying)]
+    pub fn copy(&self, alloc: Global) -> Result<Expr, Memory>
+        ensures { IfOk result (λ copy. copy ≡ self.now) }
+    {
+        match self {
+            Expr::Null => Ok(Expr::Null),
+            Expr::Number(number) => Ok(Expr::Number(*number)),
+            Expr::Text(text) => Ok(Expr::Text(text.copy(alloc)?)),
+            Expr::Column { name } => Ok(Expr::Column {
+                name: name.copy(alloc)?,
+            }),
+            Expr::Bucket { name } => Ok(Expr::Bucket {
+                name: name.copy(alloc)?,
+            }),
+            Expr::UserId => Ok(Expr::UserId),
+            Expr::Jwt => Ok(Expr::Jwt),
+            Expr::Parameters => Ok(Expr::Parameters),
+            Expr::Call {
+                function,
+                arguments,
+            } => Ok(Expr::Call {
+                function: *function,
+                arguments: copy_all(alloc, arguments.as_slice())?,
+            }),
+            Expr::CastText { of } => Ok(Expr::CastText {
+                of: Boxed::new(alloc, of.get().copy(alloc)?)?,
+            }),
+            Expr::Not { of } => Ok(Expr::Not {
+                of: Boxed::new(alloc, of.get().copy(alloc)?)?,
+            }),
+            Expr::IsNull { of, negated } => Ok(Expr::IsNull {
+                of: Boxed::new(alloc, of.get().copy(alloc)?)?,
+                negated: *negated,
+            }),
+            Expr::Two {
+                operator,
+                left,
+                right,
+            } => Ok(Expr::Two {
+                operator: *operator,
+                left: Boxed::new(alloc, left.get().copy(alloc)?)?,
+                right: Boxed::new(alloc, right.get().copy(alloc)?)?,
+            }),
+        }
+    }
+}
+
+/// Equal expressions, in order.
+#[cycle(copying)]
+fn copy_all(alloc: Global, all: &[Expr]) -> Result<Items<Expr>, Memory>
+    ensures { IfOk result (λ copies. copies ≡ all.now) }
+{
+    let mut copies = Items::new(alloc);
+    'copies: for one in all {
+        copies.push(one.copy(alloc)?)?;
+    }
+    Ok(copies)
+}
