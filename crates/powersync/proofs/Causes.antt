@@ -1,13 +1,12 @@
 -- Why a command ends as it does.
-use Rattle.std.proofs.Common.{◌≡◌, ℕ, ◌+◌, ◌-◌, ◌^◌, ◌<◌, ◌≤◌, Bool, true, false, cond, List, [], ◌∷◌, Option, Some, None, Result, Ok, Err, refl, sym, ap, ◌∙◌, subst, arith, min, inl, inr, codes, bytes_eq, Vec}
+use Rattle.std.proofs.Common.{◌≡◌, ℕ, ◌≤◌, true, List, [], ◌∷◌, Option, Some, Ok, Err, refl, subst, arith, inl, inr, codes, bytes_eq, Vec}
 use Rattle.std.specs.declared.alloc.Global.{Global}
-use Rattle.ps_io.specs.Contents.{Contents, Holds, HoldsMore, Gains, GainsFront}
+use Rattle.ps_io.specs.Contents.{Contents, HoldsMore, Gains}
 use Rattle.ps_io.specs.Counts.{Rose}
-use Rattle.ps_changes.specs.declared.changes.Transaction.{Transaction}
 use Rattle.powersync.specs.declared.faults.Fault.{Fault}
 use Rattle.powersync.specs.declared.faults.Fault.TheVariants.{Usage, Rules, Change, Claims, TooLong, CannotRead, CannotWrite, Memory}
 use Rattle.powersync.specs.declared.rules.Rule.{Rule}
-use Rattle.powersync.specs.Commands.{Names, names_of, rules_limit, file_limit, HoldsWithin, ReadsRule, ReadsUser, Prints, RefusesRules, RefusesClaims, RefusesChange, ExceedsRules, ExceedsClaims, ExceedsChanges, Outside, Kept, Caused, Outcome}
+use Rattle.powersync.specs.Commands.{Names, names_of, rules_limit, file_limit, HoldsWithin, ReadsRule, ReadsUser, Prints, Outside, Kept, Caused}
 use Rattle.powersync.specs.Loading.{Loads, FindsRule, RefusesRule, FindsUser, RefusesUser, FindsRows, RefusesLine}
 
 rose_later : (before mid now : ℕ) → before ≤ mid → Rose mid now → Rose before now

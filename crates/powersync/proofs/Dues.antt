@@ -1,16 +1,14 @@
 -- What a client of the user's bucket holds is what is due to the user.
-use Rattle.std.proofs.Common.{◌≡◌, ℕ, ◌<◌, ◌≤◌, Bool, true, false, ◌&&◌, ◌||◌, not, cond, List, [], ◌∷◌, ◌++◌, Option, Some, None, option_map, Ordering, Less, Equal, Greater, map, refl, sym, ap, ◌∙◌, subst, bytes_eq, arith, leb, ltb, Result, Ok, Err, ◌+◌}
-use Rattle.std.specs.Prelude.{T, option_and_then, filter, filter_map, flat_map}
+use Rattle.std.proofs.Common.{◌≡◌, ℕ, ◌<◌, ◌≤◌, Bool, true, false, ◌&&◌, ◌||◌, cond, List, [], ◌∷◌, ◌++◌, Option, Some, None, option_map, Ordering, Less, Equal, Greater, map, refl, sym, ap, ◌∙◌, subst, bytes_eq, arith, leb, ltb, Result, Ok, Err, ◌+◌}
+use Rattle.std.specs.Prelude.{T, option_and_then, filter, flat_map}
 use Rattle.std.specs.List.{cons_option}
-use Rattle.std.specs.BTreeMap.{BTreeMap, get, IsOrdered}
 use Rattle.std.specs.List.{AllByRecursion, list_any}
 use Rattle.std.specs.List.Sorted.{IsStrictlySortedBy}
 use Rattle.std.specs.Map.{keys_of, lookup}
-use Rattle.std.specs.Cmp.Lexicographic.{slice_cmp, texts_ties, nat_list_eq_equiv, nat_list_cmp_total}
+use Rattle.std.specs.Cmp.Lexicographic.{slice_cmp, texts_ties, nat_list_cmp_total}
 use Rattle.std.specs.FinMap.Entries.{find, put, is_sorted, below_all, same_entries, by_order}
 use Rattle.std.specs.Ordering.{nat_cmp, is_eq, is_lt, eq_by_cmp, ordering_then}
 use Rattle.std.proofs.lemmas.Cmp.{tied_itself}
-use Rattle.ps_values.specs.declared.columns.Column.{Column}
 use Rattle.ps_values.specs.declared.values.Value.{Value}
 use Rattle.ps_values.specs.declared.values.Value.TheVariants.{Null, Int, Text}
 use Rattle.ps_values.specs.Values.{equal_sql}

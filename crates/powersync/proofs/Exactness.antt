@@ -1,19 +1,18 @@
 -- Where the files tell what they hold, the answer is what they mean.
-use Rattle.std.proofs.Common.{◌≡◌, ℕ, ◌<◌, ◌≤◌, Bool, true, false, cond, List, [], ◌∷◌, Option, Some, None, Result, Ok, Err, length, refl, sym, ap, ◌∙◌, subst, arith, inl, inr, leb, ◌⊎◌}
+use Rattle.std.proofs.Common.{◌≡◌, ℕ, ◌<◌, ◌≤◌, false, cond, List, Option, Some, None, Result, Ok, Err, length, refl, sym, ap, ◌∙◌, subst, arith, inl, inr, leb}
 use Rattle.std.proofs.lemmas.Bool.{le-leb}
 use Rattle.std.proofs.lemmas.Bool.Decides.{nat_tests}
-use Rattle.ps_io.specs.Contents.{Contents, Holds, HoldsMore, Gains}
+use Rattle.ps_io.specs.Contents.{Contents, HoldsMore}
 use Rattle.ps_io.specs.Counts.{Rose}
-use Rattle.ps_changes.specs.declared.changes.Transaction.{Transaction}
 use Rattle.powersync.specs.declared.faults.Fault.{Fault}
 use Rattle.powersync.specs.declared.faults.Fault.TheVariants.{Usage, Rules, Change, Claims, TooLong, CannotRead, CannotWrite, Memory}
 use Rattle.powersync.specs.declared.rules.Rule.{Rule}
 use Rattle.powersync.specs.ChangeFiles.{transactions_of, last_position}
 use Rattle.powersync.specs.Claims.{claims_of}
-use Rattle.powersync.specs.Commands.{Names, names_of, rules_limit, file_limit, HoldsWithin, ReadsRule, ReadsUser, Prints, RefusesRules, RefusesClaims, RefusesChange, ExceedsRules, ExceedsClaims, ExceedsChanges, ExceedsLimit, Outside, Kept, Caused, Refusal, exceeds, no_rules, no_claims, no_change, within_limit, or_refused, or_line, meaning, IsAnswer, IsExact, ◌>>=◌}
+use Rattle.powersync.specs.Commands.{Names, names_of, rules_limit, file_limit, HoldsWithin, ReadsRule, ReadsUser, Prints, RefusesRules, RefusesClaims, RefusesChange, ExceedsLimit, Outside, Caused, Refusal, exceeds, no_rules, no_claims, no_change, within_limit, or_refused, or_line, meaning, IsAnswer, IsExact, ◌>>=◌}
 use Rattle.powersync.specs.Grants.{due}
 use Rattle.powersync.specs.Rules.{rule_of}
-use Rattle.powersync.specs.Saying.{Told, SaysFault, Says}
+use Rattle.powersync.specs.Saying.{Told, Says}
 use Rattle.powersync.specs.Texts.{rows_text}
 
 same_value : {A : Type 0} (o : Option A) (a b : A) → o ≡ Some a → o ≡ Some b → a ≡ b

@@ -1,20 +1,19 @@
 -- A replica goes on standing for the source as rows are written.
-use Rattle.std.proofs.Common.{◌≡◌, ◌≢◌, ℕ, Bool, true, false, ◌&&◌, not, cond, List, [], ◌∷◌, ◌++◌, Option, Some, None, option_map, Ordering, Less, Equal, Greater, refl, sym, ap, ◌∙◌, subst, bytes_eq}
+use Rattle.std.proofs.Common.{◌≡◌, ℕ, Bool, true, false, ◌&&◌, cond, List, [], ◌∷◌, ◌++◌, Option, Some, None, option_map, Ordering, Less, Equal, Greater, refl, sym, ap, ◌∙◌, subst, bytes_eq}
 use Rattle.std.specs.Prelude.{option_and_then}
 use Rattle.std.specs.BTreeMap.{get}
-use Rattle.std.specs.Cmp.{eq_by_cmp_equiv}
 use Rattle.std.specs.Cmp.Lexicographic.{slice_cmp, texts_ties, nat_list_cmp_total, nat_list_eq_equiv}
 use Rattle.std.specs.FinMap.Entries.{find}
-use Rattle.std.specs.Ordering.{nat_cmp, int_cmp, is_eq, eq_by_cmp, ordering_then}
+use Rattle.std.specs.Ordering.{nat_cmp, int_cmp, is_eq, ordering_then}
 use Rattle.std.proofs.lemmas.Cmp.{tied_itself}
 use Rattle.std.proofs.lemmas.Map.Lookups.{exact_bytes, exact_signed}
 use Rattle.ps_values.specs.declared.columns.Column.{Column}
 use Rattle.ps_values.specs.declared.values.Value.{Value}
 use Rattle.ps_values.specs.declared.values.Value.TheVariants.{Null, Int, Text}
-use Rattle.ps_values.specs.Values.{compare_values, equal_by, equal_sql}
+use Rattle.ps_values.specs.Values.{equal_by}
 use Rattle.ps_values.specs.Documents.{document_of}
-use Rattle.ps_changes.specs.Source.{Key, key_cmp, Version, Source, after_row}
-use Rattle.ps_changes.proofs.Sources.{find-after_row, keys_total}
+use Rattle.ps_changes.specs.Source.{key_cmp, Version, Source, after_row}
+use Rattle.ps_changes.proofs.Sources.{find-after_row}
 use Rattle.powersync.specs.declared.rules.Rule.{Rule}
 use Rattle.powersync.specs.declared.replicas.Operation.{Operation}
 use Rattle.powersync.specs.declared.replicas.Operation.TheVariants.{Put, Remove}

@@ -1,5 +1,5 @@
 -- The command `rows`: its words, what its files mean, and the cause of each answer.
-use Rattle.std.specs.Prelude.{◌≡◌, ◌⊎◌, ℕ, ◌+◌, ◌<◌, ◌≤◌, nat_le, List, [], ◌∷◌, ◌++◌, length, codes, bytes_eq, decimal, Option, Some, None, Result, Ok, Err, if◌then◌else◌}
+use Rattle.std.specs.Prelude.{◌≡◌, ◌⊎◌, ℕ, ◌<◌, ◌≤◌, nat_le, List, [], ◌∷◌, ◌++◌, length, codes, bytes_eq, decimal, Option, Some, None, Result, Ok, Err, if◌then◌else◌}
 use Rattle.ps_io.specs.Contents.{Contents, Holds, HoldsMore, Gains, GainsFront}
 use Rattle.ps_io.specs.Counts.{Rose}
 use Rattle.ps_changes.specs.declared.changes.Transaction.{Transaction}

@@ -1,5 +1,5 @@
 -- What rules grant: parameter vectors, granted copies, and the rows that are due to a user.
-use Rattle.std.specs.Prelude.{◌≡◌, ℕ, Bool, true, false, ◌&&◌, ◌||◌, ◌==◌, nat_lt, if◌then◌else◌, List, [], ◌∷◌, map, filter_map, codes, bytes_eq, Option, Some, None, option_map, unwrap_or}
+use Rattle.std.specs.Prelude.{ℕ, Bool, true, false, ◌&&◌, ◌||◌, ◌==◌, nat_lt, if◌then◌else◌, List, [], ◌∷◌, map, filter_map, codes, bytes_eq, Option, Some, None, unwrap_or}
 use Rattle.std.specs.List.{list_any}
 use Rattle.std.specs.FinMap.Entries.{put, find}
 use Rattle.ps_values.specs.declared.columns.Column.{Column}

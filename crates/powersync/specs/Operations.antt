@@ -9,7 +9,7 @@ use Rattle.ps_values.specs.declared.values.Value.{Value}
 use Rattle.ps_values.specs.declared.values.Value.TheVariants.{Null, Int, Text}
 use Rattle.ps_values.specs.Values.{equal_sql}
 use Rattle.ps_values.specs.Documents.{document_of}
-use Rattle.ps_changes.specs.Source.{key_cmp, Version, Source}
+use Rattle.ps_changes.specs.Source.{key_cmp, Source}
 use Rattle.powersync.specs.declared.rules.Rule.{Rule}
 use Rattle.powersync.specs.declared.replicas.Operation.{Operation}
 use Rattle.powersync.specs.declared.replicas.Operation.TheVariants.{Put, Remove}

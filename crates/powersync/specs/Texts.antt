@@ -1,5 +1,5 @@
 -- Printed rows.
-use Rattle.std.specs.Prelude.{ℕ, List, [], ◌∷◌, ◌++◌, map, flat_map}
+use Rattle.std.specs.Prelude.{ℕ, List, [], ◌∷◌, ◌++◌, flat_map}
 use Rattle.ps_changes.specs.declared.shown.Shown.{Shown}
 use Rattle.ps_values.specs.Documents.{quoted_of}
 

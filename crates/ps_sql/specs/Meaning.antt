@@ -21,7 +21,8 @@ use Rattle.ps_sql.specs.declared.expressions.Function.{Function}
 use Rattle.ps_sql.specs.declared.expressions.Function.TheVariants as functions
 use Rattle.ps_sql.specs.declared.expressions.Operator.{Operator}
 use Rattle.ps_sql.specs.declared.expressions.Operator.TheVariants as operators
-use Rattle.ps_sql.specs.Json.{plain_json, json_value}
+use Rattle.ps_values.specs.Conversions.{value_of as json_value}
+use Rattle.ps_sql.specs.Json.{plain_json}
 
 -- who asks: the user, the payload and the parameters as JSON texts, and the client's id
 pub record Asker : Type 0 where

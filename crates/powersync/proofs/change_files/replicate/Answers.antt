@@ -1,5 +1,5 @@
 use Rattle.std.proofs.Common.{[], ◌∷◌, ◌++◌, sym, ◌∙◌}
-use Rattle.powersync.proofs.Reaching.{started, reached_more, reached_blank}
+use Rattle.powersync.proofs.Reaching.{started, reached_more}
 use Rattle.powersync.proofs.change_files.replicate.Goals as goal
 
 pub lines-init : goal.lines-init

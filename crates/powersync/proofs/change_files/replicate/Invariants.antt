@@ -1,4 +1,4 @@
-use Rattle.std.proofs.Common.{◌≡◌, List}
+use Rattle.std.proofs.Common.{List}
 use Rattle.ps_changes.specs.declared.changes.Transaction.{Transaction}
 use Rattle.powersync.specs.Replicating.{Reached, bytes_left}
 use Rattle.powersync.proofs.change_files.replicate.Given as goal

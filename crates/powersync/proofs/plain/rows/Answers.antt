@@ -1,4 +1,4 @@
-use Rattle.std.proofs.Common.{◌≡◌, ◌≤◌, ◌∙◌, Option, refl, subst, sym, arith, List, ℕ, [], ◌∷◌}
+use Rattle.std.proofs.Common.{◌≤◌, ◌∙◌, Option, refl, subst, arith, List, ℕ, [], ◌∷◌}
 use Rattle.ps_io.specs.Contents.{Contents, Gains}
 use Rattle.powersync.specs.Commands.{Names, Outside}
 use Rattle.powersync.proofs.Causes.{words_name, rule_read, cause_of_rule, user_read, cause_of_user, cause_of_rows, all_printed}
