@@ -1,14 +1,13 @@
 -- The columns of members that lie in order.
 use Rattle.std.proofs.Common.{◌≡◌, ℕ, Bool, true, false, List, [], ◌∷◌, ◌++◌, Option, Some, None, String, string_bytes, string_cmp, Ordering, Less, option_map, refl, sym, ap, ◌∙◌, append_assoc, cond, subst}
-use Rattle.std.specs.Prelude.{option_and_then, codes, bytes_eq, not, ◌&&◌}
+use Rattle.std.specs.Prelude.{option_and_then, not, ◌&&◌}
 use Rattle.std.specs.Ordering.{nat_cmp, is_lt}
 use Rattle.std.specs.Cmp.Lexicographic.{slice_cmp}
 use Rattle.std.specs.List.{AllByRecursion}
 use Rattle.std.specs.List.Sorted.{IsStrictlySortedBy}
 use Rattle.std.specs.Map.{keys_of}
 use Rattle.std.specs.declared.alloc.Global.{Global}
-use Rattle.std.proofs.lemmas.Option.{option_and_then_some}
-use Rattle.serde_json.specs.Data.{Data, Members, no_members, member}
+use Rattle.serde_json.specs.Data.{Data, Members, member}
 use Rattle.serde_json.specs.View.{view, members_view}
 use Rattle.serde_json.specs.declared.value.Value.{Value as Json}
 use Rattle.ps_values.specs.declared.columns.Column.{Column}

@@ -1,15 +1,15 @@
 -- The source is in the order of its keys, and a change is seen at its own key alone.
-use Rattle.std.proofs.Common.{◌≡◌, ℕ, ◌+◌, Bool, true, false, not, cond, List, [], ◌∷◌, Option, Some, None, option_map, refl, sym, ap, ◌∙◌, subst}
+use Rattle.std.proofs.Common.{◌≡◌, ℕ, ◌+◌, Bool, true, false, not, cond, List, [], ◌∷◌, Option, Some, None, option_map, refl, sym, ap, ◌∙◌}
 use Rattle.std.specs.Prelude.{T}
 use Rattle.std.specs.Ordering.{nat_cmp, is_eq, eq_by_cmp}
 use Rattle.std.specs.Cmp.{IsTotalOrder, on_total, then_total, alike_right, eq_by_cmp_equiv}
 use Rattle.std.specs.Cmp.Lexicographic.{slice_cmp, nat_list_cmp_total}
-use Rattle.std.specs.FinMap.Entries.{put, where_key, find, is_sorted, find-put, find-where_key, is_sorted-put, is_sorted-where_key}
+use Rattle.std.specs.FinMap.Entries.{find, is_sorted, find-put, find-where_key, is_sorted-put, is_sorted-where_key}
 use Rattle.std.proofs.lemmas.Map.Lookups.{CmpEqualImpliesEq, exact_bytes, exact_pairs}
 use Rattle.ps_values.specs.declared.columns.Column.{Column}
 use Rattle.ps_changes.specs.declared.changes.Change.{Change}
 use Rattle.ps_changes.specs.declared.changes.Transaction.{Transaction}
-use Rattle.ps_changes.specs.Source.{Key, key_cmp, Version, Source, after_row, after_changes, after_transactions}
+use Rattle.ps_changes.specs.Source.{Key, key_cmp, Source, after_row, after_changes, after_transactions}
 
 -- keys are in a total order, which tells all of them apart
 pub keys_total : IsTotalOrder key_cmp
