@@ -1,0 +1,14 @@
+//! The lines of a stream, read and written exactly: docs/FORMATS.md, "Stream lines".
+#![tactic(auto)]
+
+mod faults;
+mod lines;
+mod members;
+mod readers;
+mod shapes;
+mod writers;
+
+pub use faults::LineFault;
+pub use lines::{Entry, Line};
+pub use readers::read_line;
+pub use writers::write_line;
