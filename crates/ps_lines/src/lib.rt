@@ -4,6 +4,7 @@
 mod faults;
 mod lines;
 mod members;
+mod objects;
 mod readers;
 mod shapes;
 mod writers;
