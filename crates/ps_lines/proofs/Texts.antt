@@ -1,6 +1,6 @@
 -- Lines as JSON hold no float, and nest little.
-use Rattle.std.proofs.Common.{◌≡◌, ℕ, ◌≤◌, suc, max, Bool, true, false, List, [], ◌∷◌, ◌++◌, Some, None, map, refl, ap, ◌∙◌, arith}
-use Rattle.serde_json.specs.Data.{Data as Json, string, depth, items_depth}
+use Rattle.std.proofs.Common.{◌≡◌, ℕ, false, List, [], ◌∷◌, ◌++◌, Some, None, map, refl, ap, ◌∙◌}
+use Rattle.serde_json.specs.Data.{Data as Json, string}
 use Rattle.serde_json.specs.View.{items_of}
 use Rattle.serde_json.specs.Written.{has_float, items_have_float, compact_text}
 use Rattle.ps_bucket_log.specs.declared.ops.Op.{Op}

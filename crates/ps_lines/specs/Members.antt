@@ -1,8 +1,8 @@
 -- The members of a line: a member that is missing or of another kind is a fault of shape,
 -- a number out of form or out of range a fault of number.
-use Rattle.std.specs.Prelude.{◌≡◌, ℕ, ◌-◌, ℤ, pos, negsuc, List, Bool, nat_le, Option, Some, None, is_some, option_and_then, if◌then◌else◌, Result, Ok, Err, codes}
+use Rattle.std.specs.Prelude.{◌≡◌, ℕ, ◌-◌, ℤ, pos, negsuc, List, Bool, nat_le, Option, Some, None, option_and_then, if◌then◌else◌, Result, Ok, Err, codes}
 use Rattle.serde_json.specs.Data.{Data as Json, Num, Items}
-use Rattle.serde_json.specs.Find.{get, as_str, as_bool, as_array, as_null, as_number, as_i64, as_u64}
+use Rattle.serde_json.specs.Find.{get, as_str, as_bool, as_array, as_number, as_i64, as_u64}
 use Rattle.ps_values.specs.declared.ids.OpId.{OpId}
 use Rattle.ps_values.specs.Numbers.{decimal_of}
 use Rattle.ps_checksum.specs.declared.sums.Sum.{Sum}

@@ -1,7 +1,7 @@
 -- The line that bytes are: docs/FORMATS.md, "Stream lines".
-use Rattle.std.specs.Prelude.{◌≡◌, ℕ, ◌-◌, List, [], ◌∷◌, Bool, true, false, ◌&&◌, ◌==◌, not, nat_lt, length, take, slice_index, Option, Some, None, is_some, option_and_then, if◌then◌else◌, Result, Ok, Err, bytes_eq, codes}
+use Rattle.std.specs.Prelude.{ℕ, ◌-◌, List, [], ◌∷◌, Bool, true, ◌&&◌, ◌==◌, nat_lt, length, take, slice_index, Option, Some, None, if◌then◌else◌, Result, Ok, Err, bytes_eq, codes}
 use Rattle.serde_json.specs.Data.{Data as Json, null, boolean, number, string, array, object, Items, no_items, item, Members, no_members, member}
-use Rattle.serde_json.specs.Find.{get, as_str, as_null}
+use Rattle.serde_json.specs.Find.{as_str}
 use Rattle.ps_values.specs.declared.ids.OpId.{OpId}
 use Rattle.ps_values.specs.Documents.{json_of}
 use Rattle.ps_checksum.specs.declared.sums.Sum.{Sum}
@@ -10,19 +10,19 @@ use Rattle.ps_bucket_log.specs.declared.ops.Op.{Op}
 use Rattle.ps_bucket_log.specs.declared.ops.Op.TheVariants.{Put, Remove, Move, Clear}
 use Rattle.ps_bucket_log.specs.Ops.{id_of, newest}
 use Rattle.ps_lines.specs.declared.faults.LineFault.{LineFault}
-use Rattle.ps_lines.specs.declared.faults.LineFault.TheVariants.{BadJson, BadShape, BadNumber}
+use Rattle.ps_lines.specs.declared.faults.LineFault.TheVariants.{BadJson, BadShape}
 use Rattle.ps_lines.specs.declared.lines.Entry.{Entry}
 use Rattle.ps_lines.specs.declared.lines.Line.{Line}
 use Rattle.ps_lines.specs.declared.lines.Line.TheVariants.{Checkpoint, Diff, Data, Complete, Expires, Unknown}
 use Rattle.ps_lines.specs.Members.{◌>>=◌, or_fault, within, text_at, truth_at, list_at, decimal_at, id_at, sum_at, whole_of, whole_at, priority_at}
-use Rattle.ps_lines.specs.Shapes.{lacks, has_null, has_text, is_checkpoint, is_diff, is_data}
+use Rattle.ps_lines.specs.Shapes.{lacks, has_null, is_checkpoint, is_diff, is_data}
 
 -- an upload's number; a missing one and null are none
 abbrev pub upload_at : Json → Result (Option ℕ) LineFault
 upload_at d = if lacks (codes "write_checkpoint") d then Ok None
     else if has_null (codes "write_checkpoint") d then Ok None else (do
-  n ← decimal_at (codes "write_checkpoint") d
-  Ok (Some n))
+      n ← decimal_at (codes "write_checkpoint") d
+      Ok (Some n))
 
 -- what a checkpoint says of a bucket
 abbrev pub entry_of : Json → Result Entry LineFault

@@ -1,6 +1,6 @@
 -- The shapes of lines: which members are there, and of which kind. Other members may be there too.
 use Rattle.std.specs.Prelude.{ℕ, List, Bool, true, false, ◌&&◌, ◌||◌, if◌then◌else◌, Option, Some, None, is_some, is_none, option_and_then, bytes_eq, codes}
-use Rattle.serde_json.specs.Data.{Data as Json, null, boolean, number, string, array, object, Items, no_items, item}
+use Rattle.serde_json.specs.Data.{Data as Json, Items, no_items, item}
 use Rattle.serde_json.specs.Find.{get, as_str, as_bool, as_null, as_number, as_array}
 
 abbrev pub has_text : List ℕ → Json → Bool

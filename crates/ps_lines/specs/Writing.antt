@@ -1,5 +1,5 @@
 -- The text of a line: docs/FORMATS.md, "Stream lines". Members stand in the byte order of their names.
-use Rattle.std.specs.Prelude.{◌≡◌, ◌≢◌, ℕ, ◌≤◌, List, [], ◌∷◌, ◌++◌, Bool, Option, Some, None, IfSome, Result, Ok, map, decimal, codes, All}
+use Rattle.std.specs.Prelude.{◌≡◌, ◌≢◌, ℕ, ◌≤◌, List, [], ◌∷◌, ◌++◌, Bool, Option, Some, None, IfSome, map, decimal, codes, All}
 use Rattle.serde_json.specs.Data.{Data as Json, boolean, number, string, array, object, Members, no_members, member, unsigned}
 use Rattle.serde_json.specs.View.{items_of}
 use Rattle.serde_json.specs.Written.{compact_text}

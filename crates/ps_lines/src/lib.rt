@@ -7,6 +7,8 @@ mod members;
 mod objects;
 mod readers;
 mod shapes;
+#[cfg(test)]
+mod tests;
 mod writers;
 
 pub use faults::LineFault;

@@ -4,7 +4,9 @@ ghost use Rattle.ps_lines.specs.Members.{Reads};
 ghost use Rattle.ps_lines.specs.Reading.{upload_at, entry_of, entries_of, texts_of, key_of, put_of, remove_of, op_named, op_of, ops_of, rises_from as rises_past, leads as leads_to, checkpoint_of, diff_of, data_of, expires_of, shaped, line_named, line_of_members, without_feed as cut_feed, line_of};
 ghost use Rattle.ps_lines.specs.Shapes.{is_checkpoint as is_checkpoint_shape, is_diff as is_diff_shape, is_data as is_data_shape};
 
-use crate::members::{read_decimal_at, read_id, read_priority, read_sum, read_text, read_truth, read_whole};
+use crate::members::{
+    read_decimal_at, read_id, read_priority, read_sum, read_text, read_truth, read_whole,
+};
 use crate::shapes::{is_checkpoint, is_data, is_diff};
 use crate::{Entry, Line, LineFault};
 use ps_bucket_log::{Key, Op};
@@ -248,13 +250,7 @@ fn read_op(alloc: Global, json: &Json) -> Result<Op, LineFault>
     read_op_named(alloc, op, id, sum, json)
 }
 
-fn read_op_named(
-    alloc: Global,
-    op: &str,
-    id: OpId,
-    sum: Sum,
-    json: &Json,
-) -> Result<Op, LineFault>
+fn read_op_named(alloc: Global, op: &str, id: OpId, sum: Sum, json: &Json) -> Result<Op, LineFault>
     ensures { Reads result (op_named op.now id sum (view json.now)) }
 {
     if op == "PUT" {

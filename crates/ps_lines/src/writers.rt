@@ -53,7 +53,14 @@ fn line_json(alloc: Global, line: &Line) -> Result<Json, Memory>
             ops,
             next_after,
         } => {
-            let json = data_json(alloc, bucket, *after, *has_more, ops.as_slice(), *next_after)?;
+            let json = data_json(
+                alloc,
+                bucket,
+                *after,
+                *has_more,
+                ops.as_slice(),
+                *next_after,
+            )?;
             tagged(alloc, "data", json)
         }
         Line::Complete { last_op } => {
@@ -86,7 +93,11 @@ fn checkpoint_json(
     match number {
         None => Ok(checkpoint.into_json()),
         Some(number) => {
-            Ok(checkpoint.with_decimal(alloc, "write_checkpoint", number)?.into_json())
+            Ok(
+                checkpoint
+                    .with_decimal(alloc, "write_checkpoint", number)?
+                    .into_json(),
+            )
         }
     }
 }
@@ -106,7 +117,10 @@ fn diff_json(
         .with(alloc, "updated_buckets", entries_json(alloc, updated)?)?;
     match number {
         None => Ok(diff.into_json()),
-        Some(number) => Ok(diff.with_decimal(alloc, "write_checkpoint", number)?.into_json()),
+        Some(number) => Ok(
+            diff.with_decimal(alloc, "write_checkpoint", number)?
+                .into_json(),
+        ),
     }
 }
 
@@ -188,13 +202,7 @@ fn op_json(alloc: Global, op: &Op) -> Result<Json, Memory>
     }
 }
 
-fn put_json(
-    alloc: Global,
-    id: OpId,
-    key: &Key,
-    content: &Text,
-    sum: Sum,
-) -> Result<Json, Memory>
+fn put_json(alloc: Global, id: OpId, key: &Key, content: &Text, sum: Sum) -> Result<Json, Memory>
     ensures { IfOk result (λ json. view json ≡ json_of_put id key.now content.now sum) }
 {
     let made = Object::new(alloc)
