@@ -1,8 +1,13 @@
 -- What is written of a line is read as that line, without targets.
-use Rattle.std.proofs.Common.{◌≡◌, ◌≢◌, ℕ, ◌+◌, ◌<◌, ◌≤◌, ◌^◌, Bool, true, false, ◌&&◌, ◌||◌, List, [], ◌∷◌, ◌++◌, Option, Some, None, Result, Ok, Err, IfSome, length, map, cond, leb, ltb, refl, ap, sym, ◌∙◌, subst, arith}
+use Rattle.std.proofs.Common.{◌≡◌, ◌≢◌, ℕ, ◌+◌, ◌<◌, ◌≤◌, ◌^◌, Bool, true, false, ◌&&◌, ◌||◌, List, [], ◌∷◌, ◌++◌, Option, Some, None, Result, Ok, Err, IfSome, length, map, fold, take, ◌-◌, eq-eqb, cond, leb, ltb, refl, ap, sym, ◌∙◌, subst, arith}
 use Rattle.std.specs.Fmt.{decimal}
 use Rattle.std.specs.List.{All}
-use Rattle.std.proofs.lemmas.List.Elements.{All-head, All-tail}
+use Rattle.std.specs.Str.{is_utf8, IsUtf8}
+use Rattle.std.proofs.lemmas.Str.{is_utf8-from_IsUtf8}
+use Rattle.std.proofs.lemmas.List.{length-append}
+use Rattle.std.proofs.Math.Seq.{get_or-append_seam, take-append_seam}
+use Rattle.serde_json.specs.Read.{read}
+use Rattle.std.proofs.lemmas.List.Elements.{All-nil, All-cons, All-head, All-tail}
 use Rattle.std.proofs.lemmas.Bool.Decides.{nat_tests}
 use Rattle.serde_json.specs.Data.{Data as Json, string, number, unsigned}
 use Rattle.serde_json.specs.Find.{as_i64}
@@ -16,11 +21,11 @@ use Rattle.ps_bucket_log.specs.Ops.{id_of, checksum, newest}
 use Rattle.ps_bucket_log.specs.Logs.{IsRising}
 use Rattle.ps_lines.specs.declared.faults.LineFault.{LineFault}
 use Rattle.ps_lines.specs.declared.faults.LineFault.TheVariants.{BadNumber}
-use Rattle.ps_lines.specs.Types.{Entry}
+use Rattle.ps_lines.specs.Types.{Entry, Line, Checkpoint, Diff, Data, Complete, Expires, Unknown}
 use Rattle.ps_lines.specs.Members.{or_fault, within, sum_of, ◌>>=◌}
 use Rattle.ps_lines.specs.Shapes.{all_items, is_entry, is_op, is_text}
-use Rattle.ps_lines.specs.Reading.{entry_of, entries_of, texts_of, op_of, ops_of, rises_from, leads}
-use Rattle.ps_lines.specs.Writing.{entry_json, op_json, op_without_target}
+use Rattle.ps_lines.specs.Reading.{entry_of, entries_of, texts_of, op_of, ops_of, rises_from, leads, line_of_json, without_feed, line_of}
+use Rattle.ps_lines.specs.Writing.{entry_json, op_json, line_json, op_without_target, without_targets, IsWritable, SumsFit}
 
 -- decimals are read as they are written
 abbrev pub ReadsBack : Type 0
@@ -88,3 +93,78 @@ ops_back back (op ∷ ops) small within =
     let here = op_back back op (All-head (λ o. checksum o < 2 ^ 32) op ops small) (All-head (λ o. id_of o ≤ greatest) op ops within) in
     let there = ops_back back ops (All-tail (λ o. checksum o < 2 ^ 32) op ops small) (All-tail (λ o. id_of o ≤ greatest) op ops within) in
     rw here (rw there refl)
+
+-- ---- the ids of a data line
+
+abbrev pub last_from : ℕ → List Op → ℕ
+last_from p ops = fold (λ p op. id_of op) p ops
+
+same_id : (op : Op) → id_of (op_without_target op) ≡ id_of op
+same_id (Put id key content sum) = refl
+same_id (Remove id key sum) = refl
+same_id (Move id sum target) = refl
+same_id (Clear id sum target) = refl
+
+same_last : (p : ℕ) (ops : List Op) → last_from p (map op_without_target ops) ≡ last_from p ops
+same_last p [] = refl
+same_last p (op ∷ ops) = same_last (id_of (op_without_target op)) ops ∙ ap (λ q. last_from q ops) (same_id op)
+
+last_past : (p : ℕ) (ops : List Op) → IsRising p ops → p ≤ last_from p ops
+last_past p [] h = omega arith
+last_past p (op ∷ ops) h = let there = last_past (id_of op) ops h.1 in omega (arith, h.0, there)
+
+ids_within : (p m : ℕ) (ops : List Op) → IsRising p ops → last_from p ops ≤ m → All (λ op. id_of op ≤ m) ops
+ids_within p m [] h w = All-nil (λ op. id_of op ≤ m)
+ids_within p m (op ∷ ops) h w =
+    let past = last_past (id_of op) ops h.1 in
+    All-cons (λ op. id_of op ≤ m) op ops (omega (arith, past, w)) (ids_within (id_of op) m ops h.1 w)
+
+rises_back : (p : ℕ) (ops : List Op) → IsRising p ops → rises_from p (map op_without_target ops) ≡ true
+rises_back p [] h = refl
+rises_back p (op ∷ ops) h =
+    let above : ltb p (id_of op) ≡ true = grind (arith, nat_tests, h.0) in
+    rw (same_id op) (rw above (rises_back (id_of op) ops h.1))
+
+-- there are operations, and the newest is known
+last_is : (p : ℕ) (ops : List Op) → ops ≢ [] → last_from p ops ≡ newest ops
+last_is p [] some = absurd (some refl)
+last_is p (op ∷ ops) some = refl
+
+leads_back : (p n : ℕ) (ops : List Op) → ops ≢ [] → IsRising p ops → newest ops ≡ n → leads p (map op_without_target ops) n ≡ true
+leads_back p n [] some h e = absurd (some refl)
+leads_back p n (op ∷ ops) some h e =
+    let there : ltb 0 (length (map op_without_target (op ∷ ops))) ≡ true = grind (arith, nat_tests) in
+    let last : newest (map op_without_target (op ∷ ops)) ≡ n = same_last 0 (op ∷ ops) ∙ e in
+    rw there (rw (rises_back p (op ∷ ops) h) (eq-eqb (newest (map op_without_target (op ∷ ops))) n last))
+
+-- ---- whole lines
+
+line_back : ReadsBack → (line : Line) → IsWritable line → SumsFit line → line_of_json (line_json line) ≡ Ok (without_targets line)
+line_back back (Checkpoint last_op None buckets) w fits =
+    rw (entries_shape buckets, back last_op.0 w.0, entries_back buckets fits w.2) refl
+line_back back (Checkpoint last_op (Some n) buckets) w fits =
+    rw (entries_shape buckets, back last_op.0 w.0, back n w.1, entries_back buckets fits w.2) refl
+line_back back (Diff last_op None removed updated) w fits =
+    rw (texts_shape removed, entries_shape updated, back last_op.0 w.0, texts_back removed, entries_back updated fits w.2) refl
+line_back back (Diff last_op (Some n) removed updated) w fits =
+    rw (texts_shape removed, entries_shape updated, back last_op.0 w.0, back n w.1, texts_back removed, entries_back updated fits w.2) refl
+line_back back (Data bucket after has_more ops next) w fits =
+    let last : last_from after.0 ops ≤ greatest = rw (last_is after.0 ops w.1, w.3) w.0 in
+    let first : after.0 ≤ greatest = omega (arith, last_past after.0 ops w.2, last) in
+    rw (ops_shape ops, back after.0 first, ops_back back ops fits (ids_within after.0 greatest ops w.2 last), back next.0 w.0, leads_back after.0 next.0 ops w.1 w.2 w.3) refl
+line_back back (Complete last_op) w fits = rw (back last_op.0 w) refl
+line_back back (Expires seconds) w fits = refl
+line_back back Unknown w fits = absurd w
+
+-- ---- the bytes of a line
+
+feed_off : (bytes : List ℕ) → without_feed (bytes ++ 10 ∷ []) ≡ bytes
+feed_off bytes =
+    let long : length (bytes ++ 10 ∷ []) - 1 ≡ length bytes = omega (arith, length-append bytes (10 ∷ [])) in
+    rw (long, get_or-append_seam bytes 10 [] 0, take-append_seam bytes (10 ∷ [])) refl
+
+pub read_again : ReadsBack → (line : Line) (d : Json) (bytes : List ℕ) → IsWritable line → SumsFit line → d ≡ line_json line
+    → IsUtf8 bytes → read bytes ≡ Some d → line_of (bytes ++ 10 ∷ []) ≡ Ok (without_targets line)
+unfolding line_of
+read_again back line d bytes w fits e utf8 h =
+    rw (feed_off bytes, is_utf8-from_IsUtf8 bytes utf8, h, e) (line_back back line w fits)

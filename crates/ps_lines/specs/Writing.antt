@@ -1,5 +1,5 @@
 -- The text of a line: docs/FORMATS.md, "Stream lines". Members stand in the byte order of their names.
-use Rattle.std.specs.Prelude.{◌≡◌, ◌≢◌, ℕ, ◌≤◌, List, [], ◌∷◌, ◌++◌, Bool, Option, Some, None, IfSome, map, decimal, codes, All}
+use Rattle.std.specs.Prelude.{◌≡◌, ◌≢◌, ℕ, ◌<◌, ◌≤◌, ◌^◌, List, [], ◌∷◌, ◌++◌, Bool, Option, Some, None, IfSome, map, decimal, codes, All}
 use Rattle.serde_json.specs.Data.{Data as Json, boolean, number, string, array, object, Members, no_members, member, unsigned}
 use Rattle.serde_json.specs.View.{items_of}
 use Rattle.serde_json.specs.Written.{compact_text}
@@ -9,7 +9,7 @@ use Rattle.ps_checksum.specs.declared.sums.Sum.{Sum}
 use Rattle.ps_bucket_log.specs.declared.ops.Key.{Key}
 use Rattle.ps_bucket_log.specs.declared.ops.Op.{Op}
 use Rattle.ps_bucket_log.specs.declared.ops.Op.TheVariants.{Put, Remove, Move, Clear}
-use Rattle.ps_bucket_log.specs.Ops.{newest}
+use Rattle.ps_bucket_log.specs.Ops.{newest, checksum}
 use Rattle.ps_bucket_log.specs.Logs.{IsRising}
 use Rattle.ps_lines.specs.declared.lines.Entry.{Entry}
 use Rattle.ps_lines.specs.declared.lines.Line.{Line}
@@ -128,6 +128,15 @@ IsWritable (Data bucket after has_more ops next) =
 IsWritable (Complete last_op) = last_op.0 ≤ greatest
 IsWritable (Expires seconds) = Unit {0}
 IsWritable Unknown = ⊥
+
+-- sums are numbers of 32 bits
+abbrev pub SumsFit : Line → Type 0
+SumsFit (Checkpoint last_op upload buckets) = All (λ entry. entry.sum.0 < 2 ^ 32) buckets
+SumsFit (Diff last_op upload removed updated) = All (λ entry. entry.sum.0 < 2 ^ 32) updated
+SumsFit (Data bucket after has_more ops next) = All (λ op. checksum op < 2 ^ 32) ops
+SumsFit (Complete last_op) = Unit {0}
+SumsFit (Expires seconds) = Unit {0}
+SumsFit Unknown = Unit {0}
 
 -- a MOVE has its own id as target, a CLEAR none
 abbrev pub op_without_target : Op → Op
