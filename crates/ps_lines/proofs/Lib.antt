@@ -1,0 +1,3 @@
+pub mod Insertions
+pub mod RoundTrips
+pub mod Texts

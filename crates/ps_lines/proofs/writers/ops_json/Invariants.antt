@@ -1,0 +1,7 @@
+use Rattle.std.proofs.Common.{◌≡◌, map, take}
+use Rattle.serde_json.specs.View.{view}
+use Rattle.ps_lines.specs.Writing.{op_json}
+use Rattle.ps_lines.proofs.writers.ops_json.Given as goal
+
+abbrev pub invariant-ops : goal.invariant-ops
+invariant-ops l = map view l.list.items ≡ map op_json (take l.op-index l.ops)

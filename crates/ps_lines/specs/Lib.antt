@@ -1,0 +1,5 @@
+pub mod Types
+pub mod Members
+pub mod Shapes
+pub mod Reading
+pub mod Writing
