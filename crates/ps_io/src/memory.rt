@@ -24,7 +24,9 @@ struct Calls {
 
 impl Calls {
     fn new(failing: Items<u64>) -> Calls
-        ensures { result.faults ≡ 0 }
+        ensures failing { result.failing ≡ failing }
+        ensures made { result.made ≡ 0 }
+        ensures faults { result.faults ≡ 0 }
     {
         Calls {
             failing,
@@ -92,6 +94,7 @@ impl MemoryFiles {
     pub fn new(files: Items<MemoryFile>, failing: Items<u64>) -> MemoryFiles
         ensures held { ⟦<MemoryFiles as Files>⟧.held result ≡ Some (content_of files) }
         ensures faults { ⟦<MemoryFiles as Files>⟧.faults result ≡ 0 }
+        ensures failing { (result.calls.failing ≡ failing) × (result.calls.made ≡ 0) }
     {
         MemoryFiles {
             files,
@@ -157,6 +160,8 @@ impl MemorySink {
         ensures taken { IfOk result (λ sink. ⟦<MemorySink as Sink>⟧.taken sink ≡ Some []) }
         ensures faults { IfOk result (λ sink. ⟦<MemorySink as Sink>⟧.faults sink ≡ 0) }
         ensures number { IfOk result (λ sink. ⟦<MemorySink as Sink>⟧.number sink ≡ 0) }
+        ensures room { IfOk result (λ sink. sink.room ≡ room) }
+        ensures failing { IfOk result (λ sink. (sink.calls.failing ≡ failing) × (sink.calls.made ≡ 0)) }
     {
         Ok(MemorySink {
             bytes: Vec::with_capacity(alloc, room)?,
