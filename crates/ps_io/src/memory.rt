@@ -1,4 +1,5 @@
-ghost use Rattle.std.specs.Prelude.{◌≡◌, ◌≤◌, Some, None, [], length, IfOk, IfErr, MatchOption};
+ghost use Rattle.std.specs.Prelude.{◌≡◌, ◌≤◌, ◌+◌, ◌-◌, ◌^◌, min, nat_eq, Some, None, [], length, IfOk, IfErr, MatchOption};
+ghost use Rattle.std.specs.List.{list_any};
 ghost use Rattle.ps_io.specs.Contents.{content_of, sure_content_of, ExceedsBy};
 
 use crate::{Failed, FileFault, Files, Sink};
@@ -37,7 +38,10 @@ impl Calls {
 
     // Counts a call, and says whether it fails.
     fn next_fails(&mut self) -> bool
-        ensures { self.new.faults ≡ self.old.faults }
+        ensures fails { result ≡ list_any (λ number. nat_eq number self.new.made) self.old.failing }
+        ensures made { self.new.made ≡ min (self.old.made + 1) (2 ^ 64 - 1) }
+        ensures failing { self.new.failing ≡ self.old.failing }
+        ensures faults { self.new.faults ≡ self.old.faults }
     {
         self.made = self.made.saturating_add(1);
         self.failing.as_slice().contains(&self.made)
