@@ -1,4 +1,5 @@
-ghost use Rattle.std.specs.Prelude.{◌≡◌, ◌≤◌, Some, None, [], length, IfOk, IfErr, MatchOption};
+ghost use Rattle.std.specs.Prelude.{◌≡◌, ◌≤◌, ◌+◌, ◌-◌, ◌^◌, min, nat_eq, Some, None, [], length, IfOk, IfErr, MatchOption};
+ghost use Rattle.std.specs.List.{list_any};
 ghost use Rattle.ps_io.specs.Contents.{content_of, sure_content_of, ExceedsBy};
 
 use crate::{Failed, FileFault, Files, Sink};
@@ -24,7 +25,9 @@ struct Calls {
 
 impl Calls {
     fn new(failing: Items<u64>) -> Calls
-        ensures { result.faults ≡ 0 }
+        ensures failing { result.failing ≡ failing }
+        ensures made { result.made ≡ 0 }
+        ensures faults { result.faults ≡ 0 }
     {
         Calls {
             failing,
@@ -35,7 +38,10 @@ impl Calls {
 
     // Counts a call, and says whether it fails.
     fn next_fails(&mut self) -> bool
-        ensures { self.new.faults ≡ self.old.faults }
+        ensures fails { result ≡ list_any (λ number. nat_eq number self.new.made) self.old.failing }
+        ensures made { self.new.made ≡ min (self.old.made + 1) (2 ^ 64 - 1) }
+        ensures failing { self.new.failing ≡ self.old.failing }
+        ensures faults { self.new.faults ≡ self.old.faults }
     {
         self.made = self.made.saturating_add(1);
         self.failing.as_slice().contains(&self.made)
@@ -92,6 +98,7 @@ impl MemoryFiles {
     pub fn new(files: Items<MemoryFile>, failing: Items<u64>) -> MemoryFiles
         ensures held { ⟦<MemoryFiles as Files>⟧.held result ≡ Some (content_of files) }
         ensures faults { ⟦<MemoryFiles as Files>⟧.faults result ≡ 0 }
+        ensures failing { (result.calls.failing ≡ failing) × (result.calls.made ≡ 0) }
     {
         MemoryFiles {
             files,
@@ -157,6 +164,8 @@ impl MemorySink {
         ensures taken { IfOk result (λ sink. ⟦<MemorySink as Sink>⟧.taken sink ≡ Some []) }
         ensures faults { IfOk result (λ sink. ⟦<MemorySink as Sink>⟧.faults sink ≡ 0) }
         ensures number { IfOk result (λ sink. ⟦<MemorySink as Sink>⟧.number sink ≡ 0) }
+        ensures room { IfOk result (λ sink. sink.room ≡ room) }
+        ensures failing { IfOk result (λ sink. (sink.calls.failing ≡ failing) × (sink.calls.made ≡ 0)) }
     {
         Ok(MemorySink {
             bytes: Vec::with_capacity(alloc, room)?,
