@@ -178,7 +178,7 @@ fn entry_json(alloc: Global, entry: &Entry) -> Result<Json, Memory>
 {
     let made = Object::new(alloc)
         .with_text(alloc, "bucket", entry.bucket.as_str())?
-        .with_number(alloc, "checksum", u64::from(entry.sum.0))?
+        .with_number(alloc, "checksum", number_of(entry.sum))?
         .with_number(alloc, "count", entry.count)?
         .with_number(alloc, "priority", u64::from(entry.priority))?;
     Ok(made.into_json())
@@ -252,4 +252,12 @@ fn bare_json(alloc: Global, op: &str, id: OpId, sum: Sum) -> Result<Json, Memory
         .with_text(alloc, "op", op)?
         .with_decimal(alloc, "op_id", id.0)?;
     Ok(made.into_json())
+}
+
+// A sum as a number, which has 32 bits.
+fn number_of(sum: Sum) -> u64
+    ensures value { result ≡ sum.0 }
+    ensures fits { sum.0 < 2 ^ 32 }
+{
+    u64::from(sum.0)
 }
