@@ -1,8 +1,8 @@
 -- What is written of a line is read as that line, without targets.
-use Rattle.std.proofs.Common.{◌≡◌, ◌≢◌, ℕ, ◌+◌, ◌<◌, ◌≤◌, ◌^◌, Bool, true, false, ◌&&◌, ◌||◌, List, [], ◌∷◌, ◌++◌, Option, Some, None, Result, Ok, Err, IfSome, length, map, fold, take, ◌-◌, eq-eqb, cond, leb, ltb, refl, ap, sym, ◌∙◌, subst, arith}
+use Rattle.std.proofs.Common.{◌≡◌, ◌≢◌, ℕ, ◌<◌, ◌≤◌, ◌^◌, Bool, true, List, [], ◌∷◌, ◌++◌, Some, None, Ok, length, map, fold, ◌-◌, eq-eqb, leb, ltb, refl, ap, ◌∙◌, arith}
 use Rattle.std.specs.Fmt.{decimal}
 use Rattle.std.specs.List.{All}
-use Rattle.std.specs.Str.{is_utf8, IsUtf8}
+use Rattle.std.specs.Str.{IsUtf8}
 use Rattle.std.proofs.lemmas.Str.{is_utf8-from_IsUtf8}
 use Rattle.std.proofs.lemmas.List.{length-append}
 use Rattle.std.proofs.Math.Seq.{get_or-append_seam, take-append_seam}
@@ -12,16 +12,13 @@ use Rattle.std.proofs.lemmas.Bool.Decides.{nat_tests}
 use Rattle.serde_json.specs.Data.{Data as Json, string, unsigned, depth}
 use Rattle.serde_json.specs.Find.{as_i64}
 use Rattle.serde_json.specs.View.{items_of}
-use Rattle.ps_values.specs.declared.ids.OpId.{OpId}
 use Rattle.ps_values.specs.Numbers.{decimal_of, greatest}
-use Rattle.ps_checksum.specs.declared.sums.Sum.{Sum}
 use Rattle.ps_bucket_log.specs.declared.ops.Op.{Op}
 use Rattle.ps_bucket_log.specs.declared.ops.Op.TheVariants.{Put, Remove, Move, Clear}
 use Rattle.ps_bucket_log.specs.Ops.{id_of, checksum, newest}
 use Rattle.ps_bucket_log.specs.Logs.{IsRising}
 use Rattle.ps_lines.proofs.Decimals.{decimal_back}
 use Rattle.ps_lines.proofs.Texts.{line_shallow}
-use Rattle.ps_lines.specs.declared.faults.LineFault.{LineFault}
 use Rattle.ps_lines.specs.declared.faults.LineFault.TheVariants.{BadNumber}
 use Rattle.ps_lines.specs.Types.{Entry, Line, Checkpoint, Diff, Data, Complete, Expires, Unknown}
 use Rattle.ps_lines.specs.Members.{or_fault, within, sum_of, ◌>>=◌}

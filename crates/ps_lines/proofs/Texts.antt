@@ -1,5 +1,5 @@
 -- Lines as JSON hold no float, and nest little.
-use Rattle.std.proofs.Common.{◌≡◌, ℕ, false, List, [], ◌∷◌, ◌++◌, Some, None, map, refl, ap, ◌∙◌, ◌≤◌, arith, suc, max}
+use Rattle.std.proofs.Common.{◌≡◌, ℕ, false, List, [], ◌∷◌, ◌++◌, Some, None, map, refl, ap, ◌∙◌, ◌≤◌, arith}
 use Rattle.serde_json.specs.Read.{max_depth}
 use Rattle.serde_json.specs.Data.{Data as Json, string, depth, items_depth}
 use Rattle.serde_json.specs.View.{items_of}
