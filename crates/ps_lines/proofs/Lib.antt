@@ -1,3 +1,4 @@
+pub mod Decimals
 pub mod Insertions
 pub mod RoundTrips
 pub mod Texts

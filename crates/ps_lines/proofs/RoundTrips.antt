@@ -1,25 +1,24 @@
 -- What is written of a line is read as that line, without targets.
-use Rattle.std.proofs.Common.{◌≡◌, ◌≢◌, ℕ, ◌+◌, ◌<◌, ◌≤◌, ◌^◌, Bool, true, false, ◌&&◌, ◌||◌, List, [], ◌∷◌, ◌++◌, Option, Some, None, Result, Ok, Err, IfSome, length, map, fold, take, ◌-◌, eq-eqb, cond, leb, ltb, refl, ap, sym, ◌∙◌, subst, arith}
+use Rattle.std.proofs.Common.{◌≡◌, ◌≢◌, ℕ, ◌<◌, ◌≤◌, ◌^◌, Bool, true, List, [], ◌∷◌, ◌++◌, Some, None, Ok, length, map, fold, ◌-◌, eq-eqb, leb, ltb, refl, ap, ◌∙◌, arith}
 use Rattle.std.specs.Fmt.{decimal}
 use Rattle.std.specs.List.{All}
-use Rattle.std.specs.Str.{is_utf8, IsUtf8}
+use Rattle.std.specs.Str.{IsUtf8}
 use Rattle.std.proofs.lemmas.Str.{is_utf8-from_IsUtf8}
 use Rattle.std.proofs.lemmas.List.{length-append}
 use Rattle.std.proofs.Math.Seq.{get_or-append_seam, take-append_seam}
-use Rattle.serde_json.specs.Read.{read}
+use Rattle.serde_json.specs.Read.{read, max_depth}
 use Rattle.std.proofs.lemmas.List.Elements.{All-nil, All-cons, All-head, All-tail}
 use Rattle.std.proofs.lemmas.Bool.Decides.{nat_tests}
-use Rattle.serde_json.specs.Data.{Data as Json, string, number, unsigned}
+use Rattle.serde_json.specs.Data.{Data as Json, string, unsigned, depth}
 use Rattle.serde_json.specs.Find.{as_i64}
 use Rattle.serde_json.specs.View.{items_of}
-use Rattle.ps_values.specs.declared.ids.OpId.{OpId}
 use Rattle.ps_values.specs.Numbers.{decimal_of, greatest}
-use Rattle.ps_checksum.specs.declared.sums.Sum.{Sum}
 use Rattle.ps_bucket_log.specs.declared.ops.Op.{Op}
 use Rattle.ps_bucket_log.specs.declared.ops.Op.TheVariants.{Put, Remove, Move, Clear}
 use Rattle.ps_bucket_log.specs.Ops.{id_of, checksum, newest}
 use Rattle.ps_bucket_log.specs.Logs.{IsRising}
-use Rattle.ps_lines.specs.declared.faults.LineFault.{LineFault}
+use Rattle.ps_lines.proofs.Decimals.{decimal_back}
+use Rattle.ps_lines.proofs.Texts.{line_shallow}
 use Rattle.ps_lines.specs.declared.faults.LineFault.TheVariants.{BadNumber}
 use Rattle.ps_lines.specs.Types.{Entry, Line, Checkpoint, Diff, Data, Complete, Expires, Unknown}
 use Rattle.ps_lines.specs.Members.{or_fault, within, sum_of, ◌>>=◌}
@@ -163,8 +162,9 @@ feed_off bytes =
     let long : length (bytes ++ 10 ∷ []) - 1 ≡ length bytes = omega (arith, length-append bytes (10 ∷ [])) in
     rw (long, get_or-append_seam bytes 10 [] 0, take-append_seam bytes (10 ∷ [])) refl
 
-pub read_again : ReadsBack → (line : Line) (d : Json) (bytes : List ℕ) → IsWritable line → SumsFit line → d ≡ line_json line
-    → IsUtf8 bytes → read bytes ≡ Some d → line_of (bytes ++ 10 ∷ []) ≡ Ok (without_targets line)
+pub read_again : (line : Line) (d : Json) (bytes all : List ℕ) → IsWritable line → SumsFit line → d ≡ line_json line
+    → all ≡ bytes ++ 10 ∷ [] → IsUtf8 bytes → (depth d ≤ max_depth → read bytes ≡ Some d) → line_of all ≡ Ok (without_targets line)
 unfolding line_of
-read_again back line d bytes w fits e utf8 h =
-    rw (feed_off bytes, is_utf8-from_IsUtf8 bytes utf8, h, e) (line_back back line w fits)
+read_again line d bytes all w fits e whole utf8 h =
+    let shallow : depth d ≤ max_depth = rw e (line_shallow line) in
+    rw (whole, feed_off bytes, is_utf8-from_IsUtf8 bytes utf8, h shallow, e) (line_back decimal_back line w fits)

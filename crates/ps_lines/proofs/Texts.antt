@@ -1,6 +1,7 @@
 -- Lines as JSON hold no float, and nest little.
-use Rattle.std.proofs.Common.{◌≡◌, ℕ, false, List, [], ◌∷◌, ◌++◌, Some, None, map, refl, ap, ◌∙◌}
-use Rattle.serde_json.specs.Data.{Data as Json, string}
+use Rattle.std.proofs.Common.{◌≡◌, ℕ, false, List, [], ◌∷◌, ◌++◌, Some, None, map, refl, ap, ◌∙◌, ◌≤◌, arith}
+use Rattle.serde_json.specs.Read.{max_depth}
+use Rattle.serde_json.specs.Data.{Data as Json, string, depth, items_depth}
 use Rattle.serde_json.specs.View.{items_of}
 use Rattle.serde_json.specs.Written.{has_float, items_have_float, compact_text}
 use Rattle.ps_bucket_log.specs.declared.ops.Op.{Op}
@@ -37,3 +38,34 @@ line_plain Unknown = refl
 pub written : (line : Line) (d : Json) (bytes : List ℕ) → d ≡ line_json line → (has_float d ≡ false → bytes ≡ compact_text d) → bytes ++ 10 ∷ [] ≡ text_of line
 unfolding text_of
 written line d bytes e h = ap (λ front. front ++ 10 ∷ []) (h (ap has_float e ∙ line_plain line) ∙ ap compact_text e)
+
+-- ---- how deep they nest
+
+items_shallow : {A : Type 0} (f : A → Json) → ((x : A) → depth (f x) ≤ 1) → (xs : List A) → items_depth (items_of (map f xs)) ≤ 1
+items_shallow f h [] = omega arith
+items_shallow f h (x ∷ xs) = let here = h x in let there = items_shallow f h xs in omega (arith, here, there)
+
+entry_shallow : (entry : Entry) → depth (entry_json entry) ≤ 1
+unfolding entry_json
+entry_shallow entry = omega arith
+
+op_shallow : (op : Op) → depth (op_json op) ≤ 1
+unfolding op_json
+op_shallow (Put id key content sum) = omega arith
+op_shallow (Remove id key sum) = omega arith
+op_shallow (Move id sum target) = omega arith
+op_shallow (Clear id sum target) = omega arith
+
+pub line_shallow : (line : Line) → depth (line_json line) ≤ max_depth
+line_shallow (Checkpoint last_op None buckets) = let h = items_shallow entry_json entry_shallow buckets in omega (arith, h)
+line_shallow (Checkpoint last_op (Some n) buckets) = let h = items_shallow entry_json entry_shallow buckets in omega (arith, h)
+line_shallow (Diff last_op None removed updated) =
+    let h = items_shallow string (λ t. omega arith) removed in
+    let k = items_shallow entry_json entry_shallow updated in omega (arith, h, k)
+line_shallow (Diff last_op (Some n) removed updated) =
+    let h = items_shallow string (λ t. omega arith) removed in
+    let k = items_shallow entry_json entry_shallow updated in omega (arith, h, k)
+line_shallow (Data bucket after has_more ops next) = let h = items_shallow op_json op_shallow ops in omega (arith, h)
+line_shallow (Complete last_op) = omega arith
+line_shallow (Expires seconds) = omega arith
+line_shallow Unknown = omega arith

@@ -1,7 +1,9 @@
-ghost use Rattle.std.specs.Prelude.{◌≡◌, ◌∷◌, [], IfOk};
+ghost use Rattle.std.specs.Prelude.{◌≡◌, ◌<◌, ◌^◌, ◌∷◌, [], All, IfOk, Ok};
 ghost use Rattle.serde_json.specs.View.{view};
 ghost use Rattle.serde_json.specs.Data.{string};
-ghost use Rattle.ps_lines.specs.Writing.{object_of, list_json, entry_json as json_of_entry, op_json as json_of_op, put_json as json_of_put, remove_json as json_of_remove, bare_json as json_of_bare, checkpoint_json as json_of_checkpoint, diff_json as json_of_diff, data_json as json_of_data, line_json as json_of_line, text_of, IsWritable};
+ghost use Rattle.ps_bucket_log.specs.Ops.{checksum};
+ghost use Rattle.ps_lines.specs.Reading.{line_of};
+ghost use Rattle.ps_lines.specs.Writing.{object_of, list_json, entry_json as json_of_entry, op_json as json_of_op, put_json as json_of_put, remove_json as json_of_remove, bare_json as json_of_bare, checkpoint_json as json_of_checkpoint, diff_json as json_of_diff, data_json as json_of_data, line_json as json_of_line, text_of, IsWritable, SumsFit, without_targets};
 
 use crate::objects::Object;
 use crate::{Entry, Line};
@@ -12,10 +14,11 @@ use serde_json::Value as Json;
 use std::alloc::Global;
 
 /// The bytes of a line, compact, with its closing line feed: docs/FORMATS.md, "Stream lines". Targets are
-/// not written.
+/// not written; but for them `read_line` gives the line again.
 pub fn write_line(alloc: Global, line: &Line) -> Result<Vec<u8>, Memory>
     requires { IsWritable line.now }
-    ensures { IfOk result (λ bytes. bytes.items ≡ text_of line.now) }
+    ensures value { IfOk result (λ bytes. bytes.items ≡ text_of line.now) }
+    ensures read_again { IfOk result (λ bytes. line_of bytes.items ≡ Ok (without_targets line.now)) }
 {
     let json = line_json(alloc, line)?;
     let mut bytes = json.to_vec(alloc)?;
@@ -25,7 +28,8 @@ pub fn write_line(alloc: Global, line: &Line) -> Result<Vec<u8>, Memory>
 
 fn line_json(alloc: Global, line: &Line) -> Result<Json, Memory>
     requires { IsWritable line.now }
-    ensures { IfOk result (λ json. view json ≡ json_of_line line.now) }
+    ensures value { IfOk result (λ json. view json ≡ json_of_line line.now) }
+    ensures fits { IfOk result (λ _. SumsFit line.now) }
 {
     match line {
         Line::Checkpoint {
@@ -85,7 +89,8 @@ fn checkpoint_json(
     number: Option<u64>,
     buckets: &[Entry],
 ) -> Result<Json, Memory>
-    ensures { IfOk result (λ json. view json ≡ json_of_checkpoint last_op number buckets.now) }
+    ensures value { IfOk result (λ json. view json ≡ json_of_checkpoint last_op number buckets.now) }
+    ensures fits { IfOk result (λ _. All (λ entry. entry.sum.0 < 2 ^ 32) buckets.now) }
 {
     let checkpoint = Object::new(alloc)
         .with(alloc, "buckets", entries_json(alloc, buckets)?)?
@@ -109,7 +114,8 @@ fn diff_json(
     removed: &[Text],
     updated: &[Entry],
 ) -> Result<Json, Memory>
-    ensures { IfOk result (λ json. view json ≡ json_of_diff last_op number removed.now updated.now) }
+    ensures value { IfOk result (λ json. view json ≡ json_of_diff last_op number removed.now updated.now) }
+    ensures fits { IfOk result (λ _. All (λ entry. entry.sum.0 < 2 ^ 32) updated.now) }
 {
     let diff = Object::new(alloc)
         .with_decimal(alloc, "last_op_id", last_op.0)?
@@ -132,7 +138,8 @@ fn data_json(
     ops: &[Op],
     next_after: OpId,
 ) -> Result<Json, Memory>
-    ensures { IfOk result (λ json. view json ≡ json_of_data bucket.now after has_more ops.now next_after) }
+    ensures value { IfOk result (λ json. view json ≡ json_of_data bucket.now after has_more ops.now next_after) }
+    ensures fits { IfOk result (λ _. All (λ op. checksum op < 2 ^ 32) ops.now) }
 {
     let data = Object::new(alloc)
         .with_decimal(alloc, "after", after.0)?
@@ -154,7 +161,8 @@ fn texts_json(alloc: Global, texts: &[Text]) -> Result<Json, Memory>
 }
 
 fn entries_json(alloc: Global, entries: &[Entry]) -> Result<Json, Memory>
-    ensures { IfOk result (λ json. view json ≡ list_json json_of_entry entries.now) }
+    ensures value { IfOk result (λ json. view json ≡ list_json json_of_entry entries.now) }
+    ensures fits { IfOk result (λ _. All (λ entry. entry.sum.0 < 2 ^ 32) entries.now) }
 {
     let mut list = Vec::new(alloc);
     'entries: for entry in entries {
@@ -165,18 +173,20 @@ fn entries_json(alloc: Global, entries: &[Entry]) -> Result<Json, Memory>
 
 #[tactic(auto, unfolding(crate::specs::Writing::entry_json))]
 fn entry_json(alloc: Global, entry: &Entry) -> Result<Json, Memory>
-    ensures { IfOk result (λ json. view json ≡ json_of_entry entry.now) }
+    ensures value { IfOk result (λ json. view json ≡ json_of_entry entry.now) }
+    ensures fits { IfOk result (λ _. entry.now.sum.0 < 2 ^ 32) }
 {
     let made = Object::new(alloc)
         .with_text(alloc, "bucket", entry.bucket.as_str())?
-        .with_number(alloc, "checksum", u64::from(entry.sum.0))?
+        .with_number(alloc, "checksum", number_of(entry.sum))?
         .with_number(alloc, "count", entry.count)?
         .with_number(alloc, "priority", u64::from(entry.priority))?;
     Ok(made.into_json())
 }
 
 fn ops_json(alloc: Global, ops: &[Op]) -> Result<Json, Memory>
-    ensures { IfOk result (λ json. view json ≡ list_json json_of_op ops.now) }
+    ensures value { IfOk result (λ json. view json ≡ list_json json_of_op ops.now) }
+    ensures fits { IfOk result (λ _. All (λ op. checksum op < 2 ^ 32) ops.now) }
 {
     let mut list = Vec::new(alloc);
     'ops: for op in ops {
@@ -187,7 +197,8 @@ fn ops_json(alloc: Global, ops: &[Op]) -> Result<Json, Memory>
 
 #[tactic(auto, unfolding(crate::specs::Writing::op_json))]
 fn op_json(alloc: Global, op: &Op) -> Result<Json, Memory>
-    ensures { IfOk result (λ json. view json ≡ json_of_op op.now) }
+    ensures value { IfOk result (λ json. view json ≡ json_of_op op.now) }
+    ensures fits { IfOk result (λ _. checksum op.now < 2 ^ 32) }
 {
     match op {
         Op::Put {
@@ -203,7 +214,8 @@ fn op_json(alloc: Global, op: &Op) -> Result<Json, Memory>
 }
 
 fn put_json(alloc: Global, id: OpId, key: &Key, content: &Text, sum: Sum) -> Result<Json, Memory>
-    ensures { IfOk result (λ json. view json ≡ json_of_put id key.now content.now sum) }
+    ensures value { IfOk result (λ json. view json ≡ json_of_put id key.now content.now sum) }
+    ensures fits { IfOk result (λ _. sum.0 < 2 ^ 32) }
 {
     let made = Object::new(alloc)
         .with_number(alloc, "checksum", u64::from(sum.0))?
@@ -217,7 +229,8 @@ fn put_json(alloc: Global, id: OpId, key: &Key, content: &Text, sum: Sum) -> Res
 }
 
 fn remove_json(alloc: Global, id: OpId, key: &Key, sum: Sum) -> Result<Json, Memory>
-    ensures { IfOk result (λ json. view json ≡ json_of_remove id key.now sum) }
+    ensures value { IfOk result (λ json. view json ≡ json_of_remove id key.now sum) }
+    ensures fits { IfOk result (λ _. sum.0 < 2 ^ 32) }
 {
     let made = Object::new(alloc)
         .with_number(alloc, "checksum", u64::from(sum.0))?
@@ -231,11 +244,20 @@ fn remove_json(alloc: Global, id: OpId, key: &Key, sum: Sum) -> Result<Json, Mem
 
 // An operation that speaks of no row.
 fn bare_json(alloc: Global, op: &str, id: OpId, sum: Sum) -> Result<Json, Memory>
-    ensures { IfOk result (λ json. view json ≡ json_of_bare op.now id sum) }
+    ensures value { IfOk result (λ json. view json ≡ json_of_bare op.now id sum) }
+    ensures fits { IfOk result (λ _. sum.0 < 2 ^ 32) }
 {
     let made = Object::new(alloc)
         .with_number(alloc, "checksum", u64::from(sum.0))?
         .with_text(alloc, "op", op)?
         .with_decimal(alloc, "op_id", id.0)?;
     Ok(made.into_json())
+}
+
+// A sum as a number, which has 32 bits.
+fn number_of(sum: Sum) -> u64
+    ensures value { result ≡ sum.0 }
+    ensures fits { sum.0 < 2 ^ 32 }
+{
+    u64::from(sum.0)
 }
