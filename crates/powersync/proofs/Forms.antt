@@ -96,8 +96,8 @@ end_front : (name parameter table column bytes : List ℕ) (rule : Rule) {P : Ty
     → ((end : List ℕ) → bytes ≡ parameter ++ end → (end ≡ []) ⊎ (end ≡ 10 ∷ []) → record { name = name; parameter = parameter; table = table; column = column } ≡ rule → P) → P
 end_front name parameter table column bytes rule {P} h k =
     option_and_then_some (end_of name parameter table column) (follows parameter bytes) rule h (λ end f g.
-      let both = cond_some (is_end end) (record { name = name; parameter = parameter; table = table; column = column }) rule g in
-      k end (follows_front parameter bytes end f) (at_end end both.0) both.1)
+    let both = cond_some (is_end end) (record { name = name; parameter = parameter; table = table; column = column }) rule g in
+    k end (follows_front parameter bytes end f) (at_end end both.0) both.1)
 
 ended : (bytes : List ℕ) (rule : Rule) (end : List ℕ) → bytes ≡ text_to rule end → (end ≡ []) ⊎ (end ≡ 10 ∷ []) → (bytes ≡ rule_text rule) ⊎ (bytes ≡ rule_text rule ++ 10 ∷ [])
 ended bytes rule end h (inl e) = inl (h ∙ ap (text_to rule) e ∙ text_to_none rule)
@@ -116,20 +116,20 @@ rule_has_form bytes rule h =
     option_and_then_some (after_column name.0 parameter.0 table.0) (word_of e) rule g6 (λ column f7 g7.
     option_and_then_some (copy_of name.0 parameter.0 table.0 column.0) (follows (codes " = bucket.") column.1) rule g7 (λ f f8 g8.
     end_front name.0 parameter.0 table.0 column.0 f rule g8 (λ end same ends is.
-      let text : bytes ≡ text_to (record { name = name.0; parameter = parameter.0; table = table.0; column = column.0 }) end =
-        follows_front (codes "bucket_definitions:\n  ") bytes b f0
-        ∙ ap (λ r. codes "bucket_definitions:\n  " ++ r) (part_front (codes ":\n    parameters: SELECT request.user_id() AS ") b c name f1 f2
-        ∙ ap (λ r. name.0 ++ (codes ":\n    parameters: SELECT request.user_id() AS " ++ r)) (part_front (codes "\n    data:\n      - SELECT * FROM ") c d parameter f3 f4
-        ∙ ap (λ r. parameter.0 ++ (codes "\n    data:\n      - SELECT * FROM " ++ r)) (part_front (codes " WHERE ") d e table f5 f6
-        ∙ ap (λ r. table.0 ++ (codes " WHERE " ++ r)) (part_front (codes " = bucket.") e f column f7 f8
-        ∙ ap (λ r. column.0 ++ (codes " = bucket." ++ r)) same)))) in
-      subst (IsRuleText bytes) is (record {
-        name = (word_front b name f1).1;
-        parameter = (word_front c parameter f3).1;
-        table = (word_front d table f5).1;
-        column = (word_front e column f7).1;
-        text = ended bytes (record { name = name.0; parameter = parameter.0; table = table.0; column = column.0 }) end text ends;
-      })))))))))))
+    let text : bytes ≡ text_to (record { name = name.0; parameter = parameter.0; table = table.0; column = column.0 }) end =
+    follows_front (codes "bucket_definitions:\n  ") bytes b f0
+    ∙ ap (λ r. codes "bucket_definitions:\n  " ++ r) (part_front (codes ":\n    parameters: SELECT request.user_id() AS ") b c name f1 f2
+    ∙ ap (λ r. name.0 ++ (codes ":\n    parameters: SELECT request.user_id() AS " ++ r)) (part_front (codes "\n    data:\n      - SELECT * FROM ") c d parameter f3 f4
+    ∙ ap (λ r. parameter.0 ++ (codes "\n    data:\n      - SELECT * FROM " ++ r)) (part_front (codes " WHERE ") d e table f5 f6
+    ∙ ap (λ r. table.0 ++ (codes " WHERE " ++ r)) (part_front (codes " = bucket.") e f column f7 f8
+    ∙ ap (λ r. column.0 ++ (codes " = bucket." ++ r)) same)))) in
+    subst (IsRuleText bytes) is (record {
+      name = (word_front b name f1).1;
+      parameter = (word_front c parameter f3).1;
+      table = (word_front d table f5).1;
+      column = (word_front e column f7).1;
+      text = ended bytes (record { name = name.0; parameter = parameter.0; table = table.0; column = column.0 }) end text ends;
+    })))))))))))
 
 -- ---- what has the form is read
 
@@ -158,7 +158,7 @@ word_whole w b rest h k =
     let all = and_right (begins_as_word w) (list_all is_word_byte w) (and_left (begins_as_word w && list_all is_word_byte w) (not (is_reserved w)) h) in
     let end = words_end w b rest all k in
     cut_word (w ++ b ∷ rest) w (b ∷ rest) (word_end (w ++ b ∷ rest))
-      (ap (λ n. take n (w ++ b ∷ rest)) end ∙ take-append_seam w (b ∷ rest)) (ap (λ n. drop n (w ++ b ∷ rest)) end ∙ drop-append_seam w (b ∷ rest)) h
+    (ap (λ n. take n (w ++ b ∷ rest)) end ∙ take-append_seam w (b ∷ rest)) (ap (λ n. drop n (w ++ b ∷ rest)) end ∙ drop-append_seam w (b ∷ rest)) h
 
 ends_pass : (end : List ℕ) → (end ≡ []) ⊎ (end ≡ 10 ∷ []) → is_end end ≡ true
 ends_pass end (inl e) = ap is_end e

@@ -18,10 +18,8 @@ mod writing;
 use plain::run_plain;
 use ps_io::{DiskFiles, StdSink};
 use ps_values::Text;
-use std::env;
-use std::io;
 use std::process::ExitCode;
-use std::thread;
+use std::{env, io, thread};
 
 // Reading, checking and dropping a hostile file may nest as deep as it is long.
 const STACK: usize = 1073741824;

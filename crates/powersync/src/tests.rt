@@ -4,11 +4,13 @@ use ps_values::{Items, Text};
 use std::alloc::Global;
 use std::test::Fail;
 
-const RULES: &str = "bucket_definitions:\n  mine:\n    parameters: SELECT request.user_id() AS u\n    data:\n      - SELECT * FROM items WHERE owner = bucket.u\n";
+const RULES: &str =
+    "bucket_definitions:\n  mine:\n    parameters: SELECT request.user_id() AS u\n    data:\n      - SELECT * FROM items WHERE owner = bucket.u\n";
 
 const CLAIMS: &str = "{\"token\":{\"sub\":\"ann\"}}";
 
-const CHANGES: &str = "{\"pos\":\"1\",\"changes\":[{\"op\":\"PUT\",\"table\":\"items\",\"id\":\"r1\",\"row\":{\"owner\":\"ann\",\"n\":1}}]}
+const CHANGES: &str =
+    "{\"pos\":\"1\",\"changes\":[{\"op\":\"PUT\",\"table\":\"items\",\"id\":\"r1\",\"row\":{\"owner\":\"ann\",\"n\":1}}]}
 {\"pos\":\"2\",\"changes\":[{\"op\":\"PUT\",\"table\":\"items\",\"id\":\"r2\",\"row\":{\"owner\":\"bob\",\"n\":1}}]}
 {\"pos\":\"3\",\"changes\":[{\"op\":\"PUT\",\"table\":\"items\",\"id\":\"r3\",\"row\":{\"owner\":\"ann\",\"n\":2}}]}
 {\"pos\":\"4\",\"changes\":[{\"op\":\"DELETE\",\"table\":\"items\",\"id\":\"r1\"}]}
@@ -101,7 +103,13 @@ fn each_refusal_has_its_status_and_text(rt: HostRuntime) -> Result<(), Fail> {
     'table: for (rules, changes, claims, status, said) in [
         ("", CHANGES, CLAIMS, 2, "powersync: rules 1:1 not-yet\n"),
         (RULES, "{}", CLAIMS, 3, "powersync: change 1 not-yet\n"),
-        (RULES, blank_lines, CLAIMS, 3, "powersync: change 5 not-yet\n"),
+        (
+            RULES,
+            blank_lines,
+            CLAIMS,
+            3,
+            "powersync: change 5 not-yet\n",
+        ),
         (RULES, CHANGES, "{}", 4, "powersync: claims\n"),
         ("", "{}", "{}", 2, "powersync: rules 1:1 not-yet\n"),
         (RULES, "{}", "{}", 4, "powersync: claims\n"),
@@ -179,7 +187,10 @@ fn outputs_that_fail_cannot_be_written(rt: HostRuntime) -> Result<(), Fail> {
             Items::from_vec(vec![in rt.alloc(); call]?),
         )?;
         assert_eq!(rt; refused.status, 7);
-        assert_eq!(rt; refused.said.as_slice(), "powersync: cannot write\n".as_bytes());
+        assert_eq!(rt;
+            refused.said.as_slice(),
+            "powersync: cannot write\n".as_bytes()
+        );
         assert_eq!(rt; refused.printed.len(), printed);
     }
     Ok(())
@@ -192,12 +203,18 @@ fn ten_thousand_changes(rt: HostRuntime) -> Result<(), Fail> {
     'changes: for position in 1..10001 {
         let row = position % 100;
         let owner = if position % 2 == 0 { "ann" } else { "bob" };
-        let line = format!(in rt.alloc(); "{{\"pos\":\"{position}\",\"changes\":[{{\"op\":\"PUT\",\"table\":\"items\",\"id\":\"r{row}\",\"row\":{{\"owner\":\"{owner}\"}}}}]}}\n")?;
+        let line = format!(in rt.alloc();
+            "{{\"pos\":\"{position}\",\"changes\":[{{\"op\":\"PUT\",\"table\":\"items\",\"id\":\"r{row}\",\"row\":{{\"owner\":\"{owner}\"}}}}]}}\n"
+        )?;
         changes.push_str(line.as_str())?;
     }
     let printed = rows(rt.alloc(), RULES, changes.as_str(), CLAIMS)?;
     assert_eq!(rt; printed.status, 0);
-    let lines = printed.printed.iter().filter(|byte| **byte == b'\n').count();
+    let lines = printed
+        .printed
+        .iter()
+        .filter(|byte| **byte == b'\n')
+        .count();
     assert_eq!(rt; lines, 50);
     let first = "\"items\" \"r0\" {\"id\":\"r0\",\"owner\":\"ann\"}\n";
     assert!(rt; printed.printed.as_slice().starts_with(first.as_bytes()));
