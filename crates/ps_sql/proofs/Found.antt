@@ -89,7 +89,7 @@ same_mark_is a b e = sym (mark_from-number a) ∙ ap mark_from (eqb_equal _ _ e)
 same_keyword_is : (a b : Keyword) → same_keyword a b ≡ true → a ≡ b
 same_keyword_is a b e = sym (keyword_from-number a) ∙ ap keyword_from (eqb_equal _ _ e) ∙ keyword_from-number b
 
-mark_in_is : (m : Mark) (w : Word) → mark_in m w ≡ true → w ≡ words.Mark m
+pub mark_in_is : (m : Mark) (w : Word) → mark_in m w ≡ true → w ≡ words.Mark m
 mark_in_is m (words.Mark found) e = ap words.Mark (same_mark_is found m e)
 mark_in_is m (words.Keyword k) e = absurd (cc)
 mark_in_is m (words.Name t) e = absurd (cc)
@@ -97,7 +97,7 @@ mark_in_is m (words.Quoted t) e = absurd (cc)
 mark_in_is m (words.Text t) e = absurd (cc)
 mark_in_is m (words.Number n) e = absurd (cc)
 
-keyword_in_is : (k : Keyword) (w : Word) → keyword_in k w ≡ true → w ≡ words.Keyword k
+pub keyword_in_is : (k : Keyword) (w : Word) → keyword_in k w ≡ true → w ≡ words.Keyword k
 keyword_in_is k (words.Keyword found) e = ap words.Keyword (same_keyword_is found k e)
 keyword_in_is k (words.Mark m) e = absurd (cc)
 keyword_in_is k (words.Name t) e = absurd (cc)

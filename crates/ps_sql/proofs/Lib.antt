@@ -9,6 +9,7 @@ pub mod FoundQueries
 pub mod GrammarLaws
 pub mod LexemeLaws
 pub mod Only
+pub mod OnlyQueries
 pub mod QueryLaws
 pub mod Quotes
 pub mod WordLaws

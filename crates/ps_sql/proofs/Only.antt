@@ -88,6 +88,15 @@ never_first w = (is_mark marks.Close (Some w) || is_mark marks.Star (Some w)) ||
 never_close : (w : Word) → never_first w ≡ false → is_mark marks.Close (Some w) ≡ false
 never_close w e = (or_no (is_mark marks.Close (Some w)) _ (or_no (is_mark marks.Close (Some w) || is_mark marks.Star (Some w)) _ e).0).0
 
+pub never_star : (w : Word) → never_first w ≡ false → is_mark marks.Star (Some w) ≡ false
+never_star w e = (or_no (is_mark marks.Close (Some w)) _ (or_no (is_mark marks.Close (Some w) || is_mark marks.Star (Some w)) _ e).0).1
+
+-- nor does such a word begin what may stand behind an output
+pub never_clause : (w : Word) → never_first w ≡ false → ((is_keyword keywords.From (Some w) || is_keyword keywords.Where (Some w)) ≡ false) × (is_mark marks.Semicolon (Some w) ≡ false)
+never_clause w e =
+    let tail = or_no (is_mark marks.Semicolon (Some w)) _ (or_no (is_mark marks.Close (Some w) || is_mark marks.Star (Some w)) _ e).1 in
+    ((or_no (is_keyword keywords.In (Some w)) _ tail.1).1, tail.0)
+
 never_in : (w : Word) → never_first w ≡ false → is_keyword keywords.In (Some w) ≡ false
 never_in w e = (or_no (is_keyword keywords.In (Some w)) _ (or_no (is_mark marks.Semicolon (Some w)) _ (or_no (is_mark marks.Close (Some w) || is_mark marks.Star (Some w)) _ e).1).1).0
 
@@ -172,7 +181,7 @@ no_not_more xs ys b e = ap (is_keyword keywords.Not) (same_first xs ys b) ∙ e
 no_not_by : (x : Lexeme) (w : Word) → x.word ≡ w → is_keyword keywords.Not (Some w) ≡ false → is_keyword keywords.Not (Some x.word) ≡ false
 no_not_by x w e f = ap (λ v. is_keyword keywords.Not (Some v)) e ∙ f
 
-no_keyword : (k : Keyword) (w : Word) (name : List ℕ) → name_in w ≡ Some name → is_keyword k (Some w) ≡ false
+pub no_keyword : (k : Keyword) (w : Word) (name : List ℕ) → name_in w ≡ Some name → is_keyword k (Some w) ≡ false
 unfolding is_keyword
 no_keyword k (words.Name t) name e = refl
 no_keyword k (words.Quoted t) name e = refl
@@ -252,7 +261,7 @@ ends_comma : ends (Some (words.Mark marks.Comma)) ≡ true
 unfolding is_mark is_keyword is_arithmetic
 ends_comma = refl
 
-ends_as : ends (Some (words.Keyword keywords.As)) ≡ true
+pub ends_as : ends (Some (words.Keyword keywords.As)) ≡ true
 unfolding is_mark is_keyword is_arithmetic
 ends_as = refl
 
@@ -646,10 +655,10 @@ module _ (context : Context) (limit : ℕ) (inner : Reader) where
 
 -- the parts of words
 
-left_part : (xs ys : List Lexeme) (n : ℕ) → length (xs ++ ys) ≤ n → length xs ≤ n
+pub left_part : (xs ys : List Lexeme) (n : ℕ) → length (xs ++ ys) ≤ n → length xs ≤ n
 left_part xs ys n e = omega (arith, length-append xs ys)
 
-right_part : (xs ys : List Lexeme) (n : ℕ) → length (xs ++ ys) ≤ n → length ys ≤ n
+pub right_part : (xs ys : List Lexeme) (n : ℕ) → length (xs ++ ys) ≤ n → length ys ≤ n
 right_part xs ys n e = omega (arith, length-append xs ys)
 
 abbrev Argued : Context → ℕ → ℕ → List Lexeme → List Expr → Type 0

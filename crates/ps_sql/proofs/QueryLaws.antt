@@ -11,6 +11,7 @@ use Rattle.ps_sql.specs.declared.queries.ParameterQuery.{ParameterQuery}
 use Rattle.ps_sql.specs.declared.queries.DataQuery.{DataQuery}
 use Rattle.ps_sql.proofs.Calm.{Calm, parameter_calm, data_calm}
 use Rattle.ps_sql.proofs.FoundQueries.{parameter_query_found, data_query_found}
+use Rattle.ps_sql.proofs.OnlyQueries.{parameter_query_reads, data_query_reads}
 use Rattle.ps_sql.specs.declared.words.Lexeme.{Lexeme}
 use Rattle.ps_sql.specs.declared.faults.SqlFault.{SqlFault}
 use Rattle.ps_sql.specs.declared.faults.SqlFault.TheVariants as faults
@@ -83,4 +84,12 @@ data_found text (Ok query) answers = let r = answers.read_from in
     (r.0, r.1, data_query_found (length r.0) (input_of text r.0) query (answers.words r.0 r.1))
 data_found text (Err fault) answers = tt
 
-pub ruleset found = (parameter_found, data_found)
+pub parameter_only : (text : List ℕ) (answer : Result ParameterQuery SqlFault) → AnswersQuery parameter_query text answer
+    → (lexemes : List Lexeme) (query : ParameterQuery) → AreLexemes 0 text lexemes → IsParameterQuery lexemes query → Reads answer (Ok query)
+parameter_only text answer answers lexemes query are is = subst (Reads answer) (parameter_query_reads (length lexemes) (length text) lexemes query is (omega arith)) (answers.words lexemes are)
+
+pub data_only : (text : List ℕ) (answer : Result DataQuery SqlFault) → AnswersQuery data_query text answer
+    → (lexemes : List Lexeme) (query : DataQuery) → AreLexemes 0 text lexemes → IsDataQuery lexemes query → Reads answer (Ok query)
+data_only text answer answers lexemes query are is = subst (Reads answer) (data_query_reads (length lexemes) (length text) lexemes query is (omega arith)) (answers.words lexemes are)
+
+pub ruleset found = (parameter_found, data_found, parameter_only, data_only)

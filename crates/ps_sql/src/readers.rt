@@ -325,6 +325,9 @@ pub fn read_parameter_query(alloc: Global, text: &Text) -> Result<ParameterQuery
     // What is read is spelled so.
     ensures found { IfOk result
         (λ query. (lexemes : List Lexeme) × AreLexemes 0 text.now lexemes × IsParameterQuery lexemes query) }
+    // What is spelled so is read, unless memory runs out.
+    ensures only { (lexemes : List Lexeme) (query : ParameterQuery) → AreLexemes 0 text.now lexemes
+        → IsParameterQuery lexemes query → Reads result (Ok query) }
     // Which query it is, or which fault and where.
     ensures exact { (lexemes : List Lexeme) → AreLexemes 0 text.now lexemes
         → Reads result (parameter_query (length lexemes) (input_of text.now lexemes)) }
@@ -346,6 +349,9 @@ pub fn read_data_query(alloc: Global, text: &Text) -> Result<DataQuery, SqlFault
     // What is read is spelled so.
     ensures found { IfOk result
         (λ query. (lexemes : List Lexeme) × AreLexemes 0 text.now lexemes × IsDataQuery lexemes query) }
+    // What is spelled so is read, unless memory runs out.
+    ensures only { (lexemes : List Lexeme) (query : DataQuery) → AreLexemes 0 text.now lexemes
+        → IsDataQuery lexemes query → Reads result (Ok query) }
     // Which query it is, or which fault and where.
     ensures exact { (lexemes : List Lexeme) → AreLexemes 0 text.now lexemes
         → Reads result (data_query (length lexemes) (input_of text.now lexemes)) }
