@@ -1,5 +1,5 @@
 -- What is spelled as a query is read, with that tree.
-use Rattle.std.proofs.Common.{◌≡◌, ℕ, zero, suc, ◌<◌, ◌≤◌, Bool, true, false, cond, List, [], ◌∷◌, ◌++◌, length, drop, Option, Some, None, refl, sym, ap, subst, ◌∙◌, ◌⊎◌, inl, inr, arith, append_assoc, append-nil, length-append}
+use Rattle.std.proofs.Common.{◌≡◌, ℕ, zero, suc, ◌≤◌, Bool, true, false, cond, List, [], ◌∷◌, ◌++◌, length, Option, Some, None, refl, ap, ◌∙◌, inl, inr, arith, length-append}
 use Rattle.std.specs.Prelude.{Result, Ok, Err, ◌&&◌, ◌||◌, not, is_some}
 use Rattle.ps_sql.specs.declared.words.Word.{Word}
 use Rattle.ps_sql.specs.declared.words.Word.TheVariants as words
@@ -15,16 +15,14 @@ use Rattle.ps_sql.specs.declared.contexts.Scope.TheVariants as scopes
 use Rattle.ps_sql.specs.declared.contexts.Context.{Context}
 use Rattle.ps_sql.specs.declared.contexts.Listed.{Listed}
 use Rattle.ps_sql.specs.declared.contexts.Source.{Source}
-use Rattle.ps_sql.specs.Inputs.{Input, ◌>>=◌, first_word, next, here, past, is_mark, is_keyword, name_of, name_in, refusal, named_or, expect_keyword, expect_name}
+use Rattle.ps_sql.specs.Inputs.{Input, first_word, next, is_mark, is_keyword, name_of, name_in, refusal, named_or, expect_keyword, expect_name}
 use Rattle.ps_sql.specs.Grammar.{is_arithmetic, expr}
-use Rattle.ps_sql.specs.Queries.{own_name, begins_clause, own_output, output, item, items, outputs, nothing_listed, condition, behind_semicolon, finish, table_clause, scope_of, parameters_of, data_of, parameter_query, alias_by, alias, source, data_query}
-use Rattle.ps_sql.specs.Spelled.{expression, Spells}
+use Rattle.ps_sql.specs.Queries.{begins_clause, own_output, output, item, items, outputs, nothing_listed, condition, finish, table_clause, scope_of, parameters_of, data_of, parameter_query, alias_by, alias, source, data_query}
 use Rattle.ps_sql.specs.SpelledQueries.{IsOutput, named, own, IsItem, star, output as output_item, AreItems, last, further, AreOutputs, no_outputs, outputs as outputs_listed, IsCondition, no_condition, filter, IsEnd, nothing, semicolon, IsTable, no_table, table, IsSource, itself, alias as alias_alone, alias_with_as, IsParameterQuery, IsDataQuery}
-use Rattle.ps_sql.proofs.WordLaws.{and_both}
 use Rattle.ps_sql.proofs.LexemeLaws.{or_either}
 use Rattle.ps_sql.proofs.Scopes.{outputs_any}
 use Rattle.ps_sql.proofs.Found.{mark_in_is, keyword_in_is}
-use Rattle.ps_sql.proofs.Only.{test_true, test_false, both, not_true, or_no, bind_reads, ahead, ahead_twice, mark_there, keyword_there, keyword_reads, no_keyword, Begins, begins, begins_more, never_first, never_star, never_clause, ends, ends_word, ends_as, left_part, right_part, expr_reads}
+use Rattle.ps_sql.proofs.Only.{test_true, test_false, both, bind_reads, ahead, ahead_twice, mark_there, keyword_there, keyword_reads, no_keyword, Begins, begins, begins_more, never_first, never_star, never_clause, ends, ends_word, ends_as, left_part, right_part, expr_reads}
 
 -- the words that an output may end before
 

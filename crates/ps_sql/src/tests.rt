@@ -326,6 +326,337 @@ fn reads_parameter_queries(rt: HostRuntime) -> Result<(), Fail> {
 }
 
 #[test]
+fn reads_the_queries_of_the_rules_that_are_shown(rt: HostRuntime) -> Result<(), Fail> {
+    let alloc = rt.alloc();
+    let table = [
+        (
+            "SELECT * FROM lists WHERE owner_id = bucket.user_id",
+            "true lists lists (owner_id Equal bucket.user_id)",
+        ),
+        (
+            "SELECT id, list_id, upper(title) AS title, done FROM todos\n  WHERE list_id = bucket.list_id",
+            "false id=id list_id=list_id title=Upper(title;) done=done todos todos (list_id Equal bucket.list_id)",
+        ),
+        (
+            "SELECT id, name FROM settings AS options",
+            "false id=id name=name settings options -",
+        ),
+        ("SELECT id, name FROM t", "false id=id name=name t t -"),
+        (
+            "SELECT id, upper(name) AS name FROM t",
+            "false id=id name=Upper(name;) t t -",
+        ),
+        ("SELECT * FROM u AS t", "true u t -"),
+        (
+            "SELECT id FROM docs WHERE bucket.u IN members",
+            "false id=id docs docs (bucket.u Within members)",
+        ),
+        (
+            "SELECT id FROM t WHERE k = bucket.k",
+            "false id=id t t (k Equal bucket.k)",
+        ),
+        ("SELECT name FROM t", "false name=name t t -"),
+        (
+            "SELECT * FROM items WHERE owner = bucket.u",
+            "true items items (owner Equal bucket.u)",
+        ),
+    ];
+    for (query, want) in table {
+        let got = data(alloc, query)?;
+        assert_eq!(rt; got.as_str(), want, "{query}");
+    }
+    let table = [
+        (
+            "SELECT request.user_id() AS user_id",
+            "user_id=USER - -",
+        ),
+        (
+            "SELECT id AS list_id FROM lists WHERE owner_id = request.user_id()",
+            "list_id=id lists (owner_id Equal USER)",
+        ),
+        (
+            "SELECT request.parameters() ->> 'k' AS k",
+            "k=(PARAMETERS DoubleArrow 'k') - -",
+        ),
+        ("SELECT request.user_id() AS u", "u=USER - -"),
+    ];
+    for (query, want) in table {
+        let got = parameter(alloc, query)?;
+        assert_eq!(rt; got.as_str(), want, "{query}");
+    }
+    Ok(())
+}
+
+#[test]
+fn reads_words_in_any_case(rt: HostRuntime) -> Result<(), Fail> {
+    let alloc = rt.alloc();
+    let table = [
+        (
+            "sElEcT a fRoM t wHeRe a aNd b",
+            "false a=a t t (a And b)",
+        ),
+        (
+            "SeLeCt a As b FrOm t aS u WhErE a oR b",
+            "false b=a t u (a Or b)",
+        ),
+        ("Select a From t Where nOt a", "false a=a t t NOT(a)"),
+        (
+            "Select a From t Where a iS nUlL",
+            "false a=a t t NULL?false(a)",
+        ),
+        (
+            "Select a From t Where a Is nOT Null",
+            "false a=a t t NULL?true(a)",
+        ),
+        ("Select a From t Where a iN b", "false a=a t t (a Within b)"),
+        (
+            "Select tRuE As x, fAlSe As y, nULL As z From t",
+            "false x=1 y=0 z=NULL t t -",
+        ),
+        ("Select cAsT(a aS tExT) As x From t", "false x=TEXT(a) t t -"),
+        (
+            "Select uPPer(a) As x, LOWER(a) As y From t",
+            "false x=Upper(a;) y=Lower(a;) t t -",
+        ),
+        (
+            "Select Length(a) As x, ifNull(a, b) As y From t",
+            "false x=Length(a;) y=IfNull(a;b;) t t -",
+        ),
+        (
+            "Select iIf(a, b, c) As x, TYPEof(a) As y From t",
+            "false x=Iif(a;b;c;) y=TypeOf(a;) t t -",
+        ),
+        // names are compared byte by byte
+        ("Select a From T Where t.a", "unsupported 22"),
+        ("Select Bucket.a From t", "unsupported 7"),
+        // words of SQL that are left out
+        ("SELECT a FROM t jOiN u", "unsupported 16"),
+        ("SELECT a FROM t gRoUp BY a", "unsupported 16"),
+        ("SELECT a FROM t oRdEr BY a", "unsupported 16"),
+        ("SELECT a FROM t lImIt 1", "unsupported 16"),
+        ("SELECT a FROM t uNiOn SELECT b", "unsupported 16"),
+        ("SELECT a FROM t hAvInG a", "unsupported 16"),
+        ("SELECT dIsTiNcT a FROM t", "unsupported 7"),
+        ("SELECT cAsE FROM t", "unsupported 7"),
+        (
+            "SELECT a FROM t WHERE a bEtWeEn 1 AND 2",
+            "unsupported 24",
+        ),
+        ("SELECT a FROM t WHERE a lIkE b", "unsupported 24"),
+        ("SELECT a FROM t WHERE a nOt iN b", "unsupported 24"),
+    ];
+    for (query, want) in table {
+        let got = data(alloc, query)?;
+        assert_eq!(rt; got.as_str(), want, "{query}");
+    }
+    let table = [
+        (
+            "Select request.User_Id() As u",
+            "u=USER - -",
+        ),
+        (
+            "Select request.JWT() As u",
+            "u=JWT - -",
+        ),
+        (
+            "Select request.Parameters() As u",
+            "u=PARAMETERS - -",
+        ),
+        ("Select token_parameters.User_Id", "unsupported 7"),
+        ("Select Token_parameters.user_id", "unsupported 7"),
+    ];
+    for (query, want) in table {
+        let got = parameter(alloc, query)?;
+        assert_eq!(rt; got.as_str(), want, "{query}");
+    }
+    Ok(())
+}
+
+#[test]
+fn reads_numbers(rt: HostRuntime) -> Result<(), Fail> {
+    let alloc = rt.alloc();
+    let table = [
+        ("SELECT 0 AS n FROM t", "false n=0 t t -"),
+        ("SELECT 007 AS n FROM t", "false n=7 t t -"),
+        (
+            "SELECT 9223372036854775807 AS n FROM t",
+            "false n=9223372036854775807 t t -",
+        ),
+        (
+            "SELECT -9223372036854775807 AS n FROM t",
+            "false n=-9223372036854775807 t t -",
+        ),
+        (
+            "SELECT 00000000000000000000000000000001 AS n FROM t",
+            "false n=1 t t -",
+        ),
+        ("SELECT 9223372036854775808 AS n FROM t", "token 7"),
+        ("SELECT -9223372036854775808 AS n FROM t", "token 8"),
+        ("SELECT 99999999999999999999 AS n FROM t", "token 7"),
+        ("SELECT 1_000 AS n FROM t", "token 7"),
+        ("SELECT 1e3 AS n FROM t", "token 7"),
+        ("SELECT 0.5 AS n FROM t", "token 7"),
+        ("SELECT 1.x FROM t", "unexpected 8"),
+        ("SELECT - - 1 AS n FROM t", "unexpected 9"),
+        ("SELECT +1 AS n FROM t", "unexpected 7"),
+    ];
+    for (query, want) in table {
+        let got = data(alloc, query)?;
+        assert_eq!(rt; got.as_str(), want, "{query}");
+    }
+    Ok(())
+}
+
+#[test]
+fn refuses_what_is_left_out(rt: HostRuntime) -> Result<(), Fail> {
+    let alloc = rt.alloc();
+    let table = [
+        // arithmetic, wherever an operator could stand
+        ("SELECT a - b FROM t", "unsupported 9"),
+        ("SELECT a * b FROM t", "unsupported 9"),
+        ("SELECT a / b FROM t", "unsupported 9"),
+        ("SELECT a % b FROM t", "unsupported 9"),
+        ("SELECT (a + b) AS x FROM t", "unsupported 10"),
+        ("SELECT upper(a + b) AS x FROM t", "unsupported 15"),
+        ("SELECT CAST(a + b AS TEXT) AS x FROM t", "unsupported 14"),
+        ("SELECT a FROM t WHERE a = 1 - 1", "unsupported 28"),
+        ("SELECT a FROM t WHERE a -- b", "unsupported 24"),
+        // arguments that are too few or too many
+        ("SELECT lower() AS x FROM t", "unsupported 7"),
+        ("SELECT lower(a, b) AS x FROM t", "unsupported 7"),
+        ("SELECT length(a, b) AS x FROM t", "unsupported 7"),
+        ("SELECT ifnull(a) AS x FROM t", "unsupported 7"),
+        ("SELECT ifnull(a, b, c) AS x FROM t", "unsupported 7"),
+        ("SELECT iif(a, b) AS x FROM t", "unsupported 7"),
+        ("SELECT iif(a, b, c, d) AS x FROM t", "unsupported 7"),
+        ("SELECT typeof(a, b) AS x FROM t", "unsupported 7"),
+        ("SELECT a FROM t WHERE iif(1, 2)", "unsupported 22"),
+        // outputs without a name
+        ("SELECT 1 FROM t", "unsupported 7"),
+        ("SELECT 'x' FROM t", "unsupported 7"),
+        ("SELECT bucket.u FROM t", "unsupported 7"),
+        ("SELECT NULL, a FROM t", "unsupported 7"),
+        ("SELECT a, b = c FROM t", "unsupported 10"),
+        ("SELECT a, (NOT b) FROM t", "unsupported 10"),
+        // values of the asker
+        ("SELECT request.jwt() AS u FROM t", "unsupported 7"),
+        ("SELECT request.parameters() AS u FROM t", "unsupported 7"),
+        ("SELECT a FROM t WHERE a = request.user_id()", "unsupported 26"),
+        (
+            "SELECT a FROM t WHERE token_parameters.user_id = a",
+            "unsupported 22",
+        ),
+        // qualifiers
+        ("SELECT a FROM t AS u WHERE t.a", "unsupported 27"),
+        ("SELECT a FROM t WHERE \"bucket\".a", "unsupported 22"),
+        ("SELECT a FROM t WHERE CAST(a AS blob)", "unsupported 32"),
+        ("SELECT a FROM t WHERE a ()", "unsupported 22"),
+    ];
+    for (query, want) in table {
+        let got = data(alloc, query)?;
+        assert_eq!(rt; got.as_str(), want, "{query}");
+    }
+    let table = [
+        ("SELECT 1 AS a WHERE bucket.x = 1", "unsupported 20"),
+        ("SELECT a AS b WHERE TRUE", "unsupported 7"),
+        ("SELECT 1 AS a WHERE b", "unsupported 20"),
+        ("SELECT request.user_id AS u", "unsupported 7"),
+        ("SELECT x.a FROM t", "unsupported 7"),
+        ("SELECT 1 FROM t", "unsupported 7"),
+        ("SELECT 1", "unsupported 7"),
+        ("SELECT request.parameters() FROM t", "unsupported 7"),
+        ("SELECT a FROM t WHERE NOT IN a", "unsupported 22"),
+    ];
+    for (query, want) in table {
+        let got = parameter(alloc, query)?;
+        assert_eq!(rt; got.as_str(), want, "{query}");
+    }
+    Ok(())
+}
+
+#[test]
+fn refuses_what_fits_no_rule(rt: HostRuntime) -> Result<(), Fail> {
+    let alloc = rt.alloc();
+    let table = [
+        ("FROM t", "unexpected 0"),
+        ("a", "unexpected 0"),
+        ("SELECT * AS x FROM t", "unexpected 9"),
+        ("SELECT *", "unexpected 8"),
+        ("SELECT a, FROM t", "unexpected 10"),
+        ("SELECT a, * , * FROM t", "unexpected 14"),
+        ("SELECT a AS FROM t", "unexpected 12"),
+        ("SELECT a AS 1 FROM t", "unexpected 12"),
+        ("SELECT a FROM 't'", "unexpected 14"),
+        ("SELECT a FROM t AS WHERE a", "unexpected 19"),
+        ("SELECT a FROM t;;", "unexpected 16"),
+        ("SELECT a FROM t WHERE (a", "unexpected 24"),
+        ("SELECT a FROM t WHERE (a))", "unexpected 25"),
+        ("SELECT a FROM t WHERE ()", "unexpected 23"),
+        ("SELECT a FROM t WHERE a = ", "unexpected 26"),
+        ("SELECT a FROM t WHERE a < > b", "unexpected 26"),
+        ("SELECT a FROM t WHERE a AND", "unexpected 27"),
+        ("SELECT a FROM t WHERE a OR OR b", "unexpected 27"),
+        ("SELECT a FROM t WHERE a IS 1", "unexpected 27"),
+        ("SELECT a FROM t WHERE a IS NOT 1", "unexpected 31"),
+        ("SELECT a FROM t WHERE a IN NOT b", "unexpected 27"),
+        ("SELECT a FROM t WHERE a NOT b", "unexpected 24"),
+        ("SELECT a FROM t WHERE a || NOT b", "unexpected 27"),
+        ("SELECT a FROM t WHERE 1 2", "unexpected 24"),
+        ("SELECT a FROM t WHERE a, b", "unexpected 23"),
+        ("SELECT a FROM t WHERE t.", "unexpected 24"),
+        ("SELECT a FROM t WHERE t.a.b", "unexpected 25"),
+        ("SELECT a FROM t WHERE bucket.", "unexpected 29"),
+        ("SELECT a FROM t WHERE upper(a FROM", "unexpected 30"),
+        ("SELECT a FROM t WHERE upper(a, )", "unexpected 31"),
+        ("SELECT CAST a AS x FROM t", "unexpected 12"),
+        ("SELECT CAST(a) AS x FROM t", "unexpected 13"),
+        ("SELECT CAST(a AS text AS x FROM t", "unexpected 22"),
+        ("SELECT CAST(a AS \"text\") AS x FROM t", "unexpected 17"),
+        ("SELECT a FROM t WHERE t.f(1)", "unexpected 25"),
+    ];
+    for (query, want) in table {
+        let got = data(alloc, query)?;
+        assert_eq!(rt; got.as_str(), want, "{query}");
+    }
+    let table = [
+        ("", "unexpected 0"),
+        ("SELECT request.user_id( AS u", "unexpected 24"),
+        ("SELECT request.user_id() u", "unexpected 25"),
+        ("SELECT 1 AS a WHERE", "unexpected 19"),
+        ("SELECT 1 AS a; SELECT", "unexpected 15"),
+        ("SELECT , FROM t", "unexpected 7"),
+        ("SELECT a FROM t AS u", "unexpected 16"),
+        ("SELECT a FROM", "unexpected 13"),
+    ];
+    for (query, want) in table {
+        let got = parameter(alloc, query)?;
+        assert_eq!(rt; got.as_str(), want, "{query}");
+    }
+    Ok(())
+}
+
+#[test]
+fn refuses_what_is_no_token(rt: HostRuntime) -> Result<(), Fail> {
+    let alloc = rt.alloc();
+    let table = [
+        ("SELECT a FROM t WHERE a ! b", "token 24"),
+        ("SELECT a FROM t WHERE a | b", "token 24"),
+        ("SELECT a FROM t WHERE a == b", "unexpected 25"),
+        ("SELECT a FROM t WHERE \"a", "token 22"),
+        ("SELECT a FROM t WHERE 'it''s", "token 22"),
+        ("SELECT a FROM t # b", "token 16"),
+        ("SELECT \u{e9} FROM t", "token 7"),
+        ("SELECT '\u{e9}' AS a FROM t", "false a='\u{e9}' t t -"),
+        ("SELECT a ) ) FROM t WHERE [", "token 26"),
+    ];
+    for (query, want) in table {
+        let got = data(alloc, query)?;
+        assert_eq!(rt; got.as_str(), want, "{query}");
+    }
+    Ok(())
+}
+
+#[test]
 fn reads_tokens(rt: HostRuntime) -> Result<(), Fail> {
     let alloc = rt.alloc();
     let source = text(alloc, "a->>'b''' <=\"c\" 12")?;
