@@ -598,8 +598,8 @@ argument_further limit inner xs ys comma es e rest c small word found = by_turns
     turns = turns;
     enough = omega (arith, length-append xs (comma ∷ ys));
     is = ap (arguments limit inner) (ahead_twice xs (comma ∷ ys) rest) ∙ is
-      ∙ test_true (is_mark marks.Comma (Some comma.word)) _ _ (mark_there marks.Comma marks.Comma comma.word word)
-      ∙ bind_reads (inner (ahead ys rest)) (λ x. more_arguments turns inner (es ++ x.0 ∷ []) x.1) (e, rest) _ found refl;
+        ∙ test_true (is_mark marks.Comma (Some comma.word)) _ _ (mark_there marks.Comma marks.Comma comma.word word)
+        ∙ bind_reads (inner (ahead ys rest)) (λ x. more_arguments turns inner (es ++ x.0 ∷ []) x.1) (e, rest) _ found refl;
   }
 
 arguments_closed : (limit : ℕ) (inner : Reader) (xs : List Lexeme) (es : List Expr) (rest : Input) → Continued limit inner xs es rest → length xs ≤ limit → is_mark marks.Comma (next rest) ≡ false

@@ -2,7 +2,7 @@ ghost use Rattle.std.specs.Prelude.{◌≡◌, ℕ};
 ghost use Rattle.std.specs.Option.{option_copied};
 ghost use Rattle.ps_sql.specs.Answers.{ReadsOn};
 ghost use Rattle.ps_sql.specs.Inputs.{next};
-ghost use Rattle.ps_sql.specs.Grammar.{ands, arguments, bracketed, call_by, cast, chain, expr, function_of, keyword_value, mark_value, negation, operand_at, plain_name, prime, sames, step};
+ghost use Rattle.ps_sql.specs.Grammar.{ands, arguments, bracketed, call_by, cast, expr, function_of, joins, keyword_value, mark_value, more, negation, operand_at, orders, plain_name, prime, sames, step};
 
 use crate::contexts::{Context, Level, Step};
 use crate::cursors::Cursor;
@@ -16,8 +16,10 @@ use ps_values::{Boxed, Items, Text};
 use std::alloc::Global;
 
 /// A whole expression, with brackets at most `depth` deep.
+///
+/// What stands first is read before the operators behind it, so that a bracket costs few calls.
 #[cycle(grammar)]
-#[tactic(auto, using(crate::proofs::GrammarLaws::laws), unfolding(crate::specs::Grammar::whole))]
+#[tactic(auto, using(crate::proofs::GrammarLaws::laws), unfolding(crate::specs::Grammar::whole, crate::specs::Grammar::chain))]
 pub fn expr(
     alloc: Global,
     context: &Context,
@@ -30,27 +32,98 @@ pub fn expr(
     if depth == 0 {
         return Err(cursor.refusal());
     }
-    let whole = chain(alloc, context, limit, depth - 1, Level::Or, cursor)?;
+    let first = conjunction(alloc, context, limit, depth - 1, cursor)?;
+    let whole = operators(alloc, context, limit, depth - 1, Level::Or, first, cursor)?;
     if is_arithmetic_next(cursor) {
         return Err(cursor.unsupported());
     }
     Ok(whole)
 }
 
-/// The operators of a level, and what stands between them.
+/// AND, and what stands between.
 #[cycle(grammar)]
-#[tactic(auto, using(crate::proofs::GrammarLaws::chains), unfolding(crate::specs::Grammar::chain))]
-fn chain(
+#[inline(always)]
+#[tactic(auto, unfolding(crate::specs::Grammar::chain))]
+fn conjunction(
+    alloc: Global,
+    context: &Context,
+    limit: usize,
+    depth: usize,
+    cursor: &mut Cursor<'_>,
+) -> Result<Expr, SqlFault>
+    ensures { ReadsOn result cursor.new (ands context.now limit (expr context.now limit depth) cursor.old) }
+{
+    let first = negation(alloc, context, limit, depth, limit, cursor)?;
+    operators(alloc, context, limit, depth, Level::And, first, cursor)
+}
+
+/// `=`, `!=`, IS NULL and IN, and what stands between.
+#[cycle(grammar)]
+#[inline(always)]
+#[tactic(auto, unfolding(crate::specs::Grammar::chain))]
+fn equality(
+    alloc: Global,
+    context: &Context,
+    limit: usize,
+    depth: usize,
+    cursor: &mut Cursor<'_>,
+) -> Result<Expr, SqlFault>
+    ensures { ReadsOn result cursor.new (sames context.now limit (expr context.now limit depth) cursor.old) }
+{
+    let first = ordering(alloc, context, limit, depth, cursor)?;
+    operators(alloc, context, limit, depth, Level::Same, first, cursor)
+}
+
+/// `<`, `<=`, `>` and `>=`, and what stands between.
+#[cycle(grammar)]
+#[inline(always)]
+#[tactic(auto, unfolding(crate::specs::Grammar::chain))]
+fn ordering(
+    alloc: Global,
+    context: &Context,
+    limit: usize,
+    depth: usize,
+    cursor: &mut Cursor<'_>,
+) -> Result<Expr, SqlFault>
+    ensures { ReadsOn result cursor.new (orders context.now limit (expr context.now limit depth) cursor.old) }
+{
+    let first = joining(alloc, context, limit, depth, cursor)?;
+    operators(alloc, context, limit, depth, Level::Order, first, cursor)
+}
+
+/// `||`, `->` and `->>`, and what stands between.
+#[cycle(grammar)]
+#[inline(always)]
+#[tactic(auto, unfolding(crate::specs::Grammar::chain))]
+fn joining(
+    alloc: Global,
+    context: &Context,
+    limit: usize,
+    depth: usize,
+    cursor: &mut Cursor<'_>,
+) -> Result<Expr, SqlFault>
+    ensures { ReadsOn result cursor.new (joins context.now limit (expr context.now limit depth) cursor.old) }
+{
+    let first = prime(alloc, context, limit, depth, cursor)?;
+    operators(alloc, context, limit, depth, Level::Joining, first, cursor)
+}
+
+/// The operators of a level behind what was read.
+#[cycle(grammar)]
+#[inline(never)]
+#[tactic(auto, using(crate::proofs::GrammarLaws::chains))]
+fn operators(
     alloc: Global,
     context: &Context,
     limit: usize,
     depth: usize,
     level: Level,
+    first: Expr,
     cursor: &mut Cursor<'_>,
 ) -> Result<Expr, SqlFault>
-    ensures { ReadsOn result cursor.new (chain level limit (operand_at level context.now limit (expr context.now limit depth)) cursor.old) }
+    ensures { ReadsOn result cursor.new (more level limit (operand_at level context.now limit (expr context.now limit depth)) first cursor.old) }
 {
-    let mut left = operand(alloc, context, limit, depth, level, cursor)?;
+    let mut left = first;
     'operators: for _turn in 0..limit {
         match step(alloc, context, limit, depth, level, left, cursor)? {
             Step::Done(whole) => return Ok(whole),
@@ -95,6 +168,7 @@ fn step(
 
 /// What stands between the operators of a level.
 #[cycle(grammar)]
+#[inline(never)]
 fn operand(
     alloc: Global,
     context: &Context,
@@ -106,10 +180,10 @@ fn operand(
     ensures { ReadsOn result cursor.new (operand_at level context.now limit (expr context.now limit depth) cursor.old) }
 {
     match level {
-        Level::Or => chain(alloc, context, limit, depth, Level::And, cursor),
+        Level::Or => conjunction(alloc, context, limit, depth, cursor),
         Level::And => negation(alloc, context, limit, depth, limit, cursor),
-        Level::Same => chain(alloc, context, limit, depth, Level::Order, cursor),
-        Level::Order => chain(alloc, context, limit, depth, Level::Joining, cursor),
+        Level::Same => ordering(alloc, context, limit, depth, cursor),
+        Level::Order => joining(alloc, context, limit, depth, cursor),
         Level::Joining => prime(alloc, context, limit, depth, cursor),
     }
 }
@@ -131,7 +205,7 @@ fn negation(
         return Err(cursor.refusal());
     }
     if !cursor.is_keyword(0, Keyword::Not) {
-        return chain(alloc, context, limit, depth, Level::Same, cursor);
+        return equality(alloc, context, limit, depth, cursor);
     }
     if cursor.is_keyword(1, Keyword::In) {
         return Err(cursor.unsupported());
@@ -145,7 +219,8 @@ fn negation(
 
 /// What stands between all operators.
 #[cycle(grammar)]
-#[tactic(auto, unfolding(crate::specs::Grammar::prime, crate::specs::Grammar::plain_name))]
+#[inline(never)]
+#[tactic(auto, unfolding(crate::specs::Grammar::prime))]
 fn prime(
     alloc: Global,
     context: &Context,
@@ -173,10 +248,7 @@ fn prime(
         }
         Some(Word::Name(name)) => {
             let name = name.copy(alloc)?;
-            if cursor.is_mark(1, Mark::Open) {
-                return call(alloc, context, limit, depth, function(&name), cursor);
-            }
-            named_value(alloc, context, name, cursor)
+            plain_name(alloc, context, limit, depth, name, cursor)
         }
         Some(Word::Keyword(keyword)) => {
             let keyword = *keyword;
@@ -189,8 +261,29 @@ fn prime(
     }
 }
 
+/// What begins with an unquoted name.
+#[cycle(grammar)]
+#[inline(never)]
+#[tactic(auto, unfolding(crate::specs::Grammar::plain_name))]
+fn plain_name(
+    alloc: Global,
+    context: &Context,
+    limit: usize,
+    depth: usize,
+    name: Text,
+    cursor: &mut Cursor<'_>,
+) -> Result<Expr, SqlFault>
+    ensures { ReadsOn result cursor.new (plain_name context.now limit (expr context.now limit depth) name cursor.old) }
+{
+    if cursor.is_mark(1, Mark::Open) {
+        return call(alloc, context, limit, depth, function(&name), cursor);
+    }
+    named_value(alloc, context, name, cursor)
+}
+
 /// What begins with a keyword: NULL, TRUE, FALSE or a CAST.
 #[cycle(grammar)]
+#[inline(never)]
 #[tactic(auto, unfolding(crate::specs::Grammar::cast))]
 fn keyword_value(
     alloc: Global,

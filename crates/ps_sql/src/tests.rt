@@ -366,10 +366,7 @@ fn reads_the_queries_of_the_rules_that_are_shown(rt: HostRuntime) -> Result<(), 
         assert_eq!(rt; got.as_str(), want, "{query}");
     }
     let table = [
-        (
-            "SELECT request.user_id() AS user_id",
-            "user_id=USER - -",
-        ),
+        ("SELECT request.user_id() AS user_id", "user_id=USER - -"),
         (
             "SELECT id AS list_id FROM lists WHERE owner_id = request.user_id()",
             "list_id=id lists (owner_id Equal USER)",
@@ -391,10 +388,7 @@ fn reads_the_queries_of_the_rules_that_are_shown(rt: HostRuntime) -> Result<(), 
 fn reads_words_in_any_case(rt: HostRuntime) -> Result<(), Fail> {
     let alloc = rt.alloc();
     let table = [
-        (
-            "sElEcT a fRoM t wHeRe a aNd b",
-            "false a=a t t (a And b)",
-        ),
+        ("sElEcT a fRoM t wHeRe a aNd b", "false a=a t t (a And b)"),
         (
             "SeLeCt a As b FrOm t aS u WhErE a oR b",
             "false b=a t u (a Or b)",
@@ -413,7 +407,10 @@ fn reads_words_in_any_case(rt: HostRuntime) -> Result<(), Fail> {
             "Select tRuE As x, fAlSe As y, nULL As z From t",
             "false x=1 y=0 z=NULL t t -",
         ),
-        ("Select cAsT(a aS tExT) As x From t", "false x=TEXT(a) t t -"),
+        (
+            "Select cAsT(a aS tExT) As x From t",
+            "false x=TEXT(a) t t -",
+        ),
         (
             "Select uPPer(a) As x, LOWER(a) As y From t",
             "false x=Upper(a;) y=Lower(a;) t t -",
@@ -438,10 +435,7 @@ fn reads_words_in_any_case(rt: HostRuntime) -> Result<(), Fail> {
         ("SELECT a FROM t hAvInG a", "unsupported 16"),
         ("SELECT dIsTiNcT a FROM t", "unsupported 7"),
         ("SELECT cAsE FROM t", "unsupported 7"),
-        (
-            "SELECT a FROM t WHERE a bEtWeEn 1 AND 2",
-            "unsupported 24",
-        ),
+        ("SELECT a FROM t WHERE a bEtWeEn 1 AND 2", "unsupported 24"),
         ("SELECT a FROM t WHERE a lIkE b", "unsupported 24"),
         ("SELECT a FROM t WHERE a nOt iN b", "unsupported 24"),
     ];
@@ -450,18 +444,9 @@ fn reads_words_in_any_case(rt: HostRuntime) -> Result<(), Fail> {
         assert_eq!(rt; got.as_str(), want, "{query}");
     }
     let table = [
-        (
-            "Select request.User_Id() As u",
-            "u=USER - -",
-        ),
-        (
-            "Select request.JWT() As u",
-            "u=JWT - -",
-        ),
-        (
-            "Select request.Parameters() As u",
-            "u=PARAMETERS - -",
-        ),
+        ("Select request.User_Id() As u", "u=USER - -"),
+        ("Select request.JWT() As u", "u=JWT - -"),
+        ("Select request.Parameters() As u", "u=PARAMETERS - -"),
         ("Select token_parameters.User_Id", "unsupported 7"),
         ("Select Token_parameters.user_id", "unsupported 7"),
     ];
@@ -541,7 +526,10 @@ fn refuses_what_is_left_out(rt: HostRuntime) -> Result<(), Fail> {
         // values of the asker
         ("SELECT request.jwt() AS u FROM t", "unsupported 7"),
         ("SELECT request.parameters() AS u FROM t", "unsupported 7"),
-        ("SELECT a FROM t WHERE a = request.user_id()", "unsupported 26"),
+        (
+            "SELECT a FROM t WHERE a = request.user_id()",
+            "unsupported 26",
+        ),
         (
             "SELECT a FROM t WHERE token_parameters.user_id = a",
             "unsupported 22",
