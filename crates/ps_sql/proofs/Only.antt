@@ -403,7 +403,7 @@ side_reads context limit depth levels.Order xs e meant small rest end =
     let tests = and_both (free_primary (next rest)) (stops levels.Joining (next rest)) end in turned_closed levels.Joining limit _ xs e rest (meant rest tests.0) small tests.1
 side_reads context limit depth levels.Joining xs e meant small rest end = meant rest end
 
--- a whole expression
+-- a whole expression, in brackets or not
 inner_reads : (context : Context) (limit depth : ℕ) (xs : List Lexeme) (e : Expr) → 0 < depth → Meant context limit (depth - 1) expression xs e → length xs ≤ limit → (rest : Input) → ends (next rest) ≡ true
     → expr context limit depth (ahead xs rest) ≡ Ok (e, rest)
 unfolding whole
@@ -702,11 +702,6 @@ negated_meant context limit depth x xs e word b meant zero long rest end = absur
 negated_meant context limit depth x xs e word b meant (suc turns) long rest end =
     negated_reads (sames context limit (expr context limit depth)) turns x xs e rest word b (meant turns (omega arith) rest end)
 
--- an expression in brackets, or an argument
-held : (context : Context) (limit depth : ℕ) (xs : List Lexeme) (e : Expr) → 0 < depth → Meant context limit (depth - 1) expression xs e → length xs ≤ limit
-    → (rest : Input) → ends (next rest) ≡ true → expr context limit depth (ahead xs rest) ≡ Ok (e, rest)
-held context limit depth xs e deep meant small rest end = inner_reads context limit depth xs e deep meant small rest end
-
 -- what a part of the words leaves of the limits
 record Within (xs : List Lexeme) (limit depth : ℕ) : Type 0 where
   small : length xs ≤ limit
@@ -753,26 +748,26 @@ mutual
   reads {context} (cast_spelled x opening behind type closing {xs = xs} {e = e} {t = t} word p s q r u v) limit depth small deep = λ rest end.
       let w = within_brackets 2 xs (behind ∷ type ∷ closing ∷ []) limit depth (begins s) (omega arith) (omega arith) (omega arith) in
       cast_reads context limit (expr context limit depth) x opening behind type closing xs e t word p
-      (held context limit depth xs e w.deep (reads s limit (depth - 1) w.small w.shallow) w.small) q r u v rest
+      (inner_reads context limit depth xs e w.deep (reads s limit (depth - 1) w.small w.shallow) w.small) q r u v rest
   reads {context} (brackets opening closing {xs = xs} {e = e} word s p) limit depth small deep = λ rest end.
       let w = within_brackets 1 xs (closing ∷ []) limit depth (begins s) (omega arith) (omega arith) (omega arith) in
       brackets_read context limit (expr context limit depth) opening closing xs e word
-      (held context limit depth xs e w.deep (reads s limit (depth - 1) w.small w.shallow) w.small) p rest
+      (inner_reads context limit depth xs e w.deep (reads s limit (depth - 1) w.small w.shallow) w.small) p rest
 
   argued : {context : Context} {xs : List Lexeme} {es : List Expr} → AreArguments context xs es → (limit depth : ℕ) → length xs ≤ limit → length xs ≤ depth → Argued context limit depth xs es
   argued {context} (first {xs = xs} {e = e} s) limit depth small deep = λ rest end.
       let w = within_argument xs limit depth (begins s) small deep in
-      argument_first limit (expr context limit depth) xs e rest (some xs (begins s)) (held context limit depth xs e w.deep (reads s limit (depth - 1) w.small w.shallow) small rest end)
+      argument_first limit (expr context limit depth) xs e rest (some xs (begins s)) (inner_reads context limit depth xs e w.deep (reads s limit (depth - 1) w.small w.shallow) small rest end)
   argued {context} (further {xs = xs} {ys = ys} {es = es} {e = e} comma a p s) limit depth small deep = λ rest end.
       let w = within_argument ys limit depth (begins s) (omega (arith, right_part xs (comma ∷ ys) limit small)) (omega (arith, right_part xs (comma ∷ ys) depth deep)) in
       let front = left_part xs (comma ∷ ys) limit small in
       argument_further limit (expr context limit depth) xs ys comma es e rest
       (argued a limit depth front (left_part xs (comma ∷ ys) depth deep) (ahead (comma ∷ ys) rest) (ends_word comma.word _ p ends_comma)) front p
-      (held context limit depth ys e w.deep (reads s limit (depth - 1) w.small w.shallow) w.small rest end)
+      (inner_reads context limit depth ys e w.deep (reads s limit (depth - 1) w.small w.shallow) w.small rest end)
 
 -- what is spelled as an expression is read
 pub expr_reads : (context : Context) (limit depth : ℕ) (xs : List Lexeme) (e : Expr) → Spells context expression xs e → length xs ≤ limit → length xs ≤ depth → (rest : Input) → ends (next rest) ≡ true
     → expr context limit depth (ahead xs rest) ≡ Ok (e, rest)
 expr_reads context limit depth xs e s small deep rest end =
     let w = within_argument xs limit depth (begins s) small deep in
-    held context limit depth xs e w.deep (reads s limit (depth - 1) w.small w.shallow) small rest end
+    inner_reads context limit depth xs e w.deep (reads s limit (depth - 1) w.small w.shallow) small rest end

@@ -53,8 +53,27 @@ fn conjunction(
 ) -> Result<Expr, SqlFault>
     ensures { ReadsOn result cursor.new (ands context.now limit (expr context.now limit depth) cursor.old) }
 {
-    let first = negation(alloc, context, limit, depth, limit, cursor)?;
+    let first = negatable(alloc, context, limit, depth, cursor)?;
     operators(alloc, context, limit, depth, Level::And, first, cursor)
+}
+
+/// What stands between ANDs. Where no NOT begins it, it costs no call of `negation`.
+#[cycle(grammar)]
+#[inline(always)]
+#[tactic(auto, using(crate::proofs::GrammarLaws::laws))]
+fn negatable(
+    alloc: Global,
+    context: &Context,
+    limit: usize,
+    depth: usize,
+    cursor: &mut Cursor<'_>,
+) -> Result<Expr, SqlFault>
+    ensures { ReadsOn result cursor.new (negation limit (sames context.now limit (expr context.now limit depth)) cursor.old) }
+{
+    if limit == 0 || cursor.is_keyword(0, Keyword::Not) {
+        return negation(alloc, context, limit, depth, limit, cursor);
+    }
+    equality(alloc, context, limit, depth, cursor)
 }
 
 /// `=`, `!=`, IS NULL and IN, and what stands between.
@@ -181,7 +200,7 @@ fn operand(
 {
     match level {
         Level::Or => conjunction(alloc, context, limit, depth, cursor),
-        Level::And => negation(alloc, context, limit, depth, limit, cursor),
+        Level::And => negatable(alloc, context, limit, depth, cursor),
         Level::Same => ordering(alloc, context, limit, depth, cursor),
         Level::Order => joining(alloc, context, limit, depth, cursor),
         Level::Joining => prime(alloc, context, limit, depth, cursor),
@@ -190,6 +209,7 @@ fn operand(
 
 /// NOT, any number of times.
 #[cycle(grammar)]
+#[inline(never)]
 #[tactic(auto, using(crate::proofs::GrammarLaws::laws))]
 fn negation(
     alloc: Global,

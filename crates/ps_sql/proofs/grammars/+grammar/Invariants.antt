@@ -39,6 +39,9 @@ decreases-mark_value l = l.depth * 2 ^ 70 + 2 * 2 ^ 64
 abbrev pub decreases-negation : goal.decreases-negation
 decreases-negation l = l.depth * 2 ^ 70 + 16 * 2 ^ 64 + l.turns
 
+abbrev pub decreases-negatable : goal.decreases-negatable
+decreases-negatable l = l.depth * 2 ^ 70 + 17 * 2 ^ 64
+
 abbrev pub decreases-operand : goal.decreases-operand
 decreases-operand l = l.depth * 2 ^ 70 + (rank_of l.level + 1) * 2 ^ 64
 
