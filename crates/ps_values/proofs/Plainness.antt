@@ -1,5 +1,5 @@
 -- Plain JSON stays as it is, and nests as deep as before.
-use Rattle.std.proofs.Common.{◌≡◌, ℕ, suc, max, Bool, true, false, refl, ap, ◌∙◌, cond, ◌^◌}
+use Rattle.std.proofs.Common.{◌≡◌, ℕ, suc, max, Bool, true, false, refl, sym, ap, ◌∙◌, cond, ◌^◌}
 use Rattle.std.specs.Prelude.{nat_lt}
 use Rattle.serde_json.specs.Data.{Num, unsigned, negative, float, Data, null, boolean, number, string, array, object, Items, no_items, item, Members, no_members, member, depth, items_depth, members_depth}
 use Rattle.serde_json.specs.View.{view}
@@ -68,3 +68,6 @@ made_nests made d e = ap depth e ∙ plain_nests d
 
 pub made_stays : (made d : Data) → made ≡ plain_of d → plain_of made ≡ made
 made_stays made d e = rw e (plain_stays d)
+
+pub floatless_where_plain : (d : Data) → plain_of d ≡ d → has_float d ≡ false
+floatless_where_plain d e = ap has_float (sym e) ∙ plain_floatless d

@@ -1,8 +1,9 @@
 use crate::{
     Boxed, Column, Items, Text, TextFault, Truth, Value, ValueFault, compare,
     compare_is_a_total_order, decimal, decimals_read_back, document, equal_sql,
-    equal_where_both_are_present, json_of_value, object_of_columns, plain, plain_json, quoted,
-    read_decimal, read_json, text_of_json, truth_of, value_of_json,
+    equal_where_both_are_present, json_of_value, object_of_columns, plain, plain_json,
+    plain_json_has_no_float, quoted, read_decimal, read_json, text_of_json, truth_of,
+    value_of_json,
 };
 use serde_json::Value as Json;
 use std::alloc::Global;
@@ -80,6 +81,7 @@ fn decimals_have_no_sign_and_no_leading_zero(rt: HostRuntime) -> Result<(), Fail
         "-9223372036854775808"
     );
     decimals_read_back();
+    plain_json_has_no_float();
     Ok(())
 }
 
