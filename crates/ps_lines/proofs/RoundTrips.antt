@@ -17,7 +17,7 @@ use Rattle.ps_bucket_log.specs.declared.ops.Op.{Op}
 use Rattle.ps_bucket_log.specs.declared.ops.Op.TheVariants.{Put, Remove, Move, Clear}
 use Rattle.ps_bucket_log.specs.Ops.{id_of, checksum, newest}
 use Rattle.ps_bucket_log.specs.Logs.{IsRising}
-use Rattle.ps_lines.proofs.Decimals.{decimal_back}
+use Rattle.ps_values.specs.Laws.{ReadsWhatIsWritten}
 use Rattle.ps_lines.proofs.Texts.{line_shallow}
 use Rattle.ps_lines.specs.declared.faults.LineFault.TheVariants.{BadNumber}
 use Rattle.ps_lines.specs.Types.{Entry, Line, Checkpoint, Diff, Data, Complete, Expires, Unknown}
@@ -29,6 +29,9 @@ use Rattle.ps_lines.specs.Writing.{entry_json, op_json, line_json, op_without_ta
 -- decimals are read as they are written
 abbrev pub ReadsBack : Type 0
 ReadsBack = (n : ℕ) → n ≤ greatest → decimal_of (decimal n) ≡ Some n
+
+pub reads_back : ReadsWhatIsWritten → ReadsBack
+reads_back law n within = (law (decimal n) n).1 (within, refl)
 
 sum_back : (n : ℕ) → n < 2 ^ 32 → (or_fault BadNumber (as_i64 (unsigned n)) >>= sum_of) ≡ Ok (record { 0 = n })
 sum_back n h =
@@ -46,7 +49,7 @@ entry_shape : (entry : Entry) → is_entry (entry_json entry) ≡ true
 unfolding entry_json
 entry_shape entry = refl
 
-all_back : {A : Type 0} (f : A → Json) (is_one : Json → Bool) → ((x : A) → is_one (f x) ≡ true) → (xs : List A) → all_items is_one (items_of (map f xs)) ≡ true
+pub all_back : {A : Type 0} (f : A → Json) (is_one : Json → Bool) → ((x : A) → is_one (f x) ≡ true) → (xs : List A) → all_items is_one (items_of (map f xs)) ≡ true
 all_back f is_one h [] = refl
 all_back f is_one h (x ∷ xs) = rw (h x) (all_back f is_one h xs)
 
@@ -162,9 +165,9 @@ feed_off bytes =
     let long : length (bytes ++ 10 ∷ []) - 1 ≡ length bytes = omega (arith, length-append bytes (10 ∷ [])) in
     rw (long, get_or-append_seam bytes 10 [] 0, take-append_seam bytes (10 ∷ [])) refl
 
-pub read_again : (line : Line) (d : Json) (bytes all : List ℕ) → IsWritable line → SumsFit line → d ≡ line_json line
+pub read_again : ReadsWhatIsWritten → (line : Line) (d : Json) (bytes all : List ℕ) → IsWritable line → SumsFit line → d ≡ line_json line
     → all ≡ bytes ++ 10 ∷ [] → IsUtf8 bytes → (depth d ≤ max_depth → read bytes ≡ Some d) → line_of all ≡ Ok (without_targets line)
 unfolding line_of
-read_again line d bytes all w fits e whole utf8 h =
+read_again law line d bytes all w fits e whole utf8 h =
     let shallow : depth d ≤ max_depth = rw e (line_shallow line) in
-    rw (whole, feed_off bytes, is_utf8-from_IsUtf8 bytes utf8, h shallow, e) (line_back decimal_back line w fits)
+    rw (whole, feed_off bytes, is_utf8-from_IsUtf8 bytes utf8, h shallow, e) (line_back (reads_back law) line w fits)

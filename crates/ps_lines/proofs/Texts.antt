@@ -9,7 +9,7 @@ use Rattle.ps_bucket_log.specs.declared.ops.Op.TheVariants.{Put, Remove, Move, C
 use Rattle.ps_lines.specs.Types.{Entry, Line, Checkpoint, Diff, Data, Complete, Expires, Unknown}
 use Rattle.ps_lines.specs.Writing.{entry_json, op_json, line_json, text_of}
 
-items_plain : {A : Type 0} (f : A → Json) → ((x : A) → has_float (f x) ≡ false) → (xs : List A) → items_have_float (items_of (map f xs)) ≡ false
+pub items_plain : {A : Type 0} (f : A → Json) → ((x : A) → has_float (f x) ≡ false) → (xs : List A) → items_have_float (items_of (map f xs)) ≡ false
 items_plain f h [] = refl
 items_plain f h (x ∷ xs) = rw (h x) (items_plain f h xs)
 
@@ -41,7 +41,7 @@ written line d bytes e h = ap (λ front. front ++ 10 ∷ []) (h (ap has_float e 
 
 -- ---- how deep they nest
 
-items_shallow : {A : Type 0} (f : A → Json) → ((x : A) → depth (f x) ≤ 1) → (xs : List A) → items_depth (items_of (map f xs)) ≤ 1
+pub items_shallow : {A : Type 0} (f : A → Json) → ((x : A) → depth (f x) ≤ 1) → (xs : List A) → items_depth (items_of (map f xs)) ≤ 1
 items_shallow f h [] = omega arith
 items_shallow f h (x ∷ xs) = let here = h x in let there = items_shallow f h xs in omega (arith, here, there)
 

@@ -4,3 +4,5 @@ pub use Rattle.ps_lines.specs.declared.lines.Line.{Line}
 pub use Rattle.ps_lines.specs.declared.lines.Line.TheVariants.{Checkpoint, Diff, Data, Complete, Expires, Unknown}
 pub use Rattle.ps_lines.specs.declared.faults.LineFault.{LineFault}
 pub use Rattle.ps_lines.specs.declared.faults.LineFault.TheVariants.{BadJson, BadShape, BadNumber, Memory}
+pub use Rattle.ps_lines.specs.declared.bodies.Known.{Known}
+pub use Rattle.ps_lines.specs.declared.bodies.StreamBody.{StreamBody}

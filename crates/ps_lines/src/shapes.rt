@@ -33,7 +33,7 @@ fn may_have_number(json: &Json, name: &str) -> bool
     }
 }
 
-fn may_have_text(json: &Json, name: &str) -> bool
+pub fn may_have_text(json: &Json, name: &str) -> bool
     ensures { result ≡ text_may_be_there name.now (view json.now) }
 {
     match json.get(name) {

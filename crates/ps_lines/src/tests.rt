@@ -3,7 +3,9 @@ ghost use Rattle.ps_bucket_log.specs.Ops.{newest};
 ghost use Rattle.ps_bucket_log.specs.Logs.{IsRising};
 ghost use Rattle.ps_lines.specs.Writing.{IsWritable};
 
-use crate::{Entry, Line, LineFault, read_line, write_line};
+use crate::{
+    Entry, Known, Line, LineFault, StreamBody, read_body, read_line, write_body, write_line,
+};
 use ps_bucket_log::{Key, Op};
 use ps_checksum::Sum;
 use ps_values::{Items, OpId, Text};
@@ -326,5 +328,271 @@ fn data_out_of_form_is_refused(rt: HostRuntime) {
     ];
     for (text, fault) in texts {
         assert_eq!(rt; fault_of(rt.alloc(), text), Some(fault), "{text}");
+    }
+}
+
+// A faulty member in each place of a line, and in each operation and entry.
+fn fault_with(
+    alloc: Global,
+    front: &str,
+    member: &str,
+    back: &str,
+) -> Result<Option<LineFault>, Fail> {
+    let text = format!(in alloc; "{front}{member}{back}")?;
+    Ok(fault_of(alloc, text.as_str()))
+}
+
+#[test]
+fn each_member_of_a_put_is_judged(rt: HostRuntime) -> Result<(), Fail> {
+    let alloc = rt.alloc();
+    let front =
+        r#"{"data":{"after":"0","bucket":"b","data":[{"checksum":1,"data":"{}","object_id":"i","object_type":"t","op":"PUT","op_id":"1","subkey":"s","#;
+    let back = r#"}],"has_more":false,"next_after":"1"}}"#;
+    let members = [
+        (r#""checksum":"1""#, LineFault::BadShape),
+        (r#""checksum":null"#, LineFault::BadShape),
+        (r#""checksum":0.5"#, LineFault::BadNumber),
+        (r#""checksum":4294967296"#, LineFault::BadNumber),
+        (r#""checksum":-2147483649"#, LineFault::BadNumber),
+        (r#""data":null"#, LineFault::BadShape),
+        (r#""data":{}"#, LineFault::BadShape),
+        (r#""object_id":1"#, LineFault::BadShape),
+        (r#""object_id":null"#, LineFault::BadShape),
+        (r#""object_type":[]"#, LineFault::BadShape),
+        (r#""op":"put""#, LineFault::BadShape),
+        (r#""op":1"#, LineFault::BadShape),
+        (r#""op_id":1"#, LineFault::BadShape),
+        (r#""op_id":"""#, LineFault::BadNumber),
+        (r#""op_id":"+1""#, LineFault::BadNumber),
+        (r#""op_id":"01""#, LineFault::BadNumber),
+        (r#""op_id":"0""#, LineFault::BadNumber),
+        (r#""op_id":"2""#, LineFault::BadNumber),
+        (r#""subkey":null"#, LineFault::BadShape),
+    ];
+    for (member, fault) in members {
+        assert_eq!(rt;
+            fault_with(alloc, front, member, back)?,
+            Some(fault),
+            "{member}"
+        );
+    }
+    assert_eq!(rt; fault_with(alloc, front, r#""x":0.5"#, back)?, None);
+    Ok(())
+}
+
+#[test]
+fn each_member_of_a_data_line_is_judged(rt: HostRuntime) -> Result<(), Fail> {
+    let alloc = rt.alloc();
+    let front =
+        r#"{"data":{"after":"0","bucket":"b","data":[{"checksum":1,"op":"MOVE","op_id":"1"}],"has_more":false,"next_after":"1","#;
+    let members = [
+        (r#""after":0"#, LineFault::BadShape),
+        (r#""after":null"#, LineFault::BadShape),
+        (r#""after":"-1""#, LineFault::BadNumber),
+        (r#""after":"1""#, LineFault::BadNumber),
+        (r#""bucket":1"#, LineFault::BadShape),
+        (r#""bucket":null"#, LineFault::BadShape),
+        (r#""data":{}"#, LineFault::BadShape),
+        (r#""data":null"#, LineFault::BadShape),
+        (r#""data":[1]"#, LineFault::BadShape),
+        (r#""data":[]"#, LineFault::BadNumber),
+        (r#""has_more":null"#, LineFault::BadShape),
+        (r#""has_more":"false""#, LineFault::BadShape),
+        (r#""next_after":1"#, LineFault::BadShape),
+        (
+            r#""next_after":"9223372036854775808""#,
+            LineFault::BadNumber,
+        ),
+        (r#""next_after":"2""#, LineFault::BadNumber),
+    ];
+    for (member, fault) in members {
+        assert_eq!(rt;
+            fault_with(alloc, front, member, "}}")?,
+            Some(fault),
+            "{member}"
+        );
+    }
+    assert_eq!(rt; fault_with(alloc, front, r#""x":null"#, "}}")?, None);
+    Ok(())
+}
+
+#[test]
+fn each_member_of_a_diff_is_judged(rt: HostRuntime) -> Result<(), Fail> {
+    let alloc = rt.alloc();
+    let front =
+        r#"{"checkpoint_diff":{"last_op_id":"9","removed_buckets":[],"updated_buckets":[],"#;
+    let members = [
+        (r#""last_op_id":9"#, LineFault::BadShape),
+        (r#""last_op_id":null"#, LineFault::BadShape),
+        (r#""last_op_id":"x""#, LineFault::BadNumber),
+        (r#""removed_buckets":null"#, LineFault::BadShape),
+        (r#""removed_buckets":"b""#, LineFault::BadShape),
+        (r#""removed_buckets":[null]"#, LineFault::BadShape),
+        (r#""updated_buckets":null"#, LineFault::BadShape),
+        (r#""updated_buckets":[1]"#, LineFault::BadShape),
+        (
+            r#""updated_buckets":[{"bucket":"b","checksum":1,"count":"1"}]"#,
+            LineFault::BadShape,
+        ),
+        (
+            r#""updated_buckets":[{"bucket":"b","checksum":1,"count":18446744073709551616}]"#,
+            LineFault::BadNumber,
+        ),
+        (
+            r#""updated_buckets":[{"bucket":"b","checksum":1,"priority":"1"}]"#,
+            LineFault::BadShape,
+        ),
+        (
+            r#""updated_buckets":[{"bucket":"b","checksum":1,"priority":-1}]"#,
+            LineFault::BadNumber,
+        ),
+        (
+            r#""updated_buckets":[{"bucket":"b","checksum":1,"priority":4}]"#,
+            LineFault::BadNumber,
+        ),
+        (
+            r#""updated_buckets":[{"bucket":1,"checksum":1}]"#,
+            LineFault::BadShape,
+        ),
+        (r#""write_checkpoint":1"#, LineFault::BadShape),
+        (r#""write_checkpoint":"1.0""#, LineFault::BadNumber),
+    ];
+    for (member, fault) in members {
+        assert_eq!(rt;
+            fault_with(alloc, front, member, "}}")?,
+            Some(fault),
+            "{member}"
+        );
+    }
+    assert_eq!(rt;
+        fault_with(alloc, front, r#""write_checkpoint":null"#, "}}")?,
+        None
+    );
+    Ok(())
+}
+
+const BODY: &str =
+    r#"{"buckets":[{"after":"7","name":"b"},{"after":"0","name":"a"}],"client_id":"c","parameters":{"n":1,"x":null}}"#;
+
+fn known(alloc: Global, bucket: &str, after: u64) -> Result<Known, Fail> {
+    Ok(Known {
+        bucket: Text::from_str(alloc, bucket)?,
+        after: OpId(after),
+    })
+}
+
+fn assert_body(
+    rt: &impl Abort,
+    alloc: Global,
+    text: &str,
+    wanted: &StreamBody,
+) -> Result<(), Fail> {
+    let read = read_body(alloc, text.as_bytes())?;
+    let read = format!(in alloc; "{read:?}")?;
+    let wanted = format!(in alloc; "{wanted:?}")?;
+    assert_eq!(rt; read.as_str(), wanted.as_str());
+    Ok(())
+}
+
+// The body of two buckets, with parameters as they are read.
+fn body(alloc: Global) -> Result<StreamBody, Fail> {
+    let mut positions = Items::new(alloc);
+    positions.push(known(alloc, "b", 7)?)?;
+    positions.push(known(alloc, "a", 0)?)?;
+    Ok(StreamBody {
+        positions,
+        client: Some(Text::from_str(alloc, "c")?),
+        parameters: Text::from_str(alloc, r#"{"n":1,"x":null}"#)?,
+    })
+}
+
+// What is read of a text is written as the other.
+fn assert_rewritten(rt: &impl Abort, alloc: Global, text: &str, written: &str) -> Result<(), Fail> {
+    let body = read_body(alloc, text.as_bytes())?;
+    let bytes = write_body(alloc, &body)?;
+    assert_eq!(rt; bytes.as_slice(), written.as_bytes());
+    Ok(())
+}
+
+#[test]
+fn bodies_are_read(rt: HostRuntime) -> Result<(), Fail> {
+    let alloc = rt.alloc();
+    assert_body(&rt, alloc, BODY, &body(alloc)?)?;
+    let lenient =
+        r#" {"raw_data":true,"parameters":{"x":0.5,"n":1},"include_checksum":false,"z":1,"client_id":"c","buckets":[{"name":"a","after":"9"},{"name":"b","after":"7","y":2},{"after":"0","name":"a"}]} "#;
+    assert_body(&rt, alloc, lenient, &body(alloc)?)?;
+    let empty = StreamBody {
+        positions: Items::new(alloc),
+        client: None,
+        parameters: Text::from_str(alloc, "{}")?,
+    };
+    assert_body(&rt, alloc, "{}", &empty)?;
+    let nulls =
+        r#"{"buckets":null,"client_id":null,"parameters":null,"raw_data":null,"include_checksum":null}"#;
+    assert_body(&rt, alloc, nulls, &empty)
+}
+
+#[test]
+fn bodies_are_written(rt: HostRuntime) -> Result<(), Fail> {
+    let alloc = rt.alloc();
+    assert_rewritten(&rt, alloc, BODY, BODY)?;
+    assert_rewritten(&rt, alloc, "{}", r#"{"buckets":[],"parameters":{}}"#)?;
+    assert_rewritten(
+        &rt,
+        alloc,
+        r#"{"parameters":{"b":-0,"a":[9223372036854775808,"\u00e9"]}}"#,
+        r#"{"buckets":[],"parameters":{"a":[null,"é"],"b":null}}"#,
+    )
+}
+
+#[test]
+fn bodies_out_of_form_are_refused(rt: HostRuntime) {
+    let texts = [
+        ("", LineFault::BadJson),
+        ("{} {}", LineFault::BadJson),
+        (r#"{"parameters":{"a":1e999}}"#, LineFault::BadJson),
+        ("[]", LineFault::BadShape),
+        ("null", LineFault::BadShape),
+        (r#"{"buckets":{}}"#, LineFault::BadShape),
+        (r#"{"buckets":[1]}"#, LineFault::BadShape),
+        (r#"{"buckets":[{"name":"b"}]}"#, LineFault::BadShape),
+        (r#"{"buckets":[{"after":"1"}]}"#, LineFault::BadShape),
+        (
+            r#"{"buckets":[{"name":"b","after":1}]}"#,
+            LineFault::BadShape,
+        ),
+        (
+            r#"{"buckets":[{"name":null,"after":"1"}]}"#,
+            LineFault::BadShape,
+        ),
+        (
+            r#"{"buckets":[{"name":"b","after":"x"}],"raw_data":false}"#,
+            LineFault::BadShape,
+        ),
+        (r#"{"client_id":1}"#, LineFault::BadShape),
+        (r#"{"parameters":[]}"#, LineFault::BadShape),
+        (r#"{"parameters":"{}"}"#, LineFault::BadShape),
+        (r#"{"raw_data":false}"#, LineFault::BadShape),
+        (r#"{"raw_data":1}"#, LineFault::BadShape),
+        (r#"{"include_checksum":0}"#, LineFault::BadShape),
+        (
+            r#"{"buckets":[{"name":"b","after":"01"}]}"#,
+            LineFault::BadNumber,
+        ),
+        (
+            r#"{"buckets":[{"name":"b","after":"9223372036854775808"}]}"#,
+            LineFault::BadNumber,
+        ),
+        (
+            r#"{"buckets":[{"name":"b","after":"x"},{"name":"b","after":"1"}]}"#,
+            LineFault::BadNumber,
+        ),
+    ];
+    for (text, fault) in texts {
+        assert_eq!(rt;
+            read_body(rt.alloc(), text.as_bytes()).err(),
+            Some(fault),
+            "{text}"
+        );
     }
 }

@@ -9,7 +9,7 @@ use crate::objects::Object;
 use crate::{Entry, Line};
 use ps_bucket_log::{Key, Op};
 use ps_checksum::Sum;
-use ps_values::{Memory, OpId, Text};
+use ps_values::{Memory, OpId, Text, decimals_read_back};
 use serde_json::Value as Json;
 use std::alloc::Global;
 
@@ -20,6 +20,7 @@ pub fn write_line(alloc: Global, line: &Line) -> Result<Vec<u8>, Memory>
     ensures value { IfOk result (λ bytes. bytes.items ≡ text_of line.now) }
     ensures read_again { IfOk result (λ bytes. line_of bytes.items ≡ Ok (without_targets line.now)) }
 {
+    decimals_read_back();
     let json = line_json(alloc, line)?;
     let mut bytes = json.to_vec(alloc)?;
     bytes.push(b'\n')?;

@@ -3,3 +3,4 @@ pub mod Faults
 pub mod Floats
 pub mod Objects
 pub mod Orders
+pub mod Plainness

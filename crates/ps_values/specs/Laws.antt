@@ -1,8 +1,11 @@
--- The laws of the order and the equality of values, and of decimal texts.
-use Rattle.std.specs.Prelude.{◌≡◌, ◌≢◌, ℕ, ◌≤◌, ◌⊎◌, ◌↔◌, List, Some, decimal}
+-- The laws of the order and the equality of values, of decimal texts and of plain JSON.
+use Rattle.std.specs.Prelude.{false, ◌≡◌, ◌≢◌, ℕ, ◌≤◌, ◌⊎◌, ◌↔◌, List, Some, decimal}
 use Rattle.std.specs.Ordering.{ordering_reverse}
 use Rattle.std.specs.declared.cmp.Ordering.TheVariants.{Less, Equal}
+use Rattle.serde_json.specs.Data.{Data}
+use Rattle.serde_json.specs.Written.{has_float}
 use Rattle.ps_values.specs.declared.values.Value.{Value}
+use Rattle.ps_values.specs.Conversions.{plain_of}
 use Rattle.ps_values.specs.declared.values.Value.TheVariants.{Null}
 use Rattle.ps_values.specs.declared.values.Truth.TheVariants.{True}
 use Rattle.ps_values.specs.Numbers.{greatest, decimal_of}
@@ -30,3 +33,7 @@ IsEqualWherePresent = (a b : Value) → (equal_sql a b ≡ True) ↔ ((a ≢ Nul
 -- a number up to the greatest has exactly one decimal text, which is read as that number
 abbrev pub ReadsWhatIsWritten : Type 0
 ReadsWhatIsWritten = (text : List ℕ) (n : ℕ) → (decimal_of text ≡ Some n) ↔ ((n ≤ greatest) × (text ≡ decimal n))
+
+-- JSON that stays as it is where it is made plain has no float
+abbrev pub HasNoFloatWherePlain : Type 0
+HasNoFloatWherePlain = (d : Data) → plain_of d ≡ d → has_float d ≡ false

@@ -1,6 +1,7 @@
 ghost use Rattle.std.specs.Prelude.{◌≡◌, [], ◌∷◌, false, IfOk, IfSome, option_map};
 ghost use Rattle.serde_json.specs.View.{view, number_view, items_view, members_view};
 ghost use Rattle.serde_json.specs.Written.{has_float};
+ghost use Rattle.serde_json.specs.Data.{depth};
 ghost use Rattle.ps_values.specs.Documents.{json_of};
 ghost use Rattle.ps_values.specs.Conversions.{first_fault as first_fault_of, numbers_of, numbers_of_items, numbers_of_members, IsValueOf, plain_of, plain_number as plain_number_of, plain_items as plain_items_of, plain_members as plain_members_of};
 
@@ -129,9 +130,21 @@ pub fn plain_json(alloc: Global, text: &Text) -> Result<Option<Json>, Memory>
     ensures floatless { IfOk result (λ plain. IfSome plain (λ json. has_float (view json) ≡ false)) }
 {
     match read_json(alloc, text.bytes())? {
-        Some(json) => Ok(Some(plain(alloc, &json)?)),
+        Some(json) => Ok(Some(plain_value(alloc, &json)?)),
         None => Ok(None),
     }
+}
+
+/// The same JSON with null in place of each number, at any depth, that is no whole number of signed 64 bits.
+/// What is given has no float, nests as deep, and stays as it is where it is made plain again.
+pub fn plain(alloc: Global, json: &Json) -> Result<Json, Memory>
+    ensures value { IfOk result (λ made. view made ≡ plain_of (view json.now)) }
+    ensures floatless { IfOk result (λ made. has_float (view made) ≡ false) }
+    ensures nests { IfOk result (λ made. depth (view made) ≡ depth (view json.now)) }
+    ensures stays { IfOk result (λ made. plain_of (view made) ≡ view made) }
+{
+    let made = plain_value(alloc, json)?;
+    Ok(made)
 }
 
 fn plain_number(number: &Number) -> Json
@@ -145,7 +158,7 @@ fn plain_number(number: &Number) -> Json
 }
 
 #[cycle(plain)]
-fn plain(alloc: Global, json: &Json) -> Result<Json, Memory>
+fn plain_value(alloc: Global, json: &Json) -> Result<Json, Memory>
     ensures { IfOk result (λ made. view made ≡ plain_of (view json.now)) }
 {
     match json {
@@ -164,7 +177,7 @@ fn plain_items(alloc: Global, items: &Vec<Json>) -> Result<Vec<Json>, Memory>
 {
     let mut made = Vec::with_capacity(alloc, items.len())?;
     'items: for item in items {
-        made.push(plain(alloc, item)?)?;
+        made.push(plain_value(alloc, item)?)?;
     }
     Ok(made)
 }
@@ -177,7 +190,7 @@ fn plain_members(alloc: Global, members: &Map<String, Json>) -> Result<Map<Strin
     let mut made = Map::new(alloc);
     'members: for (name, member) in members.iter() {
         let name = String::from_str(alloc, name.as_str())?;
-        put_member(&mut made, name, plain(alloc, member)?)?;
+        put_member(&mut made, name, plain_value(alloc, member)?)?;
     }
     Ok(made)
 }

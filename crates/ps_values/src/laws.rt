@@ -1,7 +1,7 @@
-//! The laws of the order and the equality of values, and of decimal texts. Each is the contract of a
+//! The laws of the order and the equality of values, of decimal texts and of plain JSON. Each is the contract of a
 //! function that does nothing.
 
-ghost use Rattle.ps_values.specs.Laws.{IsAntisymmetric, IsTransitive, IsTotal, TiesTheSame, IsEqualWherePresent, ReadsWhatIsWritten};
+ghost use Rattle.ps_values.specs.Laws.{IsAntisymmetric, IsTransitive, IsTotal, TiesTheSame, IsEqualWherePresent, ReadsWhatIsWritten, HasNoFloatWherePlain};
 
 /// A law: `compare` is a total order, in which only values that are the same are tied.
 pub fn compare_is_a_total_order()
@@ -20,4 +20,9 @@ pub fn equal_where_both_are_present()
 /// number, which is at most 9223372036854775807.
 pub fn decimals_read_back()
     ensures { ReadsWhatIsWritten }
+{}
+
+/// A law: plain JSON, in which each number is a whole number of signed 64 bits, has no float.
+pub fn plain_json_has_no_float()
+    ensures { HasNoFloatWherePlain }
 {}

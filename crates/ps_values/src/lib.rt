@@ -17,10 +17,13 @@ mod values;
 
 pub use boxes::Boxed;
 pub use columns::Column;
-pub use conversions::{ValueFault, plain_json, value_of_json};
+pub use conversions::{ValueFault, plain, plain_json, value_of_json};
 pub use documents::{document, json_of_value, object_of_columns, quoted, read_json, text_of_json};
 pub use ids::{OpId, Position};
-pub use laws::{compare_is_a_total_order, decimals_read_back, equal_where_both_are_present};
+pub use laws::{
+    compare_is_a_total_order, decimals_read_back, equal_where_both_are_present,
+    plain_json_has_no_float,
+};
 pub use lists::Items;
 pub use numbers::{GREATEST, decimal, read_decimal};
 pub use shortage::Memory;

@@ -1,8 +1,9 @@
 use crate::{
     Boxed, Column, Items, Text, TextFault, Truth, Value, ValueFault, compare,
     compare_is_a_total_order, decimal, decimals_read_back, document, equal_sql,
-    equal_where_both_are_present, json_of_value, object_of_columns, plain_json, quoted,
-    read_decimal, read_json, text_of_json, truth_of, value_of_json,
+    equal_where_both_are_present, json_of_value, object_of_columns, plain, plain_json,
+    plain_json_has_no_float, quoted, read_decimal, read_json, text_of_json, truth_of,
+    value_of_json,
 };
 use serde_json::Value as Json;
 use std::alloc::Global;
@@ -80,6 +81,7 @@ fn decimals_have_no_sign_and_no_leading_zero(rt: HostRuntime) -> Result<(), Fail
         "-9223372036854775808"
     );
     decimals_read_back();
+    plain_json_has_no_float();
     Ok(())
 }
 
@@ -178,7 +180,7 @@ fn json_is_no_value_by_its_first_number(rt: HostRuntime) -> Result<(), Fail> {
     Ok(())
 }
 
-fn plain(alloc: Global, written: &str) -> Result<Option<Text>, Fail> {
+fn plain_text(alloc: Global, written: &str) -> Result<Option<Text>, Fail> {
     match plain_json(alloc, &text(alloc, written)?)? {
         Some(json) => Ok(Some(text_of_json(alloc, &json)?)),
         None => Ok(None),
@@ -200,11 +202,32 @@ fn plain_json_has_null_for_other_numbers(rt: HostRuntime) -> Result<(), Fail> {
         ("{}", "{}"),
     ];
     for (written, made) in table {
-        assert_eq!(rt; plain(rt.alloc(), written)?, Some(text(rt.alloc(), made)?));
+        assert_eq!(rt;
+            plain_text(rt.alloc(), written)?,
+            Some(text(rt.alloc(), made)?)
+        );
     }
     for written in ["", "{", "01", "+1", "1e999", "nul", "[1,]", "1 2"] {
-        assert_eq!(rt; plain(rt.alloc(), written)?, None);
+        assert_eq!(rt; plain_text(rt.alloc(), written)?, None);
     }
+    Ok(())
+}
+
+#[test]
+fn what_is_plain_stays(rt: HostRuntime) -> Result<(), Fail> {
+    let Some(json) = read_json(rt.alloc(), b"[0.5,{\"a\":-3}]")? else {
+        return Err("no JSON".into());
+    };
+    let once = plain(rt.alloc(), &json)?;
+    let twice = plain(rt.alloc(), &once)?;
+    assert_eq!(rt;
+        text_of_json(rt.alloc(), &once)?.as_str(),
+        "[null,{\"a\":-3}]"
+    );
+    assert_eq!(rt;
+        text_of_json(rt.alloc(), &twice)?.as_str(),
+        "[null,{\"a\":-3}]"
+    );
     Ok(())
 }
 

@@ -7,4 +7,4 @@ pub returns-clause-value : goal.returns-clause-value
 returns-clause-value c = c.in_ok-push.ensures.items ∙ written c.args.line.now _ _ c.in_ok-json.ensures.value c.in_ok-bytes.ensures.text
 
 pub returns-clause-read_again : goal.returns-clause-read_again
-returns-clause-read_again c = read_again c.args.line.now _ _ _ c.requires c.in_ok-json.ensures.fits c.in_ok-json.ensures.value c.in_ok-push.ensures.items c.in_ok-bytes.ensures.utf8 c.in_ok-bytes.ensures.reads_back
+returns-clause-read_again c = read_again c.decimals_read_back.ensures c.args.line.now _ _ _ c.requires c.in_ok-json.ensures.fits c.in_ok-json.ensures.value c.in_ok-push.ensures.items c.in_ok-bytes.ensures.utf8 c.in_ok-bytes.ensures.reads_back

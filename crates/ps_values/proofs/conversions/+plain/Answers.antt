@@ -27,5 +27,5 @@ plain_members-members-preserved t c =
       tt,
       done ++ e ∷ [],
       all ∙ sym (append_assoc done (e ∷ []) left),
-      rw (c.in_ok-put_member.ensures, named, c.in_ok-plain.ensures, c.members.invariant.4) more,
+      rw (c.in_ok-put_member.ensures, named, c.in_ok-plain_value.ensures, c.members.invariant.4) more,
     )

@@ -1,0 +1,147 @@
+ghost use Rattle.std.specs.Prelude.{◌≡◌, ◌<◌, ◌≤◌, All, IfOk, IsSome, None, map, bytes_eq};
+ghost use Rattle.std.specs.List.{IsDistinct};
+ghost use Rattle.serde_json.specs.View.{view, items_view, members_view};
+ghost use Rattle.serde_json.specs.Data.{depth};
+ghost use Rattle.serde_json.specs.Find.{as_object};
+ghost use Rattle.serde_json.specs.Read.{max_depth};
+ghost use Rattle.serde_json.specs.Written.{compact_text};
+ghost use Rattle.ps_values.specs.Conversions.{plain_of};
+ghost use Rattle.ps_values.specs.Numbers.{greatest};
+ghost use Rattle.ps_lines.specs.Members.{Reads};
+ghost use Rattle.ps_lines.specs.Bodies.{last_ones, known_of, entries_known, positions_of, client_of, plain_text, parameters_of, shaped_body, body_of, IsParameters, IsBody};
+
+use crate::body_shapes::is_body;
+use crate::members::{read_id, read_text};
+use crate::{Known, LineFault, StreamBody};
+use ps_values::{Items, Memory, Text, plain, read_json};
+use serde_json::Value as Json;
+use std::alloc::Global;
+use std::collections::BTreeSet;
+
+/// Reads the body of a stream's request: docs/FORMATS.md, "Stream requests". Of a bucket that is named twice
+/// the last entry counts.
+/// Fails with `BadJson` where the bytes are no JSON; else with `BadShape` where they are no object, or a member
+/// is of the wrong kind or `raw_data` is false; else with `BadNumber` where an `after` is no decimal text.
+#[tactic(auto, unfolding(crate::specs::Bodies::body_of))]
+pub fn read_body(alloc: Global, bytes: &[u8]) -> Result<StreamBody, LineFault>
+    ensures exact { Reads result (body_of bytes.now) }
+    ensures is_one { IfOk result IsBody }
+{
+    let Some(json) = read_json(alloc, bytes)? else {
+        return Err(LineFault::BadJson);
+    };
+    if !is_body(&json) {
+        return Err(LineFault::BadShape);
+    }
+    let body = read_shaped(alloc, &json)?;
+    Ok(body)
+}
+
+fn read_shaped(alloc: Global, json: &Json) -> Result<StreamBody, LineFault>
+    ensures exact { Reads result (shaped_body (view json.now)) }
+    ensures is_one { IfOk result (λ body. depth (view json.now) ≤ max_depth → IsBody body) }
+{
+    let positions = read_positions(alloc, json)?;
+    let client = read_client(alloc, json)?;
+    let parameters = read_parameters(alloc, json)?;
+    Ok(StreamBody {
+        positions,
+        client,
+        parameters,
+    })
+}
+
+fn read_positions(alloc: Global, json: &Json) -> Result<Items<Known>, LineFault>
+    ensures exact { Reads result (positions_of (view json.now)) }
+    ensures distinct { IfOk result (λ positions. IsDistinct bytes_eq (map (λ known. known.bucket) positions)) }
+    ensures within { IfOk result (λ positions. All (λ known. known.after.0 ≤ greatest) positions) }
+{
+    let Some(list) = json.get("buckets").and_then(Json::as_array) else {
+        return Ok(Items::new(alloc));
+    };
+    let entries = read_entries(alloc, list.as_slice())?;
+    let positions = keep_last(alloc, entries)?;
+    Ok(positions)
+}
+
+fn read_entries(alloc: Global, list: &[Json]) -> Result<Items<Known>, LineFault>
+    ensures exact { Reads result (entries_known (items_view list.now)) }
+    ensures within { IfOk result (λ entries. All (λ known. known.after.0 ≤ greatest) entries) }
+{
+    let mut entries = Items::new(alloc);
+    'entries: for json in list {
+        entries.push(read_known(alloc, json)?)?;
+    }
+    Ok(entries)
+}
+
+fn read_known(alloc: Global, json: &Json) -> Result<Known, LineFault>
+    ensures exact { Reads result (known_of (view json.now)) }
+    ensures within { IfOk result (λ known. known.after.0 ≤ greatest) }
+{
+    let bucket = read_text(alloc, json, "name")?;
+    let after = read_id(alloc, json, "after")?;
+    Ok(Known { bucket, after })
+}
+
+// The entries that no later one of the same bucket overrides, in their order.
+fn keep_last(alloc: Global, entries: Items<Known>) -> Result<Items<Known>, Memory>
+    ensures { IfOk result (λ kept. kept ≡ last_ones entries) }
+{
+    let mut entries = entries.into_vec();
+    let mut named = BTreeSet::new(alloc);
+    let mut kept = Vec::new(alloc);
+    'entries: while let Some(known) = entries.pop() {
+        if !named.insert(known.bucket.copy(alloc)?)? {
+            continue;
+        }
+        kept.push(known)?;
+    }
+    kept.as_mut_slice().reverse();
+    Ok(Items::from_vec(kept))
+}
+
+fn read_client(alloc: Global, json: &Json) -> Result<Option<Text>, Memory>
+    ensures { IfOk result (λ client. client ≡ client_of (view json.now)) }
+{
+    match json.get("client_id").and_then(Json::as_str) {
+        Some(client) => Ok(Some(Text::from_str(alloc, client)?)),
+        None => Ok(None),
+    }
+}
+
+fn read_parameters(alloc: Global, json: &Json) -> Result<Text, Memory>
+    ensures value { IfOk result (λ text. text ≡ parameters_of (view json.now)) }
+    ensures is_one { IfOk result (λ text. depth (view json.now) ≤ max_depth → IsParameters text) }
+{
+    let Some(parameters) = json.get("parameters") else {
+        return no_parameters(alloc);
+    };
+    if !parameters.is_object() {
+        return no_parameters(alloc);
+    }
+    let text = plain_parameters(alloc, parameters)?;
+    Ok(text)
+}
+
+// The text of the empty object.
+fn no_parameters(alloc: Global) -> Result<Text, Memory>
+    ensures value { IfOk result (λ text. text ≡ plain_text None) }
+    ensures is_one { IfOk result IsParameters }
+{
+    let text = Text::from_str(alloc, "{}")?;
+    let _utf8 = text.bytes();
+    Ok(text)
+}
+
+// The text of an object that is made plain.
+fn plain_parameters(alloc: Global, json: &Json) -> Result<Text, Memory>
+    ensures value { IfOk result (λ text. text ≡ compact_text (plain_of (view json.now))) }
+    ensures is_one { IfOk result (λ text. IsSome (as_object (view json.now))
+        → depth (view json.now) < max_depth → IsParameters text) }
+{
+    let made = plain(alloc, json)?;
+    let text = Text::from_string(made.to_string(alloc)?);
+    let _utf8 = text.bytes();
+    Ok(text)
+}
