@@ -102,11 +102,16 @@ short bytes = if nat_le (length bytes) longest then Ok bytes else Err (LineTooLo
 abbrev pub shaped : (Json → Bool) → Json → Result Json ChangeFault
 shaped is_such d = if is_such d then Ok d else Err BadShape
 
--- the JSON of bytes; its length is judged first, then that it is JSON, then its whole shape
+-- the JSON of bytes, whose length is judged first
+abbrev pub json_within : List ℕ → Result Json ChangeFault
+json_within bytes = do
+  line ← short bytes
+  or_fault BadJson (json_of line)
+
+-- and then its whole shape
 abbrev pub json_such : (Json → Bool) → List ℕ → Result Json ChangeFault
 json_such is_such bytes = do
-  line ← short bytes
-  json ← or_fault BadJson (json_of line)
+  json ← json_within bytes
   shaped is_such json
 
 -- the transaction of a line; its position is judged before its values

@@ -32,3 +32,8 @@ Adds old new (Err BadShape) meant = meant ≡ Err BadShape
 Adds old new (Err BadPosition) meant = meant ≡ Err BadPosition
 Adds old new (Err BadValue) meant = meant ≡ Err BadValue
 Adds old new (Err Memory) meant = Unit {0}
+
+-- an answer by what is seen of it
+abbrev pub seen_by : {X Y : Type 0} → (X → Y) → Result X ChangeFault → Result Y ChangeFault
+seen_by view (Ok x) = Ok (view x)
+seen_by view (Err fault) = Err fault

@@ -1,13 +1,15 @@
 ghost use Rattle.std.specs.Prelude.{List, IfOk, Ok};
+ghost use Rattle.serde_json.specs.View.{view};
 ghost use Rattle.ps_changes.specs.Types.{Transaction as TransactionData, Change as ChangeData};
-ghost use Rattle.ps_changes.specs.Members.{Reads};
-ghost use Rattle.ps_changes.specs.Lines.{line_of, body_of, lone_change_of};
+ghost use Rattle.ps_changes.specs.Members.{Reads, seen_by};
+ghost use Rattle.ps_changes.specs.Lines.{json_within, line_of, body_of, lone_change_of};
 ghost use Rattle.ps_changes.specs.Grammar.{IsLine, IsBody, IsLoneChange};
 
 use crate::readers::{read_list, read_object, read_transaction};
 use crate::shapes::{has_changes, is_change, is_transaction};
 use crate::{Change, ChangeFault, Transaction};
-use ps_values::{Items, read_json};
+use ps_values::{Items, decimals_read_back, read_json};
+use serde_json::Value as Json;
 use std::alloc::Global;
 
 // The greatest number of bytes of a line.
@@ -17,58 +19,88 @@ const LONGEST: usize = 16777216;
 /// of its compact JSON.
 /// Fails by the first that applies: `LineTooLong`, `BadJson`, `BadShape`, `BadPosition`, `BadValue`. The whole line's shape is judged
 /// before its position, and that before its values.
-#[tactic(auto, unfolding(crate::specs::Lines::line_of))]
+#[tactic(auto, using(crate::proofs::Laws::found_line, crate::proofs::Laws::only_line))]
 pub fn read_line(alloc: Global, bytes: &[u8]) -> Result<Transaction, ChangeFault>
-    ensures { Reads result (line_of bytes.now) }
+    // What is read is spelled so.
+    ensures found { IfOk result (λ read. IsLine bytes.now read) }
+    // What is spelled so is read, unless memory runs out.
+    ensures only { (meant : TransactionData) → IsLine bytes.now meant → Reads result (Ok meant) }
+    // Which fault is the first.
+    ensures exact { Reads result (line_of bytes.now) }
+{
+    decimals_read_back();
+    line(alloc, bytes)
+}
+
+/// Reads the body of an upload, an object with the list `changes`: docs/FORMATS.md, "Change lines".
+/// Fails as `read_line` does, but never with `BadPosition`.
+#[tactic(auto, using(crate::proofs::Laws::found_body, crate::proofs::Laws::only_body))]
+pub fn read_changes(alloc: Global, bytes: &[u8]) -> Result<Items<Change>, ChangeFault>
+    // What is read is spelled so.
+    ensures found { IfOk result (λ read. IsBody bytes.now read) }
+    // What is spelled so is read, unless memory runs out.
+    ensures only { (meant : List ChangeData) → IsBody bytes.now meant → Reads result (Ok meant) }
+    // Which fault is the first.
+    ensures exact { Reads result (body_of bytes.now) }
+{
+    body(alloc, bytes)
+}
+
+/// Reads one change object by itself: docs/FORMATS.md, "Change lines".
+/// Fails as `read_line` does, but never with `BadPosition`.
+#[tactic(auto, using(crate::proofs::Laws::found_change, crate::proofs::Laws::only_change))]
+pub fn read_change(alloc: Global, bytes: &[u8]) -> Result<Change, ChangeFault>
+    // What is read is spelled so.
+    ensures found { IfOk result (λ read. IsLoneChange bytes.now read) }
+    // What is spelled so is read, unless memory runs out.
+    ensures only { (meant : ChangeData) → IsLoneChange bytes.now meant → Reads result (Ok meant) }
+    // Which fault is the first.
+    ensures exact { Reads result (lone_change_of bytes.now) }
+{
+    lone_change(alloc, bytes)
+}
+
+// The JSON of bytes that are no more than a line may have.
+fn json_of_line(alloc: Global, bytes: &[u8]) -> Result<Json, ChangeFault>
+    ensures { Reads (seen_by view result) (json_within bytes.now) }
 {
     if bytes.len() > LONGEST {
-        return Err(ChangeFault::LineTooLong {
-            length: bytes.len() as u64,
-        });
+        let length = bytes.len() as u64;
+        return Err(ChangeFault::LineTooLong { length });
     }
-    let Some(json) = read_json(alloc, bytes)? else {
-        return Err(ChangeFault::BadJson);
-    };
+    match read_json(alloc, bytes)? {
+        Some(json) => Ok(json),
+        None => Err(ChangeFault::BadJson),
+    }
+}
+
+#[tactic(auto, unfolding(crate::specs::Lines::line_of))]
+fn line(alloc: Global, bytes: &[u8]) -> Result<Transaction, ChangeFault>
+    ensures { Reads result (line_of bytes.now) }
+{
+    let json = json_of_line(alloc, bytes)?;
     if !is_transaction(&json) {
         return Err(ChangeFault::BadShape);
     }
     read_transaction(alloc, &json)
 }
 
-/// Reads the body of an upload, an object with the list `changes`: docs/FORMATS.md, "Change lines".
-/// Fails as `read_line` does, but never with `BadPosition`.
 #[tactic(auto, unfolding(crate::specs::Lines::body_of))]
-pub fn read_changes(alloc: Global, bytes: &[u8]) -> Result<Items<Change>, ChangeFault>
+fn body(alloc: Global, bytes: &[u8]) -> Result<Items<Change>, ChangeFault>
     ensures { Reads result (body_of bytes.now) }
 {
-    if bytes.len() > LONGEST {
-        return Err(ChangeFault::LineTooLong {
-            length: bytes.len() as u64,
-        });
-    }
-    let Some(json) = read_json(alloc, bytes)? else {
-        return Err(ChangeFault::BadJson);
-    };
+    let json = json_of_line(alloc, bytes)?;
     if !has_changes(&json) {
         return Err(ChangeFault::BadShape);
     }
     read_list(alloc, &json)
 }
 
-/// Reads one change object by itself: docs/FORMATS.md, "Change lines".
-/// Fails as `read_line` does, but never with `BadPosition`.
 #[tactic(auto, unfolding(crate::specs::Lines::lone_change_of))]
-pub fn read_change(alloc: Global, bytes: &[u8]) -> Result<Change, ChangeFault>
+fn lone_change(alloc: Global, bytes: &[u8]) -> Result<Change, ChangeFault>
     ensures { Reads result (lone_change_of bytes.now) }
 {
-    if bytes.len() > LONGEST {
-        return Err(ChangeFault::LineTooLong {
-            length: bytes.len() as u64,
-        });
-    }
-    let Some(json) = read_json(alloc, bytes)? else {
-        return Err(ChangeFault::BadJson);
-    };
+    let json = json_of_line(alloc, bytes)?;
     if !is_change(&json) {
         return Err(ChangeFault::BadShape);
     }
