@@ -1,10 +1,12 @@
 -- The text of a change line: compact, and members stand in the byte order of their names.
-use Rattle.std.specs.Prelude.{ℕ, List, [], ◌∷◌, map, codes, decimal, Option, Some, None}
+use Rattle.std.specs.Prelude.{◌≢◌, ℕ, ◌<◌, ◌≤◌, List, [], ◌∷◌, All, map, codes, decimal, Option, Some, None, Ok}
 use Rattle.serde_json.specs.Data.{Data as Json, string, array, object, Members, no_members, member}
 use Rattle.serde_json.specs.View.{items_of}
 use Rattle.serde_json.specs.Written.{compact_text}
 use Rattle.ps_values.specs.declared.columns.Column.{Column}
+use Rattle.ps_values.specs.Conversions.{IsValueOf}
 use Rattle.ps_values.specs.Documents.{data_of}
+use Rattle.ps_values.specs.Numbers.{greatest}
 use Rattle.ps_changes.specs.Types.{Change, Transaction}
 
 -- a row's columns, in their order
@@ -42,3 +44,13 @@ change_text change = compact_text (change_json change)
 
 unfoldable pub line_text : Transaction → List ℕ
 line_text transaction = compact_text (transaction_json transaction)
+
+-- what may be written: a position that a line may have, and no empty table
+pub record IsWritable (transaction : Transaction) : Type 0 where
+  pub above : 0 < transaction.position.0
+  pub within : transaction.position.0 ≤ greatest
+  pub filled : All (λ change. change.table ≢ []) transaction.changes
+
+-- a value that is read of its JSON again
+abbrev pub ReadsBack : Column → Type 0
+ReadsBack column = IsValueOf (data_of column.value) (Ok column.value)

@@ -10,6 +10,7 @@ mod shapes;
 mod shown;
 #[cfg(test)]
 mod tests;
+mod writers;
 
 pub use changes::{Change, Transaction};
 pub use faults::ChangeFault;
@@ -17,3 +18,4 @@ pub use lines::{read_change, read_changes, read_line};
 pub use ps_values::Column;
 pub use rows::Row;
 pub use shown::Shown;
+pub use writers::{write_change, write_line};
