@@ -1,5 +1,5 @@
 -- What is read of JSON is spelled so by the grammar.
-use Rattle.std.proofs.Common.{◌≡◌, ◌≢◌, ℕ, ◌<◌, ◌≤◌, Bool, true, false, List, [], ◌∷◌, Option, Some, None, Result, Ok, Err, IfOk, length, cond, codes, leb, ltb, refl, sym, ap, ◌∙◌, arith, subst}
+use Rattle.std.proofs.Common.{◌≡◌, ◌≢◌, ℕ, ◌<◌, ◌≤◌, Bool, true, false, List, [], ◌∷◌, Option, Some, None, Result, Ok, Err, length, cond, codes, refl, sym, ap, ◌∙◌, arith, subst}
 use Rattle.std.specs.Prelude.{bytes_eq, option_and_then, is_none, nat_lt, nat_le, decimal}
 use Rattle.std.proofs.lemmas.Slice.Eq.{bytes_eq-Decides}
 use Rattle.std.proofs.lemmas.Bool.{leb-true, ltb-true}
@@ -16,7 +16,7 @@ use Rattle.ps_values.specs.Numbers.{decimal_of, greatest}
 use Rattle.ps_changes.specs.Types.{Change, Transaction, ChangeFault, LineTooLong, BadJson, BadShape, BadPosition, BadValue}
 use Rattle.ps_changes.specs.Members.{◌>>=◌, or_fault}
 use Rattle.ps_changes.specs.Rows.{is_id}
-use Rattle.ps_changes.specs.Lines.{text_at, value_in, column_of, columns_of, row_in, row_of, filled, change_of, changes_of, changes_in, position_of, transaction_of, short, shaped, json_within, json_such, longest}
+use Rattle.ps_changes.specs.Lines.{text_at, value_in, columns_of, row_in, row_of, filled, change_of, changes_of, changes_in, position_of, transaction_of, short, shaped, json_within, json_such, longest}
 use Rattle.ps_changes.specs.Grammar.{Has, AreColumns, no_columns, passed_over, with_column, HasRow, IsChange, AreChanges, no_changes, with_change, HasChanges, IsTransaction, IsTextOf}
 use Rattle.ps_changes.proofs.Columns.{by_cases}
 

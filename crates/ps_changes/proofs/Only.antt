@@ -1,17 +1,14 @@
 -- What the grammar spells is read so.
-use Rattle.std.proofs.Common.{◌≡◌, ◌≢◌, ℕ, ◌<◌, ◌≤◌, Bool, true, false, List, [], ◌∷◌, Option, Some, None, Result, Ok, Err, length, cond, codes, refl, sym, ap, ◌∙◌, arith, le-leb, lt-ltb, subst}
-use Rattle.std.specs.Prelude.{bytes_eq, nat_lt, decimal, ◌&&◌}
+use Rattle.std.proofs.Common.{◌≡◌, ◌≢◌, ℕ, Bool, true, false, List, [], ◌∷◌, Option, Some, None, Ok, length, codes, refl, sym, ap, arith, le-leb, lt-ltb}
+use Rattle.std.specs.Prelude.{nat_lt, decimal}
 use Rattle.std.proofs.lemmas.Slice.Eq.{bytes_eq-Decides}
-use Rattle.serde_json.specs.Data.{Data as Json, string, array, object, Items, no_items, item, Members, no_members, member}
-use Rattle.serde_json.specs.Find.{get}
+use Rattle.serde_json.specs.Data.{Data as Json, string, Items, Members}
 use Rattle.ps_values.specs.declared.columns.Column.{Column}
 use Rattle.ps_values.specs.declared.values.Value.{Value}
 use Rattle.ps_values.specs.Conversions.{IsValueOf}
-use Rattle.ps_values.specs.Documents.{json_of}
 use Rattle.ps_values.specs.Laws.{ReadsWhatIsWritten}
-use Rattle.ps_values.specs.Numbers.{decimal_of, greatest}
-use Rattle.ps_changes.specs.Types.{Change, Transaction, ChangeFault, BadJson}
-use Rattle.ps_changes.specs.Members.{◌>>=◌, or_fault}
+use Rattle.ps_values.specs.Numbers.{decimal_of}
+use Rattle.ps_changes.specs.Types.{Change, Transaction}
 use Rattle.ps_changes.specs.Rows.{is_id}
 use Rattle.ps_changes.specs.Shapes.{is_change, are_changes, has_changes, is_transaction}
 use Rattle.ps_changes.specs.Lines.{value_in, columns_of, change_of, changes_of, changes_in, transaction_of, json_such, longest}

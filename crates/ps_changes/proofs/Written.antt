@@ -1,7 +1,6 @@
 -- What is written is spelled by the grammar, holds no float and nests little: so it is read again.
-use Rattle.std.proofs.Common.{◌≡◌, ◌≢◌, ℕ, suc, ◌+◌, ◌<◌, ◌≤◌, ◌^◌, ℤ, pos, negsuc, Bool, true, false, List, [], ◌∷◌, ◌++◌, Option, Some, None, Result, Ok, Err, length, get_or, take, drop, map, cond, codes, Ordering, Less, Greater, refl, sym, ap, ◌∙◌, arith, add-one, subst, lt-ltb}
+use Rattle.std.proofs.Common.{◌≡◌, ◌≢◌, ℕ, suc, ◌+◌, ◌<◌, ◌≤◌, ◌^◌, ℤ, pos, negsuc, Bool, true, false, List, [], ◌∷◌, ◌++◌, Option, Some, None, Ok, length, get_or, take, drop, map, codes, Ordering, Less, Greater, refl, sym, ap, ◌∙◌, arith, add-one, subst, lt-ltb}
 use Rattle.std.specs.Prelude.{not, ◌&&◌, ◌≤ℤ◌}
-use Rattle.std.specs.Fmt.{decimal}
 use Rattle.std.specs.List.{All}
 use Rattle.std.specs.Str.{IsUtf8}
 use Rattle.std.specs.Ordering.{nat_cmp, is_lt, ordering_reverse}
@@ -12,7 +11,7 @@ use Rattle.std.proofs.lemmas.List.Elements.{All-head, All-tail}
 use Rattle.std.proofs.lemmas.Slice.Eq.{bytes_eq-Decides}
 use Rattle.std.proofs.lemmas.Str.{is_utf8-from_IsUtf8}
 use Rattle.std.proofs.lemmas.Int.{ints}
-use Rattle.serde_json.specs.Data.{Data as Json, number, string, array, object, Items, Members, member, put, depth, items_depth, members_depth}
+use Rattle.serde_json.specs.Data.{Data as Json, number, member, put, depth, items_depth, members_depth}
 use Rattle.serde_json.specs.Find.{of_integer}
 use Rattle.serde_json.specs.Read.{read, max_depth}
 use Rattle.serde_json.specs.View.{items_of}
@@ -21,12 +20,12 @@ use Rattle.ps_values.specs.declared.columns.Column.{Column}
 use Rattle.ps_values.specs.declared.values.Value.{Value}
 use Rattle.ps_values.specs.declared.values.Value.TheVariants.{Null, Int, Text}
 use Rattle.ps_values.specs.Conversions.{IsValueOf}
-use Rattle.ps_values.specs.Documents.{data_of, json_of}
+use Rattle.ps_values.specs.Documents.{data_of}
 use Rattle.ps_values.specs.Laws.{ReadsWhatIsWritten}
 use Rattle.ps_changes.specs.Types.{Change, Transaction}
 use Rattle.ps_changes.specs.Rows.{is_id, rises_from, is_row}
 use Rattle.ps_changes.specs.Lines.{longest, line_of, lone_change_of}
-use Rattle.ps_changes.specs.Grammar.{AreColumns, no_columns, with_column, IsChange, AreChanges, no_changes, with_change, IsTransaction, IsTextOf, IsLine, IsLoneChange}
+use Rattle.ps_changes.specs.Grammar.{AreColumns, no_columns, with_column, IsChange, AreChanges, no_changes, with_change, IsTransaction, IsTextOf}
 use Rattle.ps_changes.specs.Writing.{members_of, json_with, change_json, transaction_json, change_text, line_text, ReadsBack}
 use Rattle.ps_changes.proofs.Laws.{line_only, lone_change_only}
 

@@ -6,9 +6,7 @@ ghost use Rattle.ps_changes.specs.Members.{Reads, Adds};
 ghost use Rattle.ps_changes.specs.Lines.{text_at, value_in, column_of, columns_of, row_in, row_of, change_of, changes_of, changes_in, position_of, transaction_of};
 
 use crate::{Change, ChangeFault, Row, Transaction};
-use ps_values::{
-    Column, Items, Position, Text, Value, ValueFault, read_decimal, value_of_json,
-};
+use ps_values::{Column, Items, Position, Text, Value, ValueFault, read_decimal, value_of_json};
 use serde_json::{Map, Value as Json};
 use std::alloc::Global;
 

@@ -3,7 +3,6 @@ use Rattle.std.proofs.lemmas.List.{append-nil}
 use Rattle.serde_json.specs.View.{view, members_view}
 use Rattle.ps_changes.specs.Members.{◌>>=◌}
 use Rattle.ps_changes.specs.Lines.{columns_of, column_of}
-use Rattle.ps_changes.specs.Types.{ChangeFault}
 use Rattle.ps_changes.proofs.Columns.{member_more, in_order}
 use Rattle.ps_changes.proofs.readers.read_columns.Goals as goal
 
