@@ -16,7 +16,7 @@ use Rattle.ps_values.specs.Documents.{document_of}
 use Rattle.ps_changes.specs.declared.shown.Shown.{Shown}
 use Rattle.ps_changes.specs.declared.changes.Transaction.{Transaction}
 use Rattle.ps_changes.specs.Lines.{line_of}
-use Rattle.ps_changes.specs.Types.{ChangeFault}
+use Rattle.ps_changes.specs.declared.faults.ChangeFault.{ChangeFault}
 use Rattle.ps_changes.specs.Source.{Key, key_cmp, Version, Source, after_transactions, source_at}
 use Rattle.ps_changes.proofs.Sources.{keys_total, keys_exact, sorted-after_transactions}
 use Rattle.powersync.specs.declared.faults.Fault.{Fault}

@@ -9,7 +9,7 @@ use Rattle.powersync.specs.declared.faults.Fault.TheVariants.{Usage, Rules, Chan
 use Rattle.powersync.specs.declared.rules.Rule.{Rule}
 use Rattle.powersync.specs.ChangeFiles.{transactions_of, last_position}
 use Rattle.powersync.specs.Claims.{claims_of}
-use Rattle.powersync.specs.Commands.{Names, names_of, rules_limit, file_limit, HoldsWithin, ReadsRule, ReadsUser, Prints, RefusesRules, RefusesClaims, RefusesChanges, ExceedsFile, Outside, Caused, Refusal, exceeds, no_rules, no_claims, no_change, within_limit, or_refused, or_line, meaning, IsAnswer, IsExact, ◌>>=◌}
+use Rattle.powersync.specs.Commands.{Names, names_of, rules_limit, file_limit, HoldsWithin, ReadsRule, ReadsUser, Prints, RefusesRules, RefusesClaims, RefusesChanges, ExceedsFile, ExceedsLimit, Outside, Caused, Refusal, exceeds, no_rules, no_claims, no_change, within_limit, or_refused, or_line, meaning, IsAnswer, IsExact, ◌>>=◌}
 use Rattle.powersync.specs.Grants.{due}
 use Rattle.powersync.specs.Rules.{rule_of}
 use Rattle.powersync.specs.Saying.{Told, Says}
@@ -173,3 +173,22 @@ pub exact_err : (held : Option Contents) (words : List (List ℕ)) (read_before 
 exact_err None words read_before read_now old new write_before write_now e status fault c s read written = tt
 exact_err (Some held) words read_before read_now old new write_before write_now e status fault c s read written = λ names rules changes claims command has_rules has_changes has_claims.
     answer_of held words read_before read_now old new write_before write_now e status read written names rules changes claims command has_rules has_changes has_claims fault c s
+
+-- ---- a count past its limit
+
+pub limits_by : (held : Option Contents) (words : List (List ℕ)) (read_before read_now : ℕ) (old new : Option (List ℕ)) (write_before write_now : ℕ) (e : Told) (status : ℕ) (fault : Fault)
+    → Caused (record { held = held; read_before = read_before; read_now = read_now; taken_before = old; taken_now = new; write_before = write_before; write_now = write_now }) words fault → Says e fault status
+    → status ≡ 5 → (seen : ℕ) × ExceedsLimit held words seen
+limits_by held words read_before read_now old new write_before write_now e status Usage c s h = absurd (omega (arith, s.is, h))
+limits_by held words read_before read_now old new write_before write_now e status Rules c s h = absurd (omega (arith, s.is, h))
+limits_by held words read_before read_now old new write_before write_now e status (Change line why) c (inl s) h = absurd (omega (arith, s.is, h))
+limits_by held words read_before read_now old new write_before write_now e status (Change line why) c (inr s) h = absurd (omega (arith, s.is, h))
+limits_by held words read_before read_now old new write_before write_now e status (LongLine seen) c (inl s) h = (seen, inr c.1)
+limits_by held words read_before read_now old new write_before write_now e status (LongLine seen) c (inr s) h = absurd (omega (arith, s.is, h))
+limits_by held words read_before read_now old new write_before write_now e status Claims c s h = absurd (omega (arith, s.is, h))
+limits_by held words read_before read_now old new write_before write_now e status (TooLong seen) c (inl s) h = (seen, inl c.1)
+limits_by held words read_before read_now old new write_before write_now e status (TooLong seen) c (inr s) h = absurd (omega (arith, s.is, h))
+limits_by held words read_before read_now old new write_before write_now e status (CannotRead name) c (inl s) h = absurd (omega (arith, s.is, h))
+limits_by held words read_before read_now old new write_before write_now e status (CannotRead name) c (inr s) h = absurd (omega (arith, s.is, h))
+limits_by held words read_before read_now old new write_before write_now e status CannotWrite c s h = absurd (omega (arith, s.is, h))
+limits_by held words read_before read_now old new write_before write_now e status Memory c s h = absurd (omega (arith, s.is, h))

@@ -1,8 +1,8 @@
 -- The lines of faults, from their parts.
-use Rattle.std.proofs.Common.{◌≡◌, ℕ, List, ◌++◌, refl, ap, append_assoc, codes, decimal}
+use Rattle.std.proofs.Common.{◌≡◌, ℕ, List, ◌++◌, refl, append_assoc, codes, decimal}
 use Rattle.powersync.specs.declared.faults.Fault.TheVariants.{Change, LongLine, TooLong, CannotRead}
 use Rattle.powersync.specs.declared.faults.LineFault.{LineFault}
-use Rattle.powersync.specs.Commands.{fault_line, line_fault_text}
+use Rattle.powersync.specs.Commands.{fault_line}
 use Rattle.powersync.specs.Saying.{end_of_line}
 
 pub change_line : (line : ℕ) (why : LineFault) → fault_line (Change line why) ≡ codes "powersync: change " ++ (decimal line ++ end_of_line why)

@@ -1,7 +1,9 @@
 -- Files of change lines.
 use Rattle.std.specs.Prelude.{ℕ, ◌+◌, Bool, ◌||◌, ◌==◌, nat_lt, if◌then◌else◌, List, [], ◌∷◌, Result, Ok, Err}
 use Rattle.std.specs.List.{list_all, slice_split}
-use Rattle.ps_changes.specs.Types.{Transaction, ChangeFault, LineTooLong, BadJson, BadShape, BadPosition, BadValue, Memory}
+use Rattle.ps_changes.specs.declared.changes.Transaction.{Transaction}
+use Rattle.ps_changes.specs.declared.faults.ChangeFault.{ChangeFault}
+use Rattle.ps_changes.specs.declared.faults.ChangeFault.TheVariants.{LineTooLong, BadJson, BadShape, BadPosition, BadValue, Memory}
 use Rattle.ps_changes.specs.Lines.{line_of}
 use Rattle.powersync.specs.declared.faults.Fault.{Fault}
 use Rattle.powersync.specs.declared.faults.Fault.TheVariants as faults

@@ -267,20 +267,15 @@ fn the_shape_comes_before_the_position_and_that_before_the_values(
     )
 }
 
-// The start of a line, as many spaces as are wanted, and its end.
-fn line_of_length(alloc: Global, length: usize) -> Result<Vec<u8>, Fail> {
-    let mut line = Vec::from_slice(alloc, br#"{"pos":"1","changes":[]}"#)?;
-    for _ in 0..length - line.len() {
-        line.push(b' ')?;
-    }
-    Ok(line)
-}
-
 #[test]
 fn lines_have_at_most_16777216_bytes(rt: HostRuntime) -> Result<(), Fail> {
-    let mut line = line_of_length(rt.alloc(), 16777216)?;
+    let start = br#"{"pos":"1","changes":[]}"#;
+    let mut line = vec![in rt.alloc(); b' '; 16777216]?;
+    'bytes: for (to, byte) in line.iter_mut().zip(start.iter()) {
+        *to = *byte;
+    }
     assert_eq!(rt; read_line(rt.alloc(), line.as_slice()).err(), None);
-    assert_eq!(rt; read_changes(rt.alloc(), line.as_slice()).err(), None);
+    // Where it is longer it is not looked at further.
     line.push(b'{')?;
     let long = Some(ChangeFault::LineTooLong { length: 16777217 });
     assert_eq!(rt; read_line(rt.alloc(), line.as_slice()).err(), long);
