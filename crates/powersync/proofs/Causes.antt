@@ -4,7 +4,7 @@ use Rattle.std.specs.declared.alloc.Global.{Global}
 use Rattle.ps_io.specs.Contents.{Contents, HoldsMore, Gains}
 use Rattle.ps_io.specs.Counts.{Rose}
 use Rattle.powersync.specs.declared.faults.Fault.{Fault}
-use Rattle.powersync.specs.declared.faults.Fault.TheVariants.{Usage, Rules, Change, Claims, TooLong, CannotRead, CannotWrite, Memory}
+use Rattle.powersync.specs.declared.faults.Fault.TheVariants.{Usage, Rules, Change, LongLine, Claims, TooLong, CannotRead, CannotWrite, Memory}
 use Rattle.powersync.specs.declared.rules.Rule.{Rule}
 use Rattle.powersync.specs.Commands.{Names, names_of, rules_limit, file_limit, HoldsWithin, ReadsRule, ReadsUser, Prints, Outside, Kept, Caused}
 use Rattle.powersync.specs.Loading.{Loads, FindsRule, RefusesRule, FindsUser, RefusesUser, FindsRows, RefusesLine}
@@ -28,7 +28,8 @@ pub cause_of_rule : (o : Outside) (words : List (List ℕ)) (names : Names) (fau
     → Loads {X = Rule} o.held names.rules rules_limit o.read_before o.read_now FindsRule RefusesRule (Err fault) → Caused o words fault
 cause_of_rule o words names Usage command kept h = absurd h
 cause_of_rule o words names Rules command kept h = (kept, record { names = names; command = command; bytes = h.0; file = h.1; refused = h.2 })
-cause_of_rule o words names (Change line) command kept h = absurd h.2
+cause_of_rule o words names (Change line why) command kept h = absurd h.2
+cause_of_rule o words names (LongLine length) command kept h = absurd h.2
 cause_of_rule o words names Claims command kept h = absurd h.2
 cause_of_rule o words names (TooLong seen) command kept h = (kept, inl (record { names = names; command = command; more = h.0; file = h.1 }))
 cause_of_rule o words names (CannotRead name) command kept h = (kept, record { names = names; command = command; file = inl h.0 }, h.1)
@@ -47,7 +48,8 @@ pub cause_of_user : (o : Outside) (mid_held : Option Contents) (mid : ℕ) (word
     → Loads {X = List ℕ} mid_held names.claims file_limit mid o.read_now FindsUser RefusesUser (Err fault) → Caused o words fault
 cause_of_user o mid_held mid words names rule Usage same le rules kept h = absurd h
 cause_of_user o mid_held mid words names rule Rules same le rules kept h = absurd h.2
-cause_of_user o mid_held mid words names rule (Change line) same le rules kept h = absurd h.2
+cause_of_user o mid_held mid words names rule (Change line why) same le rules kept h = absurd h.2
+cause_of_user o mid_held mid words names rule (LongLine length) same le rules kept h = absurd h.2
 cause_of_user o mid_held mid words names rule Claims same le rules kept h =
     (kept, record { names = names; rule = rule; rules = rules; bytes = h.0; file = subst (λ x. HoldsWithin x names.claims file_limit h.0) same h.1; refused = h.2 })
 cause_of_user o mid_held mid words names rule (TooLong seen) same le rules kept h =
@@ -64,7 +66,9 @@ pub cause_of_rows : (o : Outside) (mid_held : Option Contents) (mid : ℕ) (word
     → Loads {X = Vec ℕ Global} mid_held names.changes file_limit mid o.read_now (FindsRows rule user) RefusesLine (Err fault) → Caused o words fault
 cause_of_rows o mid_held mid words names rule user Usage same le rules claims kept h = absurd h
 cause_of_rows o mid_held mid words names rule user Rules same le rules claims kept h = absurd h.2
-cause_of_rows o mid_held mid words names rule user (Change line) same le rules claims kept h =
+cause_of_rows o mid_held mid words names rule user (Change line why) same le rules claims kept h =
+    (kept, record { names = names; rule = rule; user = user; rules = rules; claims = claims; bytes = h.0; file = subst (λ x. HoldsWithin x names.changes file_limit h.0) same h.1; refused = h.2 })
+cause_of_rows o mid_held mid words names rule user (LongLine length) same le rules claims kept h =
     (kept, record { names = names; rule = rule; user = user; rules = rules; claims = claims; bytes = h.0; file = subst (λ x. HoldsWithin x names.changes file_limit h.0) same h.1; refused = h.2 })
 cause_of_rows o mid_held mid words names rule user Claims same le rules claims kept h = absurd h.2
 cause_of_rows o mid_held mid words names rule user (TooLong seen) same le rules claims kept h =

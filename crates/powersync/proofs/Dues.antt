@@ -16,8 +16,12 @@ use Rattle.ps_values.specs.Documents.{document_of}
 use Rattle.ps_changes.specs.declared.shown.Shown.{Shown}
 use Rattle.ps_changes.specs.declared.changes.Transaction.{Transaction}
 use Rattle.ps_changes.specs.Lines.{line_of}
+use Rattle.ps_changes.specs.declared.faults.ChangeFault.{ChangeFault}
 use Rattle.ps_changes.specs.Source.{Key, key_cmp, Version, Source, after_transactions, source_at}
 use Rattle.ps_changes.proofs.Sources.{keys_total, keys_exact, sorted-after_transactions}
+use Rattle.powersync.specs.declared.faults.Fault.{Fault}
+use Rattle.powersync.specs.declared.faults.Fault.TheVariants.{Change}
+use Rattle.powersync.specs.declared.faults.LineFault.TheVariants.{NotRising}
 use Rattle.powersync.specs.declared.rules.Rule.{Rule}
 use Rattle.powersync.specs.declared.replicas.Replica.{Replica}
 use Rattle.powersync.specs.Grants.{value_at, is_true, condition_holds, parameter_vectors, Copy, copy_of, granted, Rows, keep_unless, latest, rows_of, due}
@@ -258,23 +262,23 @@ all_upto last top (t ∷ ts) h le =
 
 module _ (number last : ℕ) (lines : List (List ℕ)) (ts : List Transaction) where
   -- what follows a transaction
-  abbrev followed : Transaction → Result (List Transaction) ℕ
+  abbrev followed : Transaction → Result (List Transaction) Fault
   followed t = transactions_from (number + 1) t.position.0 lines >>= λ rest. Ok (t ∷ rest)
 
-  risen : (t : Transaction) (r : Result (List Transaction) ℕ) → last < t.position.0 → ((rest : List Transaction) → r ≡ Ok rest → Rising t.position.0 rest)
+  risen : (t : Transaction) (r : Result (List Transaction) Fault) → last < t.position.0 → ((rest : List Transaction) → r ≡ Ok rest → Rising t.position.0 rest)
       → (r >>= λ rest. Ok (t ∷ rest)) ≡ Ok ts → Rising last ts
   risen t (Ok rest) above k g = let e : t ∷ rest ≡ ts = cc in subst (Rising last) e (above, k rest refl)
-  risen t (Err line) above k g = absurd (cc)
+  risen t (Err fault) above k g = absurd (cc)
 
   past : ((t : Transaction) (rest : List Transaction) → transactions_from (number + 1) t.position.0 lines ≡ Ok rest → Rising t.position.0 rest)
-      → (t : Transaction) (b : Bool) → ltb last t.position.0 ≡ b → (cond b (Ok t) (Err number) >>= followed) ≡ Ok ts → Rising last ts
+      → (t : Transaction) (b : Bool) → ltb last t.position.0 ≡ b → (cond b (Ok t) (Err (Change number (NotRising last t.position.0))) >>= followed) ≡ Ok ts → Rising last ts
   past k t true e g = risen t (transactions_from (number + 1) t.position.0 lines) (ltb-true last t.position.0 e) (k t) g
   past k t false e g = absurd (cc)
 
   accepted : ((t : Transaction) (rest : List Transaction) → transactions_from (number + 1) t.position.0 lines ≡ Ok rest → Rising t.position.0 rest)
-      → (o : Option Transaction) → (rising number last o >>= followed) ≡ Ok ts → Rising last ts
-  accepted k None g = absurd (cc)
-  accepted k (Some t) g = past k t (ltb last t.position.0) refl g
+      → (r : Result Transaction ChangeFault) → (rising number last r >>= followed) ≡ Ok ts → Rising last ts
+  accepted k (Err fault) g = absurd (cc)
+  accepted k (Ok t) g = past k t (ltb last t.position.0) refl g
 
 rises_by : (number last : ℕ) (lines : List (List ℕ)) (ts : List Transaction) → transactions_from number last lines ≡ Ok ts → Rising last ts
 rises_by number last [] ts h = let e : [] ≡ ts = cc in subst (Rising last) e tt

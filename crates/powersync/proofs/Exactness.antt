@@ -5,11 +5,11 @@ use Rattle.std.proofs.lemmas.Bool.Decides.{nat_tests}
 use Rattle.ps_io.specs.Contents.{Contents, HoldsMore}
 use Rattle.ps_io.specs.Counts.{Rose}
 use Rattle.powersync.specs.declared.faults.Fault.{Fault}
-use Rattle.powersync.specs.declared.faults.Fault.TheVariants.{Usage, Rules, Change, Claims, TooLong, CannotRead, CannotWrite, Memory}
+use Rattle.powersync.specs.declared.faults.Fault.TheVariants.{Usage, Rules, Change, LongLine, Claims, TooLong, CannotRead, CannotWrite, Memory}
 use Rattle.powersync.specs.declared.rules.Rule.{Rule}
 use Rattle.powersync.specs.ChangeFiles.{transactions_of, last_position}
 use Rattle.powersync.specs.Claims.{claims_of}
-use Rattle.powersync.specs.Commands.{Names, names_of, rules_limit, file_limit, HoldsWithin, ReadsRule, ReadsUser, Prints, RefusesRules, RefusesClaims, RefusesChange, ExceedsLimit, Outside, Caused, Refusal, exceeds, no_rules, no_claims, no_change, within_limit, or_refused, or_line, meaning, IsAnswer, IsExact, ◌>>=◌}
+use Rattle.powersync.specs.Commands.{Names, names_of, rules_limit, file_limit, HoldsWithin, ReadsRule, ReadsUser, Prints, RefusesRules, RefusesClaims, RefusesChanges, ExceedsFile, ExceedsLimit, Outside, Caused, Refusal, exceeds, no_rules, no_claims, no_change, within_limit, or_refused, or_line, meaning, IsAnswer, IsExact, ◌>>=◌}
 use Rattle.powersync.specs.Grants.{due}
 use Rattle.powersync.specs.Rules.{rule_of}
 use Rattle.powersync.specs.Saying.{Told, Says}
@@ -101,8 +101,8 @@ module _ (held : Contents) (words : List (List ℕ)) (names : Names) (rules chan
       past_rules r.names r.rule r.rules ∙ stage_claims r.rule changes claims there.1
       ∙ ap (λ o. or_refused no_claims o >>= λ user. after_claims r.rule user changes) (ap claims_of (sym there.0) ∙ r.refused)
 
-  means_no_change : (line : ℕ) → RefusesChange (Some held) words line → meaning rules changes claims ≡ Err (no_change line)
-  means_no_change line r =
+  means_no_change : (fault : Fault) → RefusesChanges (Some held) words fault → meaning rules changes claims ≡ Err (no_change fault)
+  means_no_change fault r =
       let there = changes_there r.names r.bytes r.rules.command r.file in
       past_claims r.names r.rule r.user r.rules r.claims ∙ stage_changes r.rule r.user changes there.1
       ∙ ap (λ o. or_line o >>= λ ts. Ok (rows_text (due r.rule r.user ts (last_position 0 ts)))) (ap transactions_of (sym there.0) ∙ r.refused)
@@ -121,7 +121,7 @@ module _ (held : Contents) (words : List (List ℕ)) (names : Names) (rules chan
   more_at other file content limit h has more =
       more_there (file names) content limit has (subst (λ (n : Names). HoldsMore (Some held) (file n) limit) (same_value (names_of words) other names h command) more)
 
-  means_exceeds : (seen : ℕ) → ExceedsLimit (Some held) words seen → meaning rules changes claims ≡ Err exceeds
+  means_exceeds : (seen : ℕ) → ExceedsFile (Some held) words seen → meaning rules changes claims ≡ Err exceeds
   unfolding meaning
   means_exceeds seen (inl r) =
       ap (λ b. b >>= λ bytes. from_rules bytes changes claims) (exceeds_by rules_limit rules (more_at r.names (λ n. n.rules) rules rules_limit r.command has_rules r.file))
@@ -156,8 +156,10 @@ module _ (held : Contents) (words : List (List ℕ)) (read_before read_now : ℕ
   answer_of : (fault : Fault) → Caused (outside held read_before read_now old new write_before write_now) words fault → Says e fault status → IsAnswer (meaning rules changes claims) old new status
   answer_of Usage c s = let wrong : Some names ≡ None = sym command ∙ c.1 in cc
   answer_of Rules c s = answers _ _ old new status (means_no_rules held words names rules changes claims command has_rules has_changes has_claims c.1) (inl (s.is, c.0))
-  answer_of (Change line) c (inl s) = answers _ _ old new status (means_no_change held words names rules changes claims command has_rules has_changes has_claims line c.1) (inl (s.is, c.0))
-  answer_of (Change line) c (inr s) = wanting (meaning rules changes claims) old new status s.is c.0
+  answer_of (Change line why) c (inl s) = answers _ _ old new status (means_no_change held words names rules changes claims command has_rules has_changes has_claims (Change line why) c.1) (inl (s.is, c.0))
+  answer_of (Change line why) c (inr s) = wanting (meaning rules changes claims) old new status s.is c.0
+  answer_of (LongLine length) c (inl s) = answers _ _ old new status (means_no_change held words names rules changes claims command has_rules has_changes has_claims (LongLine length) c.1) (inl (s.is, c.0))
+  answer_of (LongLine length) c (inr s) = wanting (meaning rules changes claims) old new status s.is c.0
   answer_of Claims c s = answers _ _ old new status (means_no_claims held words names rules changes claims command has_rules has_changes has_claims c.1) (inl (s.is, c.0))
   answer_of (TooLong seen) c (inl s) = answers _ _ old new status (means_exceeds held words names rules changes claims command has_rules has_changes has_claims seen c.1) (inl (s.is, c.0))
   answer_of (TooLong seen) c (inr s) = wanting (meaning rules changes claims) old new status s.is c.0
@@ -171,3 +173,22 @@ pub exact_err : (held : Option Contents) (words : List (List ℕ)) (read_before 
 exact_err None words read_before read_now old new write_before write_now e status fault c s read written = tt
 exact_err (Some held) words read_before read_now old new write_before write_now e status fault c s read written = λ names rules changes claims command has_rules has_changes has_claims.
     answer_of held words read_before read_now old new write_before write_now e status read written names rules changes claims command has_rules has_changes has_claims fault c s
+
+-- ---- a count past its limit
+
+pub limits_by : (held : Option Contents) (words : List (List ℕ)) (read_before read_now : ℕ) (old new : Option (List ℕ)) (write_before write_now : ℕ) (e : Told) (status : ℕ) (fault : Fault)
+    → Caused (record { held = held; read_before = read_before; read_now = read_now; taken_before = old; taken_now = new; write_before = write_before; write_now = write_now }) words fault → Says e fault status
+    → status ≡ 5 → (seen : ℕ) × ExceedsLimit held words seen
+limits_by held words read_before read_now old new write_before write_now e status Usage c s h = absurd (omega (arith, s.is, h))
+limits_by held words read_before read_now old new write_before write_now e status Rules c s h = absurd (omega (arith, s.is, h))
+limits_by held words read_before read_now old new write_before write_now e status (Change line why) c (inl s) h = absurd (omega (arith, s.is, h))
+limits_by held words read_before read_now old new write_before write_now e status (Change line why) c (inr s) h = absurd (omega (arith, s.is, h))
+limits_by held words read_before read_now old new write_before write_now e status (LongLine seen) c (inl s) h = (seen, inr c.1)
+limits_by held words read_before read_now old new write_before write_now e status (LongLine seen) c (inr s) h = absurd (omega (arith, s.is, h))
+limits_by held words read_before read_now old new write_before write_now e status Claims c s h = absurd (omega (arith, s.is, h))
+limits_by held words read_before read_now old new write_before write_now e status (TooLong seen) c (inl s) h = (seen, inl c.1)
+limits_by held words read_before read_now old new write_before write_now e status (TooLong seen) c (inr s) h = absurd (omega (arith, s.is, h))
+limits_by held words read_before read_now old new write_before write_now e status (CannotRead name) c (inl s) h = absurd (omega (arith, s.is, h))
+limits_by held words read_before read_now old new write_before write_now e status (CannotRead name) c (inr s) h = absurd (omega (arith, s.is, h))
+limits_by held words read_before read_now old new write_before write_now e status CannotWrite c s h = absurd (omega (arith, s.is, h))
+limits_by held words read_before read_now old new write_before write_now e status Memory c s h = absurd (omega (arith, s.is, h))

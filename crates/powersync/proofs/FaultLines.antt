@@ -1,10 +1,15 @@
 -- The lines of faults, from their parts.
-use Rattle.std.proofs.Common.{◌≡◌, ℕ, List, ◌++◌, refl, ap, append_assoc, codes, decimal}
-use Rattle.powersync.specs.declared.faults.Fault.TheVariants.{Change, TooLong, CannotRead}
+use Rattle.std.proofs.Common.{◌≡◌, ℕ, List, ◌++◌, refl, append_assoc, codes, decimal}
+use Rattle.powersync.specs.declared.faults.Fault.TheVariants.{Change, LongLine, TooLong, CannotRead}
+use Rattle.powersync.specs.declared.faults.LineFault.{LineFault}
 use Rattle.powersync.specs.Commands.{fault_line}
+use Rattle.powersync.specs.Saying.{end_of_line}
 
-pub change_line : (line : ℕ) → fault_line (Change line) ≡ codes "powersync: change " ++ (decimal line ++ codes " not-yet\n")
-change_line line = ap (λ rest. codes "powersync: change " ++ rest) (append_assoc (decimal line) (codes " not-yet") (codes "\n"))
+pub change_line : (line : ℕ) (why : LineFault) → fault_line (Change line why) ≡ codes "powersync: change " ++ (decimal line ++ end_of_line why)
+change_line line why = simp append_assoc
+
+pub long_line : (length : ℕ) → fault_line (LongLine length) ≡ codes "powersync: limit line-bytes " ++ (decimal length ++ codes "\n")
+long_line length = refl
 
 pub too_long_line : (seen : ℕ) → fault_line (TooLong seen) ≡ codes "powersync: limit file-bytes " ++ (decimal seen ++ codes "\n")
 too_long_line seen = refl

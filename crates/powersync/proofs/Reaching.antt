@@ -7,19 +7,20 @@ use Rattle.std.specs.Map.{lookup}
 use Rattle.ps_changes.specs.declared.changes.Transaction.{Transaction}
 use Rattle.ps_changes.specs.Lines.{line_of}
 use Rattle.ps_changes.specs.Source.{Source, after_changes, after_transactions}
+use Rattle.powersync.specs.declared.faults.Fault.{Fault}
 use Rattle.powersync.specs.declared.replicas.Replica.{Replica}
 use Rattle.powersync.specs.declared.rules.Rule.{Rule}
 use Rattle.powersync.specs.ChangeFiles.{lines_of, is_blank, rising, transactions_from, transactions_of, ◌>>=◌}
 use Rattle.powersync.specs.Operations.{StandsFor}
 use Rattle.powersync.specs.Replicating.{Reached, lines_left, bytes_left, before_left}
 
-pub before_none : (r : Result (List Transaction) ℕ) → r ≡ before_left [] r
+pub before_none : (r : Result (List Transaction) Fault) → r ≡ before_left [] r
 before_none (Ok ts) = refl
-before_none (Err line) = refl
+before_none (Err fault) = refl
 
-before_more : (done : List Transaction) (t : Transaction) (r : Result (List Transaction) ℕ) → before_left done (r >>= λ ts. Ok (t ∷ ts)) ≡ before_left (done ++ t ∷ []) r
+before_more : (done : List Transaction) (t : Transaction) (r : Result (List Transaction) Fault) → before_left done (r >>= λ ts. Ok (t ∷ ts)) ≡ before_left (done ++ t ∷ []) r
 before_more done t (Ok ts) = ap Ok (sym (append_assoc done (t ∷ []) ts))
-before_more done t (Err line) = refl
+before_more done t (Err fault) = refl
 
 -- an empty replica stands for the empty source
 pub fresh : (rule : Rule) (replica : Replica) → replica.live.entries ≡ [] → replica.operations.items ≡ [] → StandsFor rule replica []

@@ -4,7 +4,9 @@ use Rattle.ps_io.specs.Contents.{Contents, Holds, HoldsMore, Gains, GainsFront}
 use Rattle.ps_io.specs.Counts.{Rose}
 use Rattle.ps_changes.specs.declared.changes.Transaction.{Transaction}
 use Rattle.powersync.specs.declared.faults.Fault.{Fault}
-use Rattle.powersync.specs.declared.faults.Fault.TheVariants.{Usage, Rules, Change, Claims, TooLong, CannotRead, CannotWrite, Memory}
+use Rattle.powersync.specs.declared.faults.Fault.TheVariants.{Usage, Rules, Change, LongLine, Claims, TooLong, CannotRead, CannotWrite, Memory}
+use Rattle.powersync.specs.declared.faults.LineFault.{LineFault}
+use Rattle.powersync.specs.declared.faults.LineFault.TheVariants.{BadJson, BadShape, BadPosition, BadValue, NotRising}
 use Rattle.powersync.specs.declared.rules.Rule.{Rule}
 use Rattle.powersync.specs.ChangeFiles.{transactions_of, last_position}
 use Rattle.powersync.specs.Claims.{claims_of}
@@ -88,8 +90,8 @@ pub record RefusesClaims (held : Option Contents) (words : List (List ℕ)) : Ty
   pub file : HoldsWithin held names.claims file_limit bytes
   pub refused : claims_of bytes ≡ None
 
--- rules and claims are read, and that is the first line of the change file that is refused
-pub record RefusesChange (held : Option Contents) (words : List (List ℕ)) (line : ℕ) : Type 0 where
+-- rules and claims are read, and that is the fault of the first line of the change file that is refused
+pub record RefusesChanges (held : Option Contents) (words : List (List ℕ)) (fault : Fault) : Type 0 where
   pub names : Names
   pub rule : Rule
   pub user : List ℕ
@@ -97,7 +99,7 @@ pub record RefusesChange (held : Option Contents) (words : List (List ℕ)) (lin
   pub claims : ReadsUser held names user
   pub bytes : List ℕ
   pub file : HoldsWithin held names.changes file_limit bytes
-  pub refused : transactions_of bytes ≡ Err line
+  pub refused : transactions_of bytes ≡ Err fault
 
 -- a file is longer than its limit, and those before it are read
 pub record ExceedsRules (held : Option Contents) (words : List (List ℕ)) (seen : ℕ) : Type 0 where
@@ -122,8 +124,12 @@ pub record ExceedsChanges (held : Option Contents) (words : List (List ℕ)) (se
   pub more : file_limit < seen
   pub file : HoldsMore held names.changes file_limit
 
+abbrev pub ExceedsFile : Option Contents → List (List ℕ) → ℕ → Type 0
+ExceedsFile held words seen = ExceedsRules held words seen ⊎ ExceedsClaims held words seen ⊎ ExceedsChanges held words seen
+
+-- a file is longer than its limit, or the first line of the change file that is refused is
 abbrev pub ExceedsLimit : Option Contents → List (List ℕ) → ℕ → Type 0
-ExceedsLimit held words seen = ExceedsRules held words seen ⊎ ExceedsClaims held words seen ⊎ ExceedsChanges held words seen
+ExceedsLimit held words seen = ExceedsFile held words seen ⊎ RefusesChanges held words (LongLine seen)
 
 -- ---- faults
 
@@ -157,9 +163,10 @@ GainsAFront o = (text : List ℕ) × GainsFront o.taken_before o.taken_now text
 abbrev pub Caused : Outside → List (List ℕ) → Fault → Type 0
 Caused o words Usage = Kept o × (names_of words ≡ None)
 Caused o words Rules = Kept o × RefusesRules o.held words
-Caused o words (Change line) = Kept o × RefusesChange o.held words line
+Caused o words (Change line why) = Kept o × RefusesChanges o.held words (Change line why)
+Caused o words (LongLine length) = Kept o × RefusesChanges o.held words (LongLine length)
 Caused o words Claims = Kept o × RefusesClaims o.held words
-Caused o words (TooLong seen) = Kept o × ExceedsLimit o.held words seen
+Caused o words (TooLong seen) = Kept o × ExceedsFile o.held words seen
 Caused o words (CannotRead name) = Kept o × NamesFile words name × Rose o.read_before o.read_now
 Caused o words CannotWrite = GainsAFront o × IsCommand words × Rose o.write_before o.write_now
 Caused o words Memory = Kept o × IsCommand words
@@ -173,17 +180,26 @@ Outcome o words (Err fault) = Caused o words fault
 abbrev pub status_of : Fault → ℕ
 status_of Usage = 1
 status_of Rules = 2
-status_of (Change line) = 3
+status_of (Change line why) = 3
+status_of (LongLine length) = 5
 status_of Claims = 4
 status_of (TooLong seen) = 5
 status_of (CannotRead name) = 6
 status_of CannotWrite = 7
 status_of Memory = 8
 
+abbrev pub line_fault_text : LineFault → List ℕ
+line_fault_text BadJson = codes "bad-json"
+line_fault_text BadShape = codes "bad-shape"
+line_fault_text BadPosition = codes "bad-position"
+line_fault_text BadValue = codes "bad-value"
+line_fault_text (NotRising last given) = codes "not-rising " ++ decimal last ++ codes " " ++ decimal given
+
 abbrev pub fault_text : Fault → List ℕ
 fault_text Usage = codes "usage"
 fault_text Rules = codes "rules 1:1 not-yet"
-fault_text (Change line) = codes "change " ++ decimal line ++ codes " not-yet"
+fault_text (Change line why) = codes "change " ++ decimal line ++ codes " " ++ line_fault_text why
+fault_text (LongLine length) = codes "limit line-bytes " ++ decimal length
 fault_text Claims = codes "claims"
 fault_text (TooLong seen) = codes "limit file-bytes " ++ decimal seen
 fault_text (CannotRead name) = codes "cannot read " ++ name
@@ -205,7 +221,7 @@ pub data Refusal : Type 0 where
   exceeds : Refusal
   no_rules : Refusal
   no_claims : Refusal
-  no_change : ℕ → Refusal
+  no_change : Fault → Refusal
 
 infixl 10 ◌>>=◌
 abbrev pub ◌>>=◌ : {A B : Type 0} → Result A Refusal → (A → Result B Refusal) → Result B Refusal
@@ -220,9 +236,9 @@ abbrev pub or_refused : {A : Type 0} → Refusal → Option A → Result A Refus
 or_refused refusal None = Err refusal
 or_refused refusal (Some x) = Ok x
 
-abbrev pub or_line : {A : Type 0} → Result A ℕ → Result A Refusal
+abbrev pub or_line : {A : Type 0} → Result A Fault → Result A Refusal
 or_line (Ok x) = Ok x
-or_line (Err line) = Err (no_change line)
+or_line (Err fault) = Err (no_change fault)
 
 -- the printed rows that three files mean, or the first refusal: rules before claims before changes
 unfoldable pub meaning : List ℕ → List ℕ → List ℕ → Result (List ℕ) Refusal
@@ -239,7 +255,7 @@ abbrev pub refusal_status : Refusal → ℕ
 refusal_status exceeds = 5
 refusal_status no_rules = 2
 refusal_status no_claims = 4
-refusal_status (no_change line) = 3
+refusal_status (no_change fault) = status_of fault
 
 -- the status and the output are those that the files mean, or memory was wanting
 abbrev pub IsAnswer : Result (List ℕ) Refusal → Option (List ℕ) → Option (List ℕ) → ℕ → Type 0

@@ -5,7 +5,7 @@ use Rattle.ps_io.specs.Contents.{Contents, HoldsMore}
 use Rattle.ps_io.specs.Counts.{Rose}
 use Rattle.ps_changes.specs.declared.changes.Transaction.{Transaction}
 use Rattle.powersync.specs.declared.faults.Fault.{Fault}
-use Rattle.powersync.specs.declared.faults.Fault.TheVariants.{Usage, Rules, Change, Claims, TooLong, CannotRead, CannotWrite, Memory}
+use Rattle.powersync.specs.declared.faults.Fault.TheVariants.{Usage, Rules, Change, LongLine, Claims, TooLong, CannotRead, CannotWrite, Memory}
 use Rattle.powersync.specs.declared.rules.Rule.{Rule}
 use Rattle.powersync.specs.ChangeFiles.{transactions_of, last_position}
 use Rattle.powersync.specs.Claims.{claims_of}
@@ -19,7 +19,8 @@ abbrev pub Loads : {X : Type 0} → Option Contents → List ℕ → ℕ → ℕ
 Loads held name limit before now Finds Refuses (Ok x) = (bytes : List ℕ) × HoldsWithin held name limit bytes × Finds x bytes
 Loads held name limit before now Finds Refuses (Err Usage) = ⊥
 Loads held name limit before now Finds Refuses (Err Rules) = (bytes : List ℕ) × HoldsWithin held name limit bytes × Refuses Rules bytes
-Loads held name limit before now Finds Refuses (Err (Change line)) = (bytes : List ℕ) × HoldsWithin held name limit bytes × Refuses (Change line) bytes
+Loads held name limit before now Finds Refuses (Err (Change line why)) = (bytes : List ℕ) × HoldsWithin held name limit bytes × Refuses (Change line why) bytes
+Loads held name limit before now Finds Refuses (Err (LongLine length)) = (bytes : List ℕ) × HoldsWithin held name limit bytes × Refuses (LongLine length) bytes
 Loads held name limit before now Finds Refuses (Err Claims) = (bytes : List ℕ) × HoldsWithin held name limit bytes × Refuses Claims bytes
 Loads held name limit before now Finds Refuses (Err (TooLong seen)) = (limit < seen) × HoldsMore held name limit
 Loads held name limit before now Finds Refuses (Err (CannotRead file)) = (file ≡ name) × Rose before now
@@ -40,7 +41,8 @@ FindsRule rule bytes = rule_of bytes ≡ Some rule
 abbrev pub RefusesRule : Fault → List ℕ → Type 0
 RefusesRule Rules bytes = rule_of bytes ≡ None
 RefusesRule Usage bytes = ⊥
-RefusesRule (Change line) bytes = ⊥
+RefusesRule (Change line why) bytes = ⊥
+RefusesRule (LongLine length) bytes = ⊥
 RefusesRule Claims bytes = ⊥
 RefusesRule (TooLong seen) bytes = ⊥
 RefusesRule (CannotRead name) bytes = ⊥
@@ -55,7 +57,8 @@ abbrev pub RefusesUser : Fault → List ℕ → Type 0
 RefusesUser Claims bytes = claims_of bytes ≡ None
 RefusesUser Usage bytes = ⊥
 RefusesUser Rules bytes = ⊥
-RefusesUser (Change line) bytes = ⊥
+RefusesUser (Change line why) bytes = ⊥
+RefusesUser (LongLine length) bytes = ⊥
 RefusesUser (TooLong seen) bytes = ⊥
 RefusesUser (CannotRead name) bytes = ⊥
 RefusesUser CannotWrite bytes = ⊥
@@ -66,7 +69,8 @@ abbrev pub FindsRows : Rule → List ℕ → Vec ℕ Global → List ℕ → Typ
 FindsRows rule user text bytes = (transactions : List Transaction) × (transactions_of bytes ≡ Ok transactions) × (text.items ≡ rows_text (due rule user transactions (last_position 0 transactions)))
 
 abbrev pub RefusesLine : Fault → List ℕ → Type 0
-RefusesLine (Change line) bytes = transactions_of bytes ≡ Err line
+RefusesLine (Change line why) bytes = transactions_of bytes ≡ Err (Change line why)
+RefusesLine (LongLine length) bytes = transactions_of bytes ≡ Err (LongLine length)
 RefusesLine Usage bytes = ⊥
 RefusesLine Rules bytes = ⊥
 RefusesLine Claims bytes = ⊥
@@ -79,7 +83,8 @@ RefusesLine Memory bytes = ⊥
 abbrev pub Prepares : Rule → List ℕ → List ℕ → Result (Vec ℕ Global) Fault → Type 0
 Prepares rule user bytes (Ok text) = FindsRows rule user text bytes
 Prepares rule user bytes (Err Memory) = Unit {0}
-Prepares rule user bytes (Err (Change line)) = RefusesLine (Change line) bytes
+Prepares rule user bytes (Err (Change line why)) = RefusesLine (Change line why) bytes
+Prepares rule user bytes (Err (LongLine length)) = RefusesLine (LongLine length) bytes
 Prepares rule user bytes (Err Usage) = ⊥
 Prepares rule user bytes (Err Rules) = ⊥
 Prepares rule user bytes (Err Claims) = ⊥

@@ -1,8 +1,9 @@
 -- What is said of a fault.
-use Rattle.std.specs.Prelude.{◌≡◌, ◌⊎◌, ℕ, List, Option}
+use Rattle.std.specs.Prelude.{◌≡◌, ◌⊎◌, ◌++◌, ℕ, List, Option, codes}
 use Rattle.powersync.specs.declared.faults.Fault.{Fault}
-use Rattle.powersync.specs.declared.faults.Fault.TheVariants.{Usage, Rules, Change, Claims, TooLong, CannotRead, CannotWrite, Memory}
-use Rattle.powersync.specs.Commands.{Outside, Caused, status_of, fault_line, Tells}
+use Rattle.powersync.specs.declared.faults.Fault.TheVariants.{Usage, Rules, Change, LongLine, Claims, TooLong, CannotRead, CannotWrite, Memory}
+use Rattle.powersync.specs.declared.faults.LineFault.{LineFault}
+use Rattle.powersync.specs.Commands.{Outside, Caused, status_of, line_fault_text, fault_line, Tells}
 
 -- standard error before and after
 pub record Told : Type 0 where
@@ -20,7 +21,8 @@ pub record SaysFault (e : Told) (fault : Fault) (status : ℕ) : Type 0 where
 abbrev pub Says : Told → Fault → ℕ → Type 0
 Says e Usage status = SaysFault e Usage status
 Says e Rules status = SaysFault e Rules status
-Says e (Change line) status = SaysFault e (Change line) status ⊎ SaysFault e Memory status
+Says e (Change line why) status = SaysFault e (Change line why) status ⊎ SaysFault e Memory status
+Says e (LongLine length) status = SaysFault e (LongLine length) status ⊎ SaysFault e Memory status
 Says e Claims status = SaysFault e Claims status
 Says e (TooLong seen) status = SaysFault e (TooLong seen) status ⊎ SaysFault e Memory status
 Says e (CannotRead name) status = SaysFault e (CannotRead name) status ⊎ SaysFault e Memory status
@@ -30,3 +32,7 @@ Says e Memory status = SaysFault e Memory status
 -- a fault that has its cause, and what is said of it. Of a fault for whose line memory was wanting it is said that memory is wanting
 abbrev pub SaysCause : Outside → Told → List (List ℕ) → ℕ → Type 0
 SaysCause o e words status = (fault : Fault) × Caused o words fault × Says e fault status
+
+-- the end of the line of a change line's fault
+abbrev pub end_of_line : LineFault → List ℕ
+end_of_line why = codes " " ++ (line_fault_text why ++ codes "\n")

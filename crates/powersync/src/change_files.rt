@@ -1,10 +1,10 @@
-ghost use Rattle.std.specs.Prelude.{◌≡◌, ◌==◌, ◌<◌, ◌^◌, ◌∷◌, [], length, IfSome, MatchOption};
+ghost use Rattle.std.specs.Prelude.{◌≡◌, Err, ◌==◌, ◌<◌, ◌^◌, ◌∷◌, [], length, IfSome, MatchOption};
 ghost use Rattle.std.specs.List.{position};
 ghost use Rattle.ps_changes.specs.Lines.{line_of};
 ghost use Rattle.powersync.specs.ChangeFiles.{lines_of, is_blank as is_blank_line, rising};
 ghost use Rattle.powersync.specs.Replicating.{Replicates, ReadsRising};
 
-use crate::faults::Fault;
+use crate::faults::{Fault, LineFault};
 use crate::replicas::Replica;
 use crate::rules::Rule;
 use crate::writing::write_transaction;
@@ -40,7 +40,7 @@ pub fn is_blank(line: &[u8]) -> bool
 }
 
 /// Replicates a change file: the replica of the source after its transactions.
-/// `Change` comes exactly where a line is refused, with the first such line.
+/// Fails by the first line that is refused: with `LongLine` where it is longer than a line may be, and else with `Change`.
 pub fn replicate(alloc: Global, rule: &Rule, changes: &[u8]) -> Result<Replica, Fault>
     requires { length changes.now < 2 ^ 63 }
     ensures { Replicates rule.now changes.now result }
@@ -72,13 +72,25 @@ fn read_rising(alloc: Global, line: &[u8], number: u64, last: u64) -> Result<Tra
 {
     match read_line(alloc, line) {
         Ok(transaction) => {
-            if last < transaction.position.0 {
+            let given = transaction.position.0;
+            if last < given {
                 Ok(transaction)
             } else {
-                Err(Fault::Change { line: number })
+                refuse(number, LineFault::NotRising { last, given })
             }
         }
-        Err(ChangeFault::NotYet) => Err(Fault::Change { line: number }),
+        Err(ChangeFault::LineTooLong { length }) => Err(Fault::LongLine { length }),
+        Err(ChangeFault::BadJson) => refuse(number, LineFault::BadJson),
+        Err(ChangeFault::BadShape) => refuse(number, LineFault::BadShape),
+        Err(ChangeFault::BadPosition) => refuse(number, LineFault::BadPosition),
+        Err(ChangeFault::BadValue) => refuse(number, LineFault::BadValue),
         Err(ChangeFault::Memory) => Err(Fault::Memory),
     }
+}
+
+// Refuses a line.
+fn refuse(line: u64, why: LineFault) -> Result<Transaction, Fault>
+    ensures { result ≡ Err (Fault.Change line why) }
+{
+    Err(Fault::Change { line, why })
 }

@@ -1,6 +1,26 @@
 use ps_values::{Memory, Text};
 use std::alloc::{AllocError, AllocFailed};
 
+/// Why a change line is refused: docs/FORMATS.md, "Change lines". Of several faults the one that stands first here is answered.
+#[derive(Clone, Copy, Debug, PartialEq, Eq)]
+pub enum LineFault {
+    /// It holds no JSON value.
+    BadJson,
+    /// A member is missing or of the wrong kind, a table is empty, or an operation is not known.
+    BadShape,
+    /// The position is no decimal text from 1 to 9223372036854775807.
+    BadPosition,
+    /// A number in a row, at any depth, is no whole number of signed 64 bits.
+    BadValue,
+    /// The position is not past that of the transaction before.
+    NotRising {
+        /// The position of the transaction before; 0 where there is none.
+        last: u64,
+        /// The line's position.
+        given: u64,
+    },
+}
+
 /// Why the program did not do what it was asked: docs/FORMATS.md, "Fault texts".
 #[derive(Debug, Drop)]
 pub enum Fault {
@@ -8,10 +28,17 @@ pub enum Fault {
     Usage,
     /// The rules file is no rule of the form that is read.
     Rules,
-    /// A change line is no transaction of the form that is read, or its position does not rise.
+    /// A change line is no transaction, or its position does not rise.
     Change {
         /// The line's number, counted from 1.
         line: u64,
+        /// What is wrong with it.
+        why: LineFault,
+    },
+    /// A change line is longer than a line may be.
+    LongLine {
+        /// How many bytes it has.
+        length: u64,
     },
     /// The claims file is not of its form.
     Claims,

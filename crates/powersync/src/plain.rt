@@ -1,7 +1,8 @@
 ghost use Rattle.std.specs.Prelude.{◌≡◌, ◌≢◌, ◌≤◌, ◌↔◌, ℕ, List, [], ◌∷◌, None, true, bytes_eq, codes};
 ghost use Rattle.ps_io.specs.Counts.{Rose};
-ghost use Rattle.powersync.specs.Commands.{names_of, Outcome, Prints, RefusesRules, RefusesChange, RefusesClaims, ExceedsLimit, IsExact};
+ghost use Rattle.powersync.specs.Commands.{names_of, Outcome, Prints, RefusesRules, RefusesChanges, RefusesClaims, ExceedsLimit, IsExact};
 ghost use Rattle.powersync.specs.Saying.{SaysCause};
+ghost use Rattle.powersync.specs.declared.faults.LineFault.{LineFault as LineFaultData};
 
 use crate::faults::Fault;
 use crate::loading::{load_rows, load_rule, load_user};
@@ -94,7 +95,7 @@ pub fn run_plain<F: Files, K: Sink, E: Sink>(
     // Statuses 1 to 8, each by its cause.
     ensures usage { (result ≡ 1) ↔ (names_of words.now ≡ None) }
     ensures rules { result ≡ 2 → RefusesRules (F.held files.old) words.now }
-    ensures changes { result ≡ 3 → (line : ℕ) × RefusesChange (F.held files.old) words.now line }
+    ensures changes { result ≡ 3 → (line : ℕ) × (why : LineFaultData) × RefusesChanges (F.held files.old) words.now (Fault.Change line why) }
     ensures claims { result ≡ 4 → RefusesClaims (F.held files.old) words.now }
     ensures limits { result ≡ 5 → (seen : ℕ) × ExceedsLimit (F.held files.old) words.now seen }
     ensures unread { result ≡ 6 → Rose (F.faults files.old) (F.faults files.new) }

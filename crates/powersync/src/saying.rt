@@ -1,8 +1,8 @@
 ghost use Rattle.std.specs.Prelude.{◌≡◌, ◌++◌, codes, decimal, string_bytes, IfOk};
 ghost use Rattle.powersync.specs.Commands.{Tells};
-ghost use Rattle.powersync.specs.Saying.{Says};
+ghost use Rattle.powersync.specs.Saying.{Says, end_of_line};
 
-use crate::faults::Fault;
+use crate::faults::{Fault, LineFault};
 use ps_io::Sink;
 use ps_values::{Memory, Text};
 use std::alloc::Global;
@@ -46,10 +46,34 @@ fn say_memory<E: Sink>(err: &mut E) -> u8
     8
 }
 
-fn say_change<E: Sink>(alloc: Global, err: &mut E, line: u64) -> u8
-    ensures { Says (record { old = E.taken err.old; new = E.taken err.new; before = E.faults err.old; now = E.faults err.new }) (Fault.Change line) result }
+// What is wrong with a change line, between spaces, as the end of a line.
+fn line_end(alloc: Global, why: LineFault) -> Result<String, Memory>
+    ensures { IfOk result (λ text. string_bytes text ≡ end_of_line why) }
 {
-    match numbered_line(alloc, "powersync: change ", line, " not-yet\n") {
+    match why {
+        LineFault::BadJson => Ok(String::from_str(alloc, " bad-json\n")?),
+        LineFault::BadShape => Ok(String::from_str(alloc, " bad-shape\n")?),
+        LineFault::BadPosition => Ok(String::from_str(alloc, " bad-position\n")?),
+        LineFault::BadValue => Ok(String::from_str(alloc, " bad-value\n")?),
+        LineFault::NotRising { last, given } => {
+            let given = numbered_line(alloc, " ", given, "\n")?;
+            numbered_line(alloc, " not-rising ", last, given.as_str())
+        }
+    }
+}
+
+// The line of a fault of a change line.
+fn change_line(alloc: Global, line: u64, why: LineFault) -> Result<String, Memory>
+    ensures { IfOk result (λ text. string_bytes text ≡ codes "powersync: change " ++ (decimal line ++ end_of_line why)) }
+{
+    let end = line_end(alloc, why)?;
+    numbered_line(alloc, "powersync: change ", line, end.as_str())
+}
+
+fn say_change<E: Sink>(alloc: Global, err: &mut E, line: u64, why: LineFault) -> u8
+    ensures { Says (record { old = E.taken err.old; new = E.taken err.new; before = E.faults err.old; now = E.faults err.new }) (Fault.Change line why) result }
+{
+    match change_line(alloc, line, why) {
         Ok(text) => {
             tell(err, text.as_str().as_bytes());
             3
@@ -62,6 +86,18 @@ fn say_too_long<E: Sink>(alloc: Global, err: &mut E, seen: u64) -> u8
     ensures { Says (record { old = E.taken err.old; new = E.taken err.new; before = E.faults err.old; now = E.faults err.new }) (Fault.TooLong seen) result }
 {
     match numbered_line(alloc, "powersync: limit file-bytes ", seen, "\n") {
+        Ok(text) => {
+            tell(err, text.as_str().as_bytes());
+            5
+        }
+        Err(_) => say_memory(err),
+    }
+}
+
+fn say_long_line<E: Sink>(alloc: Global, err: &mut E, length: u64) -> u8
+    ensures { Says (record { old = E.taken err.old; new = E.taken err.new; before = E.faults err.old; now = E.faults err.new }) (Fault.LongLine length) result }
+{
+    match numbered_line(alloc, "powersync: limit line-bytes ", length, "\n") {
         Ok(text) => {
             tell(err, text.as_str().as_bytes());
             5
@@ -96,7 +132,8 @@ pub fn say<E: Sink>(alloc: Global, err: &mut E, fault: &Fault) -> u8
             tell(err, b"powersync: rules 1:1 not-yet\n");
             2
         }
-        Fault::Change { line } => say_change(alloc, err, *line),
+        Fault::Change { line, why } => say_change(alloc, err, *line, *why),
+        Fault::LongLine { length } => say_long_line(alloc, err, *length),
         Fault::Claims => {
             tell(err, b"powersync: claims\n");
             4

@@ -102,13 +102,21 @@ fn each_refusal_has_its_status_and_text(rt: HostRuntime) -> Result<(), Fail> {
     let blank_lines = "\n \t\r\n{\"pos\":\"1\",\"changes\":[]}\n\n{\"pos\":\"1\",\"changes\":[]}";
     'table: for (rules, changes, claims, status, said) in [
         ("", CHANGES, CLAIMS, 2, "powersync: rules 1:1 not-yet\n"),
-        (RULES, "{}", CLAIMS, 3, "powersync: change 1 not-yet\n"),
+        (RULES, "{", CLAIMS, 3, "powersync: change 1 bad-json\n"),
+        (RULES, "{}", CLAIMS, 3, "powersync: change 1 bad-shape\n"),
+        (
+            RULES,
+            "\n{\"pos\":\"0\",\"changes\":[]}",
+            CLAIMS,
+            3,
+            "powersync: change 2 bad-position\n",
+        ),
         (
             RULES,
             blank_lines,
             CLAIMS,
             3,
-            "powersync: change 5 not-yet\n",
+            "powersync: change 5 not-rising 1 1\n",
         ),
         (RULES, CHANGES, "{}", 4, "powersync: claims\n"),
         ("", "{}", "{}", 2, "powersync: rules 1:1 not-yet\n"),
@@ -119,6 +127,66 @@ fn each_refusal_has_its_status_and_text(rt: HostRuntime) -> Result<(), Fail> {
         assert_eq!(rt; refused.said.as_slice(), said.as_bytes());
         assert_eq!(rt; refused.printed.len(), 0);
     }
+    Ok(())
+}
+
+// A change line that puts one row with that value.
+fn line_with(alloc: Global, value: &str) -> Result<String, Fail> {
+    let line = format!(in alloc;
+        "{{\"pos\":\"5\",\"changes\":[{{\"op\":\"PUT\",\"table\":\"items\",\"id\":\"a\",\"row\":{{\"owner\":\"ann\",\"n\":{value}}}}}]}}\n"
+    )?;
+    Ok(line)
+}
+
+#[test]
+fn values_are_whole_numbers_of_64_bits(rt: HostRuntime) -> Result<(), Fail> {
+    'values: for value in ["1.5", "9223372036854775808", "[1.5]"] {
+        let line = line_with(rt.alloc(), value)?;
+        let refused = rows(rt.alloc(), RULES, line.as_str(), CLAIMS)?;
+        assert_eq!(rt; refused.status, 3);
+        assert_eq!(rt;
+            refused.said.as_slice(),
+            "powersync: change 1 bad-value\n".as_bytes()
+        );
+    }
+    let line = line_with(rt.alloc(), "-9223372036854775808")?;
+    let taken = rows(rt.alloc(), RULES, line.as_str(), CLAIMS)?;
+    assert_eq!(rt; taken.status, 0);
+    let printed = "\"items\" \"a\" {\"id\":\"a\",\"n\":-9223372036854775808,\"owner\":\"ann\"}\n";
+    assert_eq!(rt; taken.printed.as_slice(), printed.as_bytes());
+    let nested = line_with(rt.alloc(), "[1,{\"a\":null}]")?;
+    let taken = rows(rt.alloc(), RULES, nested.as_str(), CLAIMS)?;
+    let printed =
+        "\"items\" \"a\" {\"id\":\"a\",\"n\":\"[1,{\\\"a\\\":null}]\",\"owner\":\"ann\"}\n";
+    assert_eq!(rt; taken.printed.as_slice(), printed.as_bytes());
+    let twice = format!(in rt.alloc(); "{line}{line}")?;
+    let refused = rows(rt.alloc(), RULES, twice.as_str(), CLAIMS)?;
+    assert_eq!(rt; refused.status, 3);
+    assert_eq!(rt;
+        refused.said.as_slice(),
+        "powersync: change 2 not-rising 5 5\n".as_bytes()
+    );
+    Ok(())
+}
+
+#[test]
+fn long_lines_exceed_the_limit(rt: HostRuntime) -> Result<(), Fail> {
+    let mut mebibyte = String::new(rt.alloc());
+    'bytes: for _ in 0..1048576 {
+        mebibyte.push_str("a")?;
+    }
+    let mut long = String::from_str(rt.alloc(), "\na")?;
+    'mebibytes: for _ in 0..16 {
+        long.push_str(mebibyte.as_str())?;
+    }
+    long.push_str("\n{}")?;
+    let refused = rows(rt.alloc(), RULES, long.as_str(), CLAIMS)?;
+    assert_eq!(rt; refused.status, 5);
+    assert_eq!(rt;
+        refused.said.as_slice(),
+        "powersync: limit line-bytes 16777217\n".as_bytes()
+    );
+    assert_eq!(rt; refused.printed.len(), 0);
     Ok(())
 }
 

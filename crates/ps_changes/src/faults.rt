@@ -1,11 +1,23 @@
 use ps_values::Memory;
 use std::alloc::{AllocError, AllocFailed};
 
-/// Why a change line was not read.
+/// Why a change line, an upload's body or a change by itself was not read: docs/FORMATS.md, "Change lines". Of several faults the
+/// one that stands first here is answered.
 #[derive(Clone, Copy, Debug, PartialEq, Eq)]
 pub enum ChangeFault {
-    /// The line is no transaction of the form that is read: docs/FORMATS.md, "Change lines".
-    NotYet,
+    /// There are more than 16,777,216 bytes.
+    LineTooLong {
+        /// How many there are.
+        length: u64,
+    },
+    /// The bytes hold no JSON value (RFC 8259).
+    BadJson,
+    /// A member is missing or of the wrong kind, a table is empty, or an operation is not known.
+    BadShape,
+    /// The position is no decimal text from 1 to 9223372036854775807.
+    BadPosition,
+    /// A number in a row, at any depth, is no whole number of signed 64 bits.
+    BadValue,
     /// Want of memory.
     Memory,
 }

@@ -4,14 +4,18 @@
 mod changes;
 mod faults;
 mod lines;
+mod readers;
 mod rows;
+mod shapes;
 mod shown;
 #[cfg(test)]
 mod tests;
+mod writers;
 
 pub use changes::{Change, Transaction};
 pub use faults::ChangeFault;
-pub use lines::read_line;
+pub use lines::{read_change, read_changes, read_line};
 pub use ps_values::Column;
 pub use rows::Row;
 pub use shown::Shown;
+pub use writers::{write_change, write_line};

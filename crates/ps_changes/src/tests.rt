@@ -1,4 +1,7 @@
-use crate::{ChangeFault, Column, Row, Shown, Transaction, read_line};
+use crate::{
+    Change, ChangeFault, Column, Row, Shown, Transaction, read_change, read_changes, read_line,
+    write_change, write_line,
+};
 use ps_values::{GREATEST, Text, Value};
 use std::alloc::{AllocError, Global};
 use std::process::Abort;
@@ -23,18 +26,22 @@ fn show_row(out: &mut String, row: &Row) -> Result<(), AllocError> {
     Ok(())
 }
 
+fn show_change(out: &mut String, change: &Change) -> Result<(), AllocError> {
+    let (table, id) = (change.table.as_str(), change.id.as_str());
+    match &change.row {
+        Some(row) => {
+            write!(out, "; put {table} {id}")?;
+            show_row(out, row)
+        }
+        None => write!(out, "; delete {table} {id}"),
+    }
+}
+
 // A transaction as a line of text: its position, and each change with its table, its id and the columns of its row.
 fn show(out: &mut String, transaction: &Transaction) -> Result<(), AllocError> {
     write!(out, "{}", transaction.position.0)?;
     for change in transaction.changes.as_slice() {
-        let (table, id) = (change.table.as_str(), change.id.as_str());
-        match &change.row {
-            Some(row) => {
-                write!(out, "; put {table} {id}")?;
-                show_row(out, row)?;
-            }
-            None => write!(out, "; delete {table} {id}")?,
-        }
+        show_change(out, change)?;
     }
     Ok(())
 }
@@ -56,9 +63,10 @@ fn agree(rt: &(impl Abort + AllocGlobal), rows: &[(&str, &str)]) -> Result<(), F
     Ok(())
 }
 
-// Whether each of these is refused as the middle of a line.
+// Whether each of these is refused so as the middle of a line.
 fn refused(
     rt: &(impl Abort + AllocGlobal),
+    fault: ChangeFault,
     before: &str,
     middles: &[&str],
     after: &str,
@@ -66,7 +74,7 @@ fn refused(
     for middle in middles {
         let line = format!(in rt.alloc(); "{before}{middle}{after}")?;
         let got = read_line(rt.alloc(), line.as_bytes()).err();
-        assert_eq!(rt; got, Some(ChangeFault::NotYet), "at {line}");
+        assert_eq!(rt; got, Some(fault), "at {line}");
     }
     Ok(())
 }
@@ -154,6 +162,7 @@ fn columns_hold_texts_whole_numbers_truth_values_and_null(rt: HostRuntime) -> Re
     )?;
     refused(
         &rt,
+        ChangeFault::BadValue,
         r#"{"pos":"1","changes":[{"op":"PUT","table":"t","id":"r","row":{"n":"#,
         &[
             "1.5",
@@ -161,11 +170,36 @@ fn columns_hold_texts_whole_numbers_truth_values_and_null(rt: HostRuntime) -> Re
             "1e2",
             "-0",
             "9223372036854775808",
+            "18446744073709551616",
             "-9223372036854775809",
-            "[]",
-            "{}",
+            "[1.5]",
+            r#"{"a":[{"b":1.5}]}"#,
+            r#"["1",[[9223372036854775808]]]"#,
         ],
         "}}]}",
+    )
+}
+
+#[test]
+fn arrays_and_objects_are_their_compact_texts(rt: HostRuntime) -> Result<(), Fail> {
+    agree(
+        &rt,
+        &[
+            (
+                r#"{"pos":"1","changes":[{"op":"PUT","table":"t","id":"r","row":{"empty":[],"list":[ 1 , "two", null, [true] ],"none":{},"object":{ "b" : 1, "a" : -2, "b":3 }}}]}"#,
+                r#"1; put t r empty='[]' list='[1,"two",null,[true]]' none='{}' object='{"a":-2,"b":3}'"#,
+            ),
+            // A text that looks the same is the same value.
+            (
+                r#"{"pos":"1","changes":[{"op":"PUT","table":"t","id":"r","row":{"list":"[1,2]","more":[1,2]}}]}"#,
+                "1; put t r list='[1,2]' more='[1,2]'",
+            ),
+            // What stands in a member that is ignored is not looked at.
+            (
+                r#"{"pos":"1","changes":[{"op":"PUT","table":"t","id":"r","row":{"id":{"a":1.5},"n":1},"more":1.5},{"op":"DELETE","table":"t","id":"r","row":{"n":1.5}}]}"#,
+                "1; put t r n=1; delete t r",
+            ),
+        ],
     )
 }
 
@@ -177,6 +211,7 @@ fn a_position_is_a_decimal_text_from_1(rt: HostRuntime) -> Result<(), Fail> {
     assert!(rt; read.changes.is_empty());
     refused(
         &rt,
+        ChangeFault::BadPosition,
         r#"{"pos":"#,
         &[
             "\"0\"",
@@ -189,22 +224,174 @@ fn a_position_is_a_decimal_text_from_1(rt: HostRuntime) -> Result<(), Fail> {
             "\" 1\"",
             "\"1.0\"",
             "\"x\"",
-            "1",
-            "null",
-            "[\"1\"]",
         ],
         r#","changes":[]}"#,
+    )?;
+    refused(
+        &rt,
+        ChangeFault::BadShape,
+        r#"{"pos":"#,
+        &["1", "null", "[\"1\"]"],
+        r#","changes":[]}"#,
     )
+}
+
+// A line with several faults is refused by the first of these: no JSON, the shape of any of its parts, its position, its values.
+#[test]
+fn the_shape_comes_before_the_position_and_that_before_the_values(
+    rt: HostRuntime,
+) -> Result<(), Fail> {
+    refused(
+        &rt,
+        ChangeFault::BadJson,
+        "",
+        &[
+            r#"{"pos":"0","changes":[{"op":"PUT","table":"","id":"r","row":{"n":1.5}}]"#,
+            r#"{"n":1e999}"#,
+        ],
+        "",
+    )?;
+    refused(
+        &rt,
+        ChangeFault::BadShape,
+        r#"{"pos":"0","changes":[{"op":"PUT","table":"t","id":"r","row":{"n":1.5}},"#,
+        &["1", r#"{"op":"PUT","table":"t","id":"r","row":[]}"#],
+        "]}",
+    )?;
+    refused(
+        &rt,
+        ChangeFault::BadPosition,
+        r#"{"pos":"0","changes":["#,
+        &[r#"{"op":"PUT","table":"t","id":"r","row":{"n":1.5}}"#, ""],
+        "]}",
+    )
+}
+
+#[test]
+fn lines_have_at_most_16777216_bytes(rt: HostRuntime) -> Result<(), Fail> {
+    let start = br#"{"pos":"1","changes":[]}"#;
+    let mut line = vec![in rt.alloc(); b' '; 16777216]?;
+    'bytes: for (to, byte) in line.iter_mut().zip(start.iter()) {
+        *to = *byte;
+    }
+    assert_eq!(rt; read_line(rt.alloc(), line.as_slice()).err(), None);
+    // Where it is longer it is not looked at further.
+    line.push(b'{')?;
+    let long = Some(ChangeFault::LineTooLong { length: 16777217 });
+    assert_eq!(rt; read_line(rt.alloc(), line.as_slice()).err(), long);
+    assert_eq!(rt; read_changes(rt.alloc(), line.as_slice()).err(), long);
+    assert_eq!(rt; read_change(rt.alloc(), line.as_slice()).err(), long);
+    Ok(())
+}
+
+#[test]
+fn bodies_and_changes_are_read_by_themselves(rt: HostRuntime) -> Result<(), Fail> {
+    let body =
+        br#"{"pos":7,"changes":[{"op":"DELETE","table":"t","id":"a"},{"op":"PUT","table":"t","id":"b","row":{"n":[1]}}]}"#;
+    let mut out = String::new(rt.alloc());
+    for change in read_changes(rt.alloc(), body)?.as_slice() {
+        show_change(&mut out, change)?;
+    }
+    let change = br#"{"op":"PUT","table":"t","id":"b","row":{"n":null}}"#;
+    show_change(&mut out, &read_change(rt.alloc(), change)?)?;
+    assert_eq!(rt;
+        out.as_str(),
+        "; delete t a; put t b n='[1]'; put t b n=null"
+    );
+    'table: for (bytes, of_body, of_change) in [
+        ("{", ChangeFault::BadJson, ChangeFault::BadJson),
+        ("[]", ChangeFault::BadShape, ChangeFault::BadShape),
+        (
+            r#"{"changes":[{"op":"PUT","table":"t","id":"b","row":{"n":1.5}},{}],"op":"PUT","table":"t","id":"b","row":{"n":1.5}}"#,
+            ChangeFault::BadShape,
+            ChangeFault::BadValue,
+        ),
+        (
+            r#"{"changes":[{"op":"PUT","table":"t","id":"b","row":{"n":1.5}}],"op":"PUT","table":"","id":"b","row":{"n":1.5}}"#,
+            ChangeFault::BadValue,
+            ChangeFault::BadShape,
+        ),
+    ] {
+        assert_eq!(rt;
+            read_changes(rt.alloc(), bytes.as_bytes()).err(),
+            Some(of_body)
+        );
+        assert_eq!(rt;
+            read_change(rt.alloc(), bytes.as_bytes()).err(),
+            Some(of_change)
+        );
+    }
+    Ok(())
+}
+
+#[test]
+fn what_is_written_is_read_again(rt: HostRuntime) -> Result<(), Fail> {
+    'lines: for (line, want) in [
+        (
+            r#" { "pos" : "12", "more":1.5, "changes" : [ {"op":"PUT","table":"t","id":"r","row":{"z":[1, 2],"n":-7,"id":1,"a":"\u00e9\"","b":true,"c":null}}, {"row":1,"op":"DELETE","table":"t","id":""} ] } "#,
+            r#"{"changes":[{"id":"r","op":"PUT","row":{"a":"é\"","b":1,"c":null,"n":-7,"z":"[1,2]"},"table":"t"},{"id":"","op":"DELETE","table":"t"}],"pos":"12"}"#,
+        ),
+        (
+            r#"{"pos":"9223372036854775807","changes":[]}"#,
+            r#"{"changes":[],"pos":"9223372036854775807"}"#,
+        ),
+    ] {
+        let read = read_line(rt.alloc(), line.as_bytes())?;
+        let written = write_line(rt.alloc(), &read.copy(rt.alloc())?)?;
+        assert_eq!(rt; written.as_slice(), want.as_bytes());
+        let again = read_line(rt.alloc(), written.as_slice())?;
+        let (mut first, mut second) = (String::new(rt.alloc()), String::new(rt.alloc()));
+        show(&mut first, &read)?;
+        show(&mut second, &again)?;
+        assert_eq!(rt; first, second);
+    }
+    let change = read_change(
+        rt.alloc(),
+        br#"{"row":{"b":1,"a":{}},"op":"PUT","table":"t","id":"r"}"#,
+    )?;
+    let written = write_change(rt.alloc(), &change.copy(rt.alloc())?)?;
+    let want = r#"{"id":"r","op":"PUT","row":{"a":"{}","b":1},"table":"t"}"#;
+    assert_eq!(rt; written.as_slice(), want.as_bytes());
+    let mut out = String::new(rt.alloc());
+    show_change(&mut out, &read_change(rt.alloc(), written.as_slice())?)?;
+    assert_eq!(rt; out.as_str(), "; put t r a='{}' b=1");
+    Ok(())
+}
+
+#[test]
+fn copies_outlive_what_they_were_made_of(rt: HostRuntime) -> Result<(), Fail> {
+    let line =
+        br#"{"pos":"3","changes":[{"op":"PUT","table":"t","id":"r","row":{"n":1,"s":[]}},{"op":"DELETE","table":"t","id":"r"}]}"#;
+    let copy = {
+        let transaction = read_line(rt.alloc(), line)?;
+        transaction.copy(rt.alloc())?
+    };
+    let mut out = String::new(rt.alloc());
+    show(&mut out, &copy)?;
+    assert_eq!(rt; out.as_str(), "3; put t r n=1 s='[]'; delete t r");
+    Ok(())
 }
 
 #[test]
 fn lines_of_another_form_are_refused(rt: HostRuntime) -> Result<(), Fail> {
     refused(
         &rt,
+        ChangeFault::BadJson,
         "",
         &[
             "",
             " ",
+            r#"{"pos":"1","changes":[]"#,
+            r#"{"pos":"1","changes":[],}"#,
+            r#"{"pos":"1","changes":[]}{}"#,
+        ],
+        "",
+    )?;
+    refused(
+        &rt,
+        ChangeFault::BadShape,
+        "",
+        &[
             "null",
             "[]",
             "{}",
@@ -214,15 +401,13 @@ fn lines_of_another_form_are_refused(rt: HostRuntime) -> Result<(), Fail> {
             r#"{"Pos":"1","changes":[]}"#,
             r#"{"pos":"1","changes":null}"#,
             r#"{"pos":"1","changes":{}}"#,
-            r#"{"pos":"1","changes":[]"#,
-            r#"{"pos":"1","changes":[],}"#,
-            r#"{"pos":"1","changes":[]}{}"#,
             r#"[{"pos":"1","changes":[]}]"#,
         ],
         "",
     )?;
     refused(
         &rt,
+        ChangeFault::BadShape,
         r#"{"pos":"1","changes":["#,
         &[
             "null",
@@ -248,7 +433,7 @@ fn lines_of_another_form_are_refused(rt: HostRuntime) -> Result<(), Fail> {
         "]}",
     )?;
     let cut = read_line(rt.alloc(), b"{\"pos\":\"1\",\"changes\":[],\"x\":\"\xff\"}").err();
-    assert_eq!(rt; cut, Some(ChangeFault::NotYet));
+    assert_eq!(rt; cut, Some(ChangeFault::BadJson));
     Ok(())
 }
 

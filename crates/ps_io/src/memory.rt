@@ -1,6 +1,7 @@
-ghost use Rattle.std.specs.Prelude.{◌≡◌, ◌≤◌, ◌+◌, ◌-◌, ◌^◌, min, nat_eq, Some, None, [], length, IfOk, IfErr, MatchOption};
-ghost use Rattle.std.specs.List.{list_any};
-ghost use Rattle.ps_io.specs.Contents.{content_of, sure_content_of, ExceedsBy};
+ghost use Rattle.std.specs.Prelude.{◌≡◌, ◌≤◌, true, Some, None, [], length, Err, IfOk, IfErr, OnOk, OnErr, IsErr, MatchOption};
+ghost use Rattle.ps_io.specs.Contents.{content_of, sure_content_of, ExceedsBy, Reads, Gains, GainsFront};
+ghost use Rattle.ps_io.specs.Counts.{Rose};
+ghost use Rattle.ps_io.specs.Memory.{fails_next, IsCounted, Begins, RefusesRead, RefusesWrite, HasItsMemory};
 
 use crate::{Failed, FileFault, Files, Sink};
 use ps_values::{Items, Memory, Text};
@@ -25,8 +26,7 @@ struct Calls {
 
 impl Calls {
     fn new(failing: Items<u64>) -> Calls
-        ensures failing { result.failing ≡ failing }
-        ensures made { result.made ≡ 0 }
+        ensures begins { Begins failing result }
         ensures faults { result.faults ≡ 0 }
     {
         Calls {
@@ -38,9 +38,8 @@ impl Calls {
 
     // Counts a call, and says whether it fails.
     fn next_fails(&mut self) -> bool
-        ensures fails { result ≡ list_any (λ number. nat_eq number self.new.made) self.old.failing }
-        ensures made { self.new.made ≡ min (self.old.made + 1) (2 ^ 64 - 1) }
-        ensures failing { self.new.failing ≡ self.old.failing }
+        ensures fails { result ≡ fails_next self.old }
+        ensures counts { IsCounted self.old self.new }
         ensures faults { self.new.faults ≡ self.old.faults }
     {
         self.made = self.made.saturating_add(1);
@@ -98,7 +97,7 @@ impl MemoryFiles {
     pub fn new(files: Items<MemoryFile>, failing: Items<u64>) -> MemoryFiles
         ensures held { ⟦<MemoryFiles as Files>⟧.held result ≡ Some (content_of files) }
         ensures faults { ⟦<MemoryFiles as Files>⟧.faults result ≡ 0 }
-        ensures failing { (result.calls.failing ≡ failing) × (result.calls.made ≡ 0) }
+        ensures calls { Begins failing result.calls }
     {
         MemoryFiles {
             files,
@@ -112,18 +111,25 @@ impl Files for MemoryFiles {
 
     ghost faults = { λ all. all.calls.faults };
 
-    fn read(&mut self, alloc: Global, name: &Text, limit: u64) -> Result<Vec<u8>, FileFault> {
+    fn read(&mut self, alloc: Global, name: &Text, limit: u64) -> Result<Vec<u8>, FileFault>
+        ensures answer { Reads (Some (content_of self.old.files)) name.now limit self.old.calls.faults self.new.calls.faults result }
+        ensures held { self.new.files ≡ self.old.files }
+        ensures faults { self.old.calls.faults ≤ self.new.calls.faults }
+
+        // It fails where its number is to fail, and else only where there is no such file.
+        ensures cause { result ≡ Err FileFault.Failed → RefusesRead self.old name.now }
+        ensures fails { fails_next self.old.calls ≡ true → result ≡ Err FileFault.Failed }
+        ensures calls { IsCounted self.old.calls self.new.calls }
+    {
         if self.calls.next_fails() {
             self.calls.faults = self.calls.faults.saturating_add(1);
             return Err(FileFault::Failed);
         }
-        match find_file(self.files.as_slice(), name) {
-            Some(file) => copy_within(alloc, file.content.as_slice(), limit),
-            None => {
-                self.calls.faults = self.calls.faults.saturating_add(1);
-                Err(FileFault::Failed)
-            }
-        }
+        let Some(file) = find_file(self.files.as_slice(), name) else {
+            self.calls.faults = self.calls.faults.saturating_add(1);
+            return Err(FileFault::Failed);
+        };
+        copy_within(alloc, file.content.as_slice(), limit)
     }
 
     fn file_faults(&self) -> u64 {
@@ -165,7 +171,8 @@ impl MemorySink {
         ensures faults { IfOk result (λ sink. ⟦<MemorySink as Sink>⟧.faults sink ≡ 0) }
         ensures number { IfOk result (λ sink. ⟦<MemorySink as Sink>⟧.number sink ≡ 0) }
         ensures room { IfOk result (λ sink. sink.room ≡ room) }
-        ensures failing { IfOk result (λ sink. (sink.calls.failing ≡ failing) × (sink.calls.made ≡ 0)) }
+        ensures memory { IfOk result HasItsMemory }
+        ensures calls { IfOk result (λ sink. Begins failing sink.calls) }
     {
         Ok(MemorySink {
             bytes: Vec::with_capacity(alloc, room)?,
@@ -189,7 +196,20 @@ impl Sink for MemorySink {
 
     ghost number = { λ _. 0 };
 
-    fn write(&mut self, bytes: &[u8]) -> Result<(), Failed> {
+    fn write(&mut self, bytes: &[u8]) -> Result<(), Failed>
+        ensures ok { OnOk result (Gains (Some self.old.bytes.items) (Some self.new.bytes.items) bytes.now) }
+        ensures err { OnErr result (GainsFront (Some self.old.bytes.items) (Some self.new.bytes.items) bytes.now) }
+        ensures failed { OnErr result (Rose self.old.calls.faults self.new.calls.faults) }
+        ensures faults { self.old.calls.faults ≤ self.new.calls.faults }
+
+        // It fails where its number is to fail, and then takes nothing, and else only where the bytes do not fit.
+        ensures cause { OnErr result (HasItsMemory self.old → RefusesWrite self.old bytes.now) }
+        ensures fails { fails_next self.old.calls ≡ true → IsErr result }
+        ensures nothing { fails_next self.old.calls ≡ true → self.new.bytes.items ≡ self.old.bytes.items }
+        ensures room { self.new.room ≡ self.old.room }
+        ensures memory { HasItsMemory self.old → HasItsMemory self.new }
+        ensures calls { IsCounted self.old.calls self.new.calls }
+    {
         if self.calls.next_fails() {
             self.calls.faults = self.calls.faults.saturating_add(1);
             return Err(Failed);

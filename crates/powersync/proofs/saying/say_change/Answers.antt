@@ -6,5 +6,5 @@ use Rattle.powersync.proofs.saying.say_change.Goals as goal
 
 pub returns-in-Ok : goal.returns-in-Ok
 returns-in-Ok g c =
-    let line : c.as_bytes.result.now ≡ fault_line (Change c.args.line) = c.as_bytes.ensures.value ∙ c.as_str.ensures.value ∙ c.in-Ok.ensures ∙ sym (change_line c.args.line) in
+    let line : c.as_bytes.result.now ≡ fault_line (Change c.args.line c.args.why) = c.as_bytes.ensures.value ∙ c.as_str.ensures.value ∙ c.in-Ok.ensures ∙ sym (change_line c.args.line c.args.why) in
     inl (record { is = refl; line = subst (λ text. Tells (g.E.Sink.taken c.args.err.now) (g.E.Sink.taken c.tell.new.err) (g.E.Sink.faults c.args.err.now) (g.E.Sink.faults c.tell.new.err) text) line c.tell.ensures })

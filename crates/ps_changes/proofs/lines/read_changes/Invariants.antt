@@ -1,8 +1,0 @@
-use Rattle.std.proofs.Common.{◌≡◌, ◌++◌, option_map, drop}
-use Rattle.serde_json.specs.View.{items_view}
-use Rattle.ps_changes.specs.Lines.{changes_of}
-use Rattle.ps_changes.proofs.lines.read_changes.Given as goal
-
--- the changes so far, and those of the items that are left, are those of all
-abbrev pub invariant-changes : goal.invariant-changes
-invariant-changes l = changes_of (items_view l.list) ≡ option_map (λ rest. l.changes ++ rest) (changes_of (items_view (drop l.json-index l.list)))

@@ -1,0 +1,5 @@
+use Rattle.ps_changes.proofs.Written.{change_written}
+use Rattle.ps_changes.proofs.writers.write_change.Goals as goal
+
+pub returns-clause-value : goal.returns-clause-value
+returns-clause-value c = change_written c.args.change.now _ _ c.in_ok-json.ensures.value c.in_ok-to_vec.ensures.text

@@ -1,0 +1,101 @@
+ghost use Rattle.std.specs.Prelude.{◌≡◌, ◌≢◌, ◌≤◌, [], map, length, All, IfOk, Ok};
+ghost use Rattle.serde_json.specs.Data.{object, array};
+ghost use Rattle.serde_json.specs.View.{view, items_of};
+ghost use Rattle.ps_values.specs.Documents.{data_of};
+ghost use Rattle.ps_values.specs.Conversions.{IsValueOf};
+ghost use Rattle.ps_changes.specs.Lines.{longest, line_of, lone_change_of};
+ghost use Rattle.ps_changes.specs.Grammar.{AreColumns, IsChange, AreChanges, IsTransaction, IsLine, IsLoneChange};
+ghost use Rattle.ps_changes.specs.Writing.{members_of, change_json as json_of_change, transaction_json as json_of_transaction, change_text, line_text, IsWritable};
+
+use crate::{Change, Row, Transaction};
+use ps_values::{Memory, Value, decimals_read_back, json_of_value};
+use serde_json::{Map, Value as Json, json, put};
+use std::alloc::Global;
+
+/// The bytes of a change line, compact, without a line feed: docs/FORMATS.md, "Change lines". `read_line` gives the transaction again,
+/// where they are no more than a line may have.
+#[tactic(auto, using(crate::proofs::Written::line_back))]
+pub fn write_line(alloc: Global, transaction: &Transaction) -> Result<Vec<u8>, Memory>
+    requires { IsWritable transaction.now }
+    ensures value { IfOk result (λ bytes. bytes.items ≡ line_text transaction.now) }
+    ensures read_again { IfOk result (λ bytes. length bytes.items ≤ longest → line_of bytes.items ≡ Ok transaction.now) }
+{
+    decimals_read_back();
+    let json = transaction_json(alloc, transaction)?;
+    Ok(json.to_vec(alloc)?)
+}
+
+/// The bytes of one change object by itself, compact: docs/FORMATS.md, "Change lines". `read_change` gives the change again, where
+/// they are no more than a line may have.
+#[tactic(auto, using(crate::proofs::Written::change_back))]
+pub fn write_change(alloc: Global, change: &Change) -> Result<Vec<u8>, Memory>
+    requires { change.now.table ≢ [] }
+    ensures value { IfOk result (λ bytes. bytes.items ≡ change_text change.now) }
+    ensures read_again { IfOk result (λ bytes. length bytes.items ≤ longest → lone_change_of bytes.items ≡ Ok change.now) }
+{
+    let json = change_json(alloc, change)?;
+    Ok(json.to_vec(alloc)?)
+}
+
+#[tactic(auto, unfolding(crate::specs::Writing::transaction_json))]
+fn transaction_json(alloc: Global, transaction: &Transaction) -> Result<Json, Memory>
+    requires { IsWritable transaction.now }
+    ensures value { IfOk result (λ json. view json ≡ json_of_transaction transaction.now) }
+    ensures spelled { IfOk result (λ _. IsTransaction (json_of_transaction transaction.now) transaction.now) }
+{
+    let changes = list_json(alloc, transaction.changes.as_slice())?;
+    let position = format!(in alloc; "{}", transaction.position.0)?;
+    Ok(json!(in alloc; {"changes": changes, "pos": position})?)
+}
+
+fn list_json(alloc: Global, changes: &[Change]) -> Result<Json, Memory>
+    requires { All (λ change. change.table ≢ []) changes.now }
+    ensures value { IfOk result (λ json. view json ≡ array (items_of (map json_of_change changes.now))) }
+    ensures spelled { IfOk result (λ _. AreChanges (items_of (map json_of_change changes.now)) changes.now) }
+{
+    let mut list = Vec::new(alloc);
+    'changes: for change in changes {
+        list.push(change_json(alloc, change)?)?;
+    }
+    Ok(Json::Array(list))
+}
+
+#[tactic(auto, unfolding(crate::specs::Writing::change_json))]
+fn change_json(alloc: Global, change: &Change) -> Result<Json, Memory>
+    requires { change.now.table ≢ [] }
+    ensures value { IfOk result (λ json. view json ≡ json_of_change change.now) }
+    ensures spelled { IfOk result (λ _. IsChange (json_of_change change.now) change.now) }
+{
+    let (table, id) = (change.table.as_str(), change.id.as_str());
+    match &change.row {
+        Some(row) => {
+            let row = row_json(alloc, row)?;
+            Ok(json!(in alloc; {"id": id, "op": "PUT", "row": row, "table": table})?)
+        }
+        None => Ok(json!(in alloc; {"id": id, "op": "DELETE", "table": table})?),
+    }
+}
+
+fn row_json(alloc: Global, row: &Row) -> Result<Json, Memory>
+    ensures value { IfOk result (λ json. view json ≡ object (members_of row.now)) }
+    ensures spelled { IfOk result (λ _. AreColumns (members_of row.now) row.now) }
+{
+    let mut members = Map::new(alloc);
+    'columns: for column in row.columns() {
+        let json = value_json(alloc, &column.value)?;
+        put(&mut members, alloc, column.name.as_str(), json)?;
+    }
+    Ok(Json::Object(members))
+}
+
+// A value as JSON, which is that value again.
+#[tactic(auto, using(crate::proofs::Written::int_back))]
+fn value_json(alloc: Global, value: &Value) -> Result<Json, Memory>
+    ensures value { IfOk result (λ json. view json ≡ data_of value.now) }
+    ensures spelled { IfOk result (λ _. IsValueOf (data_of value.now) (Ok value.now)) }
+{
+    match value {
+        Value::Int(number) => Ok(Json::from(*number)),
+        Value::Null | Value::Text(_) => json_of_value(alloc, value),
+    }
+}
