@@ -10,4 +10,5 @@ pub mod GrammarLaws
 pub mod LexemeLaws
 pub mod QueryLaws
 pub mod Quotes
+pub mod Readings
 pub mod WordLaws
