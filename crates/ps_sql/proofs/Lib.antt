@@ -12,4 +12,5 @@ pub mod Only
 pub mod OnlyQueries
 pub mod QueryLaws
 pub mod Quotes
+pub mod Readings
 pub mod WordLaws

@@ -5,6 +5,7 @@ pub mod Lexemes
 pub mod Json
 pub mod Meaning
 pub mod Queries
+pub mod Readings
 pub mod Spelled
 pub mod SpelledQueries
 pub mod Spellings

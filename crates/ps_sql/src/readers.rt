@@ -5,6 +5,7 @@ ghost use Rattle.ps_sql.specs.Answers.{AnswersQuery, Reads, ReadsOn, StepsOn, in
 ghost use Rattle.ps_sql.specs.SpelledQueries.{IsDataQuery, IsParameterQuery};
 ghost use Rattle.ps_sql.specs.Inputs.{next};
 ghost use Rattle.ps_sql.specs.Lexemes.{AreLexemes, Stops};
+ghost use Rattle.ps_sql.specs.Readings.{parameter_query_of, data_query_of};
 ghost use Rattle.ps_sql.specs.Queries.{alias, begins_clause, condition, data_query, finish, item, items, nothing_listed, output, outputs, own_name, own_output, parameter_query, parameters_of, scope_of, source, table_clause};
 
 use crate::contexts::{Context, Listed, Scope, Source};
@@ -319,7 +320,7 @@ fn scan_data_query(alloc: Global, text: &Text) -> Result<DataQuery, SqlFault>
 /// where an output is `expr [AS name]`. All tokens are read before the grammar: `BadToken` is that of `tokens`.
 /// `Unexpected` and `Unsupported` stand at the first token that fits no rule, or that is SQL and not of this profile;
 /// docs/FORMATS.md has the grammar and each cause.
-#[tactic(auto, using(crate::proofs::QueryLaws::found))]
+#[tactic(auto, using(crate::proofs::QueryLaws::found, crate::proofs::Readings::parameter_whole))]
 pub fn read_parameter_query(alloc: Global, text: &Text) -> Result<ParameterQuery, SqlFault>
     requires { length text.now < 4294967295 }
     // What is read is spelled so.
@@ -334,6 +335,8 @@ pub fn read_parameter_query(alloc: Global, text: &Text) -> Result<ParameterQuery
     // Where no token begins, that is the answer, unless memory runs out; and it is the answer nowhere else.
     ensures bad { (at : ℕ) → Stops 0 text.now at → Reads result (Err (SqlFault.BadToken at)) }
     ensures token { StopsAtToken text.now result }
+    // All of this as one function of the text.
+    ensures whole { Reads result (parameter_query_of text.now) }
 {
     scan_parameter_query(alloc, text)
 }
@@ -343,7 +346,7 @@ pub fn read_parameter_query(alloc: Global, text: &Text) -> Result<ParameterQuery
 /// `SELECT item {, item} FROM table [[AS] name] [WHERE expr] [;]`
 ///
 /// where an item is `*`, at most once, or an output. Faults are those of `read_parameter_query`.
-#[tactic(auto, using(crate::proofs::QueryLaws::found))]
+#[tactic(auto, using(crate::proofs::QueryLaws::found, crate::proofs::Readings::data_whole))]
 pub fn read_data_query(alloc: Global, text: &Text) -> Result<DataQuery, SqlFault>
     requires { length text.now < 4294967295 }
     // What is read is spelled so.
@@ -358,6 +361,8 @@ pub fn read_data_query(alloc: Global, text: &Text) -> Result<DataQuery, SqlFault
     // Where no token begins, that is the answer, unless memory runs out; and it is the answer nowhere else.
     ensures bad { (at : ℕ) → Stops 0 text.now at → Reads result (Err (SqlFault.BadToken at)) }
     ensures token { StopsAtToken text.now result }
+    // All of this as one function of the text.
+    ensures whole { Reads result (data_query_of text.now) }
 {
     scan_data_query(alloc, text)
 }

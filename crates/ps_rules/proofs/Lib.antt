@@ -1,0 +1,10 @@
+pub mod Counts
+pub mod Drafted
+pub mod Finds
+pub mod Independence
+pub mod Kept
+pub mod Meetings
+pub mod NameLaws
+pub mod PlacedFaults
+pub mod Spreads
+pub mod Steps

@@ -1,0 +1,121 @@
+-- The checks of each definition: parameter queries before data queries, each query at its scalar.
+use Rattle.std.specs.Prelude.{ℕ, ◌+◌, Bool, false, not, ◌||◌, ◌&&◌, ◌==◌, nat_lt, if◌then◌else◌, List, [], ◌∷◌, ◌++◌, map, length, Option, Some, None, Result, Ok, bytes_eq, codes}
+use Rattle.std.specs.List.{list_any, list_all}
+use Rattle.ps_sql.specs.declared.expressions.Expr.{Expr}
+use Rattle.ps_sql.specs.declared.queries.Output.{Output}
+use Rattle.ps_sql.specs.declared.queries.ParameterQuery.{ParameterQuery}
+use Rattle.ps_sql.specs.declared.queries.DataQuery.{DataQuery}
+use Rattle.ps_sql.specs.Readings.{parameter_query_of, data_query_of}
+use Rattle.ps_rules.specs.declared.drafts.Written.{Written}
+use Rattle.ps_rules.specs.declared.drafts.Draft.{Draft}
+use Rattle.ps_rules.specs.declared.drafts.Known.{Known}
+use Rattle.ps_rules.specs.declared.drafts.Checked.{Checked}
+use Rattle.ps_rules.specs.declared.matches.Match.{Match}
+use Rattle.ps_rules.specs.declared.branches.Branch.{Branch}
+use Rattle.ps_rules.specs.declared.queries.Planned.{Planned}
+use Rattle.ps_rules.specs.declared.warnings.Warning.{Warning}
+use Rattle.ps_rules.specs.declared.warnings.WarningKind.TheVariants as kinds
+use Rattle.ps_rules.specs.declared.faults.RulesFault.{RulesFault}
+use Rattle.ps_rules.specs.declared.faults.RulesFault.TheVariants as faults
+use Rattle.ps_rules.specs.Faults.{◌>>=◌, refuse, sql}
+use Rattle.ps_rules.specs.Names.{is_in, has_repeated, same_names, output_names}
+use Rattle.ps_rules.specs.Branches.{mentions, has_parameter, asks_parameters, branches_of}
+
+-- ---- what is asked of a query
+
+abbrev pub in_condition : (Expr → Bool) → Option Expr → Bool
+in_condition test None = false
+in_condition test (Some condition) = test condition
+
+-- some expression of a query passes a test
+abbrev pub some_expr : (Expr → Bool) → List Output → Option Expr → Bool
+some_expr test outputs condition = list_any (λ (o : Output). test o.expr) outputs || in_condition test condition
+
+-- the names of parameters are those of the first query's outputs
+abbrev pub names_of : List ParameterQuery → List (List ℕ)
+names_of [] = []
+names_of (first ∷ others) = output_names first.outputs
+
+-- a query behind a first one has another set of names
+abbrev pub is_mixed : List ParameterQuery → List (List ℕ) → Bool
+is_mixed [] names = false
+is_mixed (first ∷ others) names = not (same_names (output_names first.outputs) names)
+
+-- neither `*` nor an output `id`
+abbrev pub has_no_id : DataQuery → Bool
+has_no_id query = not query.star && not (list_any (λ (o : Output). bytes_eq o.name (codes "id")) query.outputs)
+
+-- `bucket.q` where q is no parameter's name
+abbrev pub has_unknown : List (List ℕ) → DataQuery → Bool
+has_unknown names query = some_expr (λ (e : Expr). mentions (λ name. not (is_in name names)) e) query.outputs query.condition
+
+-- the most branches that a condition may have
+abbrev pub most_branches : ℕ
+most_branches = 64
+
+abbrev pub has_many_branches : DataQuery → Bool
+has_many_branches query = nat_lt most_branches (length (branches_of query.condition))
+
+-- each parameter is matched in the branch, and stands in none of its other leaves
+abbrev pub is_bound : List (List ℕ) → Branch → Bool
+is_bound names branch = not (list_any has_parameter branch.rest) && list_all (λ name. is_in name (map (λ (m : Match). m.name) branch.matches)) names
+
+-- each parameter stands in matches alone, and is matched in each branch
+abbrev pub is_matched : List (List ℕ) → DataQuery → Bool
+is_matched names query = not (list_any (λ (o : Output). has_parameter o.expr) query.outputs) && list_all (is_bound names) (branches_of query.condition)
+
+-- ---- parameter queries
+
+abbrev pub client_warning : Written → ParameterQuery → List Warning
+client_warning written query = if some_expr asks_parameters query.outputs query.condition
+    then record { kind = kinds.ClientParameters; line = written.line; column = written.column } ∷ [] else []
+
+-- a parameter query behind those that are known
+unfoldable pub known_with : Known → Written → Result Known RulesFault
+known_with known written = do
+  query ← sql written.line written.column (parameter_query_of written.text)
+  differ ← refuse (has_repeated (output_names query.outputs)) (faults.DuplicateName written.line written.column)
+  alike ← refuse (is_mixed known.queries (output_names query.outputs)) (faults.MixedOutput written.line written.column)
+  Ok (record { queries = known.queries ++ query ∷ []; warnings = known.warnings ++ client_warning written query })
+
+abbrev pub all_known : Known → List Written → Result Known RulesFault
+all_known known [] = Ok known
+all_known known (written ∷ others) = do
+  more ← known_with known written
+  all_known more others
+
+-- ---- data queries
+
+-- the checks of a data query that is read
+unfoldable pub planned_from : List (List ℕ) → ℕ → ℕ → ℕ → DataQuery → Result Planned RulesFault
+planned_from names number line column query = do
+  differ ← refuse (has_repeated (output_names query.outputs)) (faults.DuplicateName line column)
+  has_id ← refuse (has_no_id query) (faults.NoId line column)
+  known ← refuse (has_unknown names query) (faults.UnknownParameter line column)
+  few ← refuse (has_many_branches query) (faults.TooManyBranches line column)
+  matched ← refuse (not (is_matched names query)) (faults.UnmatchedParameter line column)
+  Ok (record { query = query; number = number; branches = branches_of query.condition })
+
+unfoldable pub planned_of : List (List ℕ) → ℕ → Written → Result Planned RulesFault
+planned_of names number written = do
+  query ← sql written.line written.column (data_query_of written.text)
+  planned_from names number written.line written.column query
+
+-- data queries behind those that are planned, with the numbers past `before`
+abbrev pub all_planned : List (List ℕ) → ℕ → List Planned → List Written → Result (List Planned) RulesFault
+all_planned names before planned [] = Ok planned
+all_planned names before planned (written ∷ others) = do
+  next ← planned_of names (before + 1) written
+  all_planned names (before + 1) (planned ++ next ∷ []) others
+
+-- ---- definitions
+
+abbrev pub data_warning : Draft → List Warning
+data_warning draft = if length draft.queries == 0 then record { kind = kinds.NoData; line = draft.line; column = draft.column } ∷ [] else []
+
+-- a definition and its warnings; its queries have the numbers past `before`
+unfoldable pub checked_of : ℕ → Draft → Result Checked RulesFault
+checked_of before draft = do
+  known ← all_known (record { queries = []; warnings = data_warning draft }) draft.parameters
+  planned ← all_planned (names_of known.queries) before [] draft.queries
+  Ok (record { definition = record { name = draft.name; names = names_of known.queries; parameters = known.queries; queries = planned }; warnings = known.warnings })

@@ -1,0 +1,59 @@
+-- The laws of branches.
+use Rattle.std.specs.Prelude.{◌≡◌, ℕ, ◌↔◌, Bool, true, false, not, List, [], ◌∷◌, ◌++◌, Option}
+use Rattle.ps_values.specs.declared.values.Value.{Value}
+use Rattle.ps_values.specs.declared.values.Value.TheVariants.{Null}
+use Rattle.ps_sql.specs.declared.expressions.Expr.{Expr, out-Expr}
+use Rattle.ps_sql.specs.declared.expressions.Expr.TheOpen.{Expr-F}
+use Rattle.ps_sql.specs.declared.expressions.Expr.TheOpen as layers
+use Rattle.ps_sql.specs.declared.expressions.Expr.TheVariants as exprs
+use Rattle.ps_sql.specs.declared.expressions.Operator.{Operator}
+use Rattle.ps_sql.specs.declared.expressions.Operator.TheVariants as operators
+use Rattle.ps_sql.specs.Meaning.{Given, Holds, value_of}
+use Rattle.ps_rules.specs.declared.matches.Match.{Match}
+use Rattle.ps_rules.specs.Branches.{branches_in, branches_of, crossed, leaf_branch, has_parameter}
+use Rattle.ps_rules.specs.Meeting.{holds, allows, meets_some}
+
+abbrev pub is_either : Operator → Bool
+is_either operators.Or = true
+is_either _ = false
+
+-- AND and OR are spread, and all else is a leaf
+abbrev pub is_spread : Operator → Bool
+is_spread operators.Or = true
+is_spread operators.And = true
+is_spread _ = false
+
+abbrev pub is_leaf_layer : Expr-F Expr → Bool
+is_leaf_layer (layers.Two operator left right) = not (is_spread operator)
+is_leaf_layer _ = true
+
+unfoldable pub is_leaf : Expr → Bool
+is_leaf expr = is_leaf_layer (out-Expr expr)
+
+-- OR has the branches of both sides
+abbrev pub EitherSide : Type 0
+EitherSide = (left right : Expr) → branches_in (exprs.Two operators.Or left right) ≡ branches_in left ++ branches_in right
+
+-- AND has each branch of the left side with each of the right
+abbrev pub BothSides : Type 0
+BothSides = (left right : Expr) → branches_in (exprs.Two operators.And left right) ≡ crossed (branches_in left) (branches_in right)
+
+-- all else is one branch
+abbrev pub LeafAlone : Type 0
+LeafAlone = (leaf : Expr) → is_leaf leaf ≡ true → branches_in leaf ≡ leaf_branch leaf ∷ []
+
+-- a condition holds on a row for a vector of parameter values exactly where the vector meets a branch
+abbrev pub HoldsWhereMet : Type 0
+HoldsWhereMet = (given : Given) (condition : Option Expr) → Holds given condition ↔ (meets_some given (branches_of condition) ≡ true)
+
+-- the same as an equation of tests
+abbrev pub SameTest : Type 0
+SameTest = (given : Given) (condition : Option Expr) → holds given condition ≡ meets_some given (branches_of condition)
+
+-- Null is never allowed for a parameter
+abbrev pub NullIsNotAllowed : Type 0
+NullIsNotAllowed = (given : Given) (m : Match) → given.bucket m.name ≡ Null → allows given m ≡ false
+
+-- an expression without a parameter has the same value for each vector
+abbrev pub VectorDoesNotMatter : Type 0
+VectorDoesNotMatter = (given : Given) (vector : List ℕ → Value) (expr : Expr) → has_parameter expr ≡ false → value_of (record given { bucket = vector }) expr ≡ value_of given expr

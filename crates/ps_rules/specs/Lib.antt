@@ -1,0 +1,11 @@
+pub mod Branches
+pub mod Checks
+pub mod Faults
+pub mod Laws
+pub mod Meeting
+pub mod Names
+pub mod Reading
+pub mod RuleSets
+pub mod Shapes
+pub mod Types
+pub mod Vectors

@@ -1,0 +1,57 @@
+-- What rules are, and what holds of them.
+use Rattle.std.specs.Prelude.{◌≡◌, ℕ, Bool, true, false, ◌&&◌, nat_lt, List, [], ◌∷◌, map}
+use Rattle.std.specs.List.{AllByRecursion, list_all, flat_map}
+use Rattle.ps_sql.specs.declared.queries.ParameterQuery.{ParameterQuery}
+use Rattle.ps_rules.specs.declared.queries.Planned.{Planned}
+use Rattle.ps_rules.specs.declared.definitions.Definition.{Definition}
+use Rattle.ps_rules.specs.declared.warnings.Warning.{Warning}
+use Rattle.ps_rules.specs.declared.drafts.Draft.{Draft}
+use Rattle.ps_rules.specs.Names.{is_definition_name, has_repeated, same_names, output_names}
+use Rattle.ps_rules.specs.Shapes.{draft_names}
+use Rattle.ps_rules.specs.Branches.{branches_of}
+use Rattle.ps_rules.specs.Checks.{names_of, has_no_id, has_unknown, has_many_branches, is_matched}
+
+-- definitions in the order of the file, and warnings in the order of their places
+pub record RuleSet : Type 0 where
+  pub definitions : List Definition
+  pub warnings : List Warning
+
+-- a parameter query has no name twice, and the names of the definition
+pub record IsSoundParameter (names : List (List ℕ)) (query : ParameterQuery) : Type 0 where
+  pub names_differ : has_repeated (output_names query.outputs) ≡ false
+  pub same_set : same_names names (output_names query.outputs) ≡ true
+
+-- a data query passes each check, and its branches are those of its condition
+pub record IsSoundQuery (names : List (List ℕ)) (planned : Planned) : Type 0 where
+  pub names_differ : has_repeated (output_names planned.query.outputs) ≡ false
+  pub has_id : has_no_id planned.query ≡ false
+  pub known : has_unknown names planned.query ≡ false
+  pub few : has_many_branches planned.query ≡ false
+  pub matched : is_matched names planned.query ≡ true
+  pub branches : planned.branches ≡ branches_of planned.query.condition
+
+pub record IsSound (definition : Definition) : Type 0 where
+  pub name : is_definition_name definition.name ≡ true
+  pub names : definition.names ≡ names_of definition.parameters
+  pub parameters : AllByRecursion (IsSoundParameter definition.names) definition.parameters
+  pub queries : AllByRecursion (IsSoundQuery definition.names) definition.queries
+
+-- numbers rise from past a number on
+abbrev pub rises_past : ℕ → List ℕ → Bool
+rises_past before [] = true
+rises_past before (n ∷ ns) = nat_lt before n && rises_past n ns
+
+-- the numbers of all data queries, in order
+abbrev pub numbers_of : List Definition → List ℕ
+numbers_of definitions = flat_map (λ (d : Definition). map (λ (q : Planned). q.number) d.queries) definitions
+
+-- what each rule set keeps
+pub record AreRules (rules : RuleSet) : Type 0 where
+  pub names_differ : has_repeated (map (λ (d : Definition). d.name) rules.definitions) ≡ false
+  pub sound : AllByRecursion IsSound rules.definitions
+  pub numbers_rise : rises_past 0 (numbers_of rules.definitions) ≡ true
+
+-- drafts have names of definitions, and no two the same
+pub record AreDrafts (drafts : List Draft) : Type 0 where
+  pub names_differ : has_repeated (draft_names drafts) ≡ false
+  pub names_fit : list_all is_definition_name (draft_names drafts) ≡ true

@@ -1,0 +1,42 @@
+use crate::{Definition, Warning};
+use ps_sql::ParameterQuery;
+use ps_values::{Items, Text};
+
+/// The text of a scalar, and where it stands.
+#[derive(Debug, Drop)]
+pub struct Written {
+    pub text: Text,
+    pub line: u32,
+    pub column: u32,
+}
+
+/// The queries that the pairs of a definition gave so far.
+#[derive(Debug, Drop)]
+pub struct Parts {
+    pub parameters: Items<Written>,
+    pub queries: Items<Written>,
+}
+
+/// A definition of the right shape, before its checks, with the place of its name.
+#[derive(Debug, Drop)]
+pub struct Draft {
+    pub name: Text,
+    pub line: u32,
+    pub column: u32,
+    pub parameters: Items<Written>,
+    pub queries: Items<Written>,
+}
+
+/// The parameter queries of a definition that were checked so far, with its warnings.
+#[derive(Debug, Drop)]
+pub struct Known {
+    pub queries: Items<ParameterQuery>,
+    pub warnings: Items<Warning>,
+}
+
+/// A definition that passed its checks, with its warnings.
+#[derive(Debug, Drop)]
+pub struct Checked {
+    pub definition: Definition,
+    pub warnings: Items<Warning>,
+}

@@ -1,0 +1,34 @@
+//! The rules language: bucket definitions, their checks, and the branches in which a data query's condition holds.
+#![tactic(auto)]
+
+mod branches;
+mod checks;
+mod copies;
+mod definitions;
+mod drafts;
+mod faults;
+mod laws;
+mod matches;
+mod name_sets;
+mod queries;
+mod reading;
+mod rule_sets;
+mod shapes;
+mod spreading;
+#[cfg(test)]
+mod tests;
+mod walks;
+mod warnings;
+
+pub use branches::Branch;
+pub use definitions::Definition;
+pub use faults::RulesFault;
+pub use laws::{
+    conditions_hold_where_a_branch_is_met, null_is_not_allowed, spread_as_written,
+    vectors_do_not_matter,
+};
+pub use matches::Match;
+pub use queries::Planned;
+pub use reading::read_rules;
+pub use rule_sets::Rules;
+pub use warnings::{Warning, WarningKind};

@@ -1,0 +1,94 @@
+ghost use Rattle.std.specs.Prelude.{◌≡◌, ℕ, ◌<◌, ◌+◌, length, IfSome, IfOk, ◌++◌};
+ghost use Rattle.ps_yaml.specs.Trees.{document_of};
+ghost use Rattle.ps_rules.specs.Faults.{Reads, yaml};
+ghost use Rattle.ps_rules.specs.Reading.{rules_from, rules_of, rules_in, no_rules};
+ghost use Rattle.ps_rules.specs.RuleSets.{AreDrafts};
+
+use crate::checks::check;
+use crate::drafts::{Checked, Draft};
+use crate::shapes::drafts_in;
+use crate::{Definition, Rules, RulesFault, Warning};
+use ps_values::{Items, Memory};
+use ps_yaml::{Node, YamlFault, read_yaml};
+use std::alloc::Global;
+
+// A number of queries past those before, if it is a number.
+fn numbered(before: u32, count: usize) -> Option<u32>
+    ensures { IfSome result (λ last. last ≡ before + count) }
+{
+    let count = u32::try_from(count).ok()?;
+    before.checked_add(count)
+}
+
+// The document of a text.
+fn document(alloc: Global, bytes: &[u8]) -> Result<Node, RulesFault>
+    requires { length bytes.now < 4294967295 }
+    ensures { Reads result (yaml (document_of bytes.now)) }
+{
+    match read_yaml(alloc, bytes) {
+        Ok(node) => Ok(node),
+        Err(YamlFault::Memory) => Err(RulesFault::Memory),
+        Err(YamlFault::BadIndent { line, column }) => {
+            Err(RulesFault::Yaml(YamlFault::BadIndent { line, column }))
+        }
+        Err(YamlFault::BadScalar { line, column }) => {
+            Err(RulesFault::Yaml(YamlFault::BadScalar { line, column }))
+        }
+        Err(YamlFault::DuplicateKey { line, column }) => {
+            Err(RulesFault::Yaml(YamlFault::DuplicateKey { line, column }))
+        }
+        Err(YamlFault::Unsupported { line, column }) => {
+            Err(RulesFault::Yaml(YamlFault::Unsupported { line, column }))
+        }
+    }
+}
+
+// Warnings, and more behind them.
+fn warnings_behind(before: Items<Warning>, more: Items<Warning>) -> Result<Items<Warning>, Memory>
+    ensures { IfOk result (λ both. both ≡ before ++ more) }
+{
+    let mut both = before;
+    'more: for warning in more.into_vec() {
+        both.push(warning)?;
+    }
+    Ok(both)
+}
+
+// The rules of definitions whose shapes are right.
+
+fn check_all(alloc: Global, drafts: Items<Draft>) -> Result<Rules, RulesFault>
+    requires { AreDrafts drafts }
+    ensures { Reads result (rules_from 0 no_rules drafts) }
+{
+    let mut definitions = Items::new(alloc);
+    let mut warnings = Items::new(alloc);
+    let mut before = 0;
+    'drafts: for draft in drafts.into_vec() {
+        let Some(last) = numbered(before, draft.queries.len()) else {
+            return Err(RulesFault::Memory);
+        };
+        let Checked {
+            definition,
+            warnings: more,
+        } = check(alloc, before, draft)?;
+        definitions.push(definition)?;
+        warnings = warnings_behind(warnings, more)?;
+        before = last;
+    }
+    Ok(Rules::made(definitions, warnings))
+}
+
+/// Reads the rules of docs/FORMATS.md, "Rules".
+///
+/// The faults of the YAML come first (`Yaml`), then the first place in reading order that has not the shape of rules
+/// (`Shape`), then the faults of the checks, definition after definition: `Sql`, `DuplicateName`, `MixedOutput`, `NoId`,
+/// `UnknownParameter`, `TooManyBranches` and `UnmatchedParameter`, each at the scalar of its query.
+#[tactic(auto, unfolding(crate::specs::Reading::rules_of, crate::specs::Reading::rules_in))]
+pub fn read_rules(alloc: Global, bytes: &[u8]) -> Result<Rules, RulesFault>
+    requires { length bytes.now < 4294967295 }
+    ensures exact { Reads result (rules_in bytes.now) }
+{
+    let node = document(alloc, bytes)?;
+    let drafts = drafts_in(alloc, node)?;
+    check_all(alloc, drafts)
+}
