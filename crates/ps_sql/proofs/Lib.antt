@@ -8,6 +8,7 @@ pub mod Found
 pub mod FoundQueries
 pub mod GrammarLaws
 pub mod LexemeLaws
+pub mod SubjectLaws
 pub mod QueryLaws
 pub mod Quotes
 pub mod WordLaws
