@@ -1,2 +1,3 @@
-mod Columns
+mod Elements
 mod Floats
+mod Searches
