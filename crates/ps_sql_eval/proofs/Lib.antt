@@ -1,3 +1,4 @@
 mod Elements
 mod Floats
+mod Parts
 mod Searches

@@ -1,8 +1,10 @@
 -- The value of an expression that is computed, by the meaning of queries.
-use Rattle.std.specs.Prelude.{◌≡◌, ℕ, List}
+use Rattle.std.specs.Prelude.{◌≡◌, ℕ, List, Option, None}
+use Rattle.serde_json.specs.Data.{Data}
+use Rattle.ps_sql.specs.Json.{plain_json}
 use Rattle.ps_values.specs.declared.columns.Column.{Column}
 use Rattle.ps_values.specs.declared.values.Value.{Value}
-use Rattle.ps_values.specs.declared.values.Value.TheVariants.{Null}
+use Rattle.ps_values.specs.declared.values.Value.TheVariants.{Null, Int, Text}
 use Rattle.ps_sql.specs.declared.expressions.Expr.{Expr}
 use Rattle.ps_sql.specs.Meaning.{Given, value_of}
 use Rattle.ps_sql.specs.Meaning as meaning
@@ -27,3 +29,9 @@ IsValueFor expr asker id row value = (bucket : List ℕ → Value) → value ≡
 -- the value on a row, whoever asks and whatever the bucket
 abbrev pub IsValueOn : Expr → List ℕ → List Column → Value → Type 0
 IsValueOn expr id row value = (asker : meaning.Asker) (bucket : List ℕ → Value) → value ≡ value_of (given_of asker id row bucket) expr
+
+-- the JSON that a value's text holds
+abbrev pub json_in : Value → Option Data
+json_in Null = None
+json_in (Int n) = None
+json_in (Text t) = plain_json t

@@ -1,4 +1,4 @@
-ghost use Rattle.std.specs.Prelude.{◌≡◌, false, map, IfOk};
+ghost use Rattle.std.specs.Prelude.{◌≡◌, false, map, [], ◌∷◌, IfOk};
 ghost use Rattle.ps_sql.specs.Meaning.{value_of, two_value, call_value};
 ghost use Rattle.ps_sql.specs.declared.subjects.Subject.TheVariants as subjects;
 ghost use Rattle.ps_sql.specs.Subjects.{speaks};
@@ -88,7 +88,7 @@ fn eval(
     }
 }
 
-/// The value of a function's call. An argument that does not matter is not looked at.
+/// The value of a function's call.
 #[cycle(evaluating)]
 fn call(
     alloc: Global,
@@ -101,28 +101,76 @@ fn call(
     ensures { IfOk result (λ value. value
         ≡ call_value function (map (value_of (without_bucket asker.now id.now row.now)) arguments.now)) }
 {
-    match (function, arguments) {
-        (Function::Upper, [a]) => upper(alloc, eval(alloc, a, asker, id, row)?),
-        (Function::Lower, [a]) => lower(alloc, eval(alloc, a, asker, id, row)?),
-        (Function::Length, [a]) => length(alloc, eval(alloc, a, asker, id, row)?),
-        (Function::IfNull, [a, b]) => {
+    match arguments {
+        [a] => {
             let a = eval(alloc, a, asker, id, row)?;
-            if a.is_null() {
-                eval(alloc, b, asker, id, row)
-            } else {
-                Ok(a)
-            }
+            of_one(alloc, function, a)
         }
-        (Function::Iif, [c, a, b]) => {
+        [a, b] => {
+            let a = eval(alloc, a, asker, id, row)?;
+            let b = eval(alloc, b, asker, id, row)?;
+            Ok(of_two(function, a, b))
+        }
+        [a, b, c] => {
+            let a = eval(alloc, a, asker, id, row)?;
+            let b = eval(alloc, b, asker, id, row)?;
             let c = eval(alloc, c, asker, id, row)?;
-            if truth_of(&c) == Truth::True {
-                eval(alloc, a, asker, id, row)
+            Ok(of_three(function, a, b, c))
+        }
+        _ => Ok(Value::Null),
+    }
+}
+
+/// The value of a function of one argument.
+fn of_one(alloc: Global, function: Function, a: Value) -> Result<Value, Memory>
+    ensures { IfOk result (λ value. value ≡ call_value function (a ∷ [])) }
+{
+    match function {
+        Function::Upper => upper(alloc, a),
+        Function::Lower => lower(alloc, a),
+        Function::Length => length(alloc, a),
+        Function::TypeOf => type_of(alloc, &a),
+        Function::IfNull | Function::Iif => Ok(Value::Null),
+    }
+}
+
+/// The value of a function of two arguments.
+fn of_two(function: Function, a: Value, b: Value) -> Value
+    ensures { result ≡ call_value function (a ∷ b ∷ []) }
+{
+    match function {
+        Function::IfNull => {
+            if a.is_null() {
+                b
             } else {
-                eval(alloc, b, asker, id, row)
+                a
             }
         }
-        (Function::TypeOf, [a]) => type_of(alloc, &eval(alloc, a, asker, id, row)?),
-        _ => Ok(Value::Null),
+        Function::Upper
+        | Function::Lower
+        | Function::Length
+        | Function::TypeOf
+        | Function::Iif => Value::Null,
+    }
+}
+
+/// The value of a function of three arguments.
+fn of_three(function: Function, a: Value, b: Value, c: Value) -> Value
+    ensures { result ≡ call_value function (a ∷ b ∷ c ∷ []) }
+{
+    match function {
+        Function::Iif => {
+            if truth_of(&a) == Truth::True {
+                b
+            } else {
+                c
+            }
+        }
+        Function::Upper
+        | Function::Lower
+        | Function::Length
+        | Function::TypeOf
+        | Function::IfNull => Value::Null,
     }
 }
 

@@ -76,15 +76,19 @@ pub(crate) fn length(alloc: Global, of: Value) -> Result<Value, Memory>
 {
     match text_of(alloc, of)? {
         None => Ok(Value::Null),
-        Some(text) => Ok(Value::Int(characters(&text))),
+        // a text of 2^63 characters is more than memory holds
+        Some(text) => match i64::try_from(characters(&text)) {
+            Ok(number) => Ok(Value::Int(number)),
+            Err(_) => Err(Memory),
+        },
     }
 }
 
 /// The number of a text's characters.
-fn characters(text: &Text) -> i64
-    ensures { result ≡ pos (count (chars text.now)) }
+fn characters(text: &Text) -> usize
+    ensures { result ≡ count (chars text.now) }
 {
-    text.as_str().chars().count() as i64
+    text.as_str().chars().count()
 }
 
 /// `typeof(of)`: `null`, `integer` or `text`.
