@@ -2,6 +2,8 @@
 use Rattle.std.proofs.lemmas.Bool.{cases_lt}
 use Rattle.std.proofs.Common.{inl, inr, ◌≡◌, ℕ, zero, suc, ◌<◌, ◌≤◌, ◌+◌, Bool, true, false, cond, List, [], ◌∷◌, length, get_or, refl, sym, ap, ◌∙◌, subst, arith, add-one, Result, Ok, Err}
 use Rattle.std.specs.Prelude.{not, ◌&&◌, bytes_eq}
+use Rattle.std.specs.Fn.{Called, AlwaysReturns, ReturnsEach}
+use denote.Param.Members.{Mut}
 use Rattle.std.specs.Ordering.{nat_cmp, is_lt, is_eq, ordering_reverse, ordering_index}
 use Rattle.std.specs.declared.cmp.Ordering.{Ordering}
 use Rattle.std.specs.declared.cmp.Ordering.TheVariants.{Less, Equal, Greater}
@@ -93,3 +95,12 @@ missing cs name at h parted = no_value cs name (λ k d lt. elim (cases_lt k at) 
   | inl below ↦ ap is_eq ((parted (comparisons_rise cs name h)).0 k d (omega arith) below)
   | inr from ↦ ap is_eq ((parted (comparisons_rise cs name h)).1 k d from lt)
 ])
+
+-- what each call of a closure answers, where no call changes what it captures
+module _ {F X R : Type 0} (g : Mut F X R) (P : X → R → Type 0) (f : F) (step : (a : X) (r : R) (f' : F) → Called g f a r f' → P a r × (f' ≡ f)) where
+  each : (xs : List X) (h : F) → h ≡ f → ReturnsEach g P h xs
+  each [] h e = tt
+  each (a ∷ xs) h e = λ r h' c. let this : P a r × (h' ≡ f) = step a r h' (subst (λ z. Called g z a r h') e c) in (this.0, each xs h' this.1)
+
+  pub answers_same : AlwaysReturns g P f
+  answers_same = record { at = λ xs. each xs f refl }
