@@ -1,3 +1,4 @@
+mod Calls
 mod Elements
 mod Floats
 mod Parts
