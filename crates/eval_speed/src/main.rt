@@ -15,7 +15,8 @@ use std::{env, io, thread};
 // As the stack that `powersync` runs on.
 const STACK: usize = 1073741824;
 
-const LINE: &[u8] = br#"{"pos":"1","changes":[{"op":"PUT","table":"lists","id":"l1","row":{"archived":0,"color":"blue","created":1700000000,"list_id":"l1","members":"[\"ann\",\"bob\"]","name":"Home","owner_id":"ann","rank":3,"title":"a title of some thirty bytes","updated":1700000001}}]}"#;
+const LINE: &[u8] =
+    br#"{"pos":"1","changes":[{"op":"PUT","table":"lists","id":"l1","row":{"archived":0,"color":"blue","created":1700000000,"list_id":"l1","members":"[\"ann\",\"bob\"]","name":"Home","owner_id":"ann","rank":3,"title":"a title of some thirty bytes","updated":1700000001}}]}"#;
 
 fn asker(alloc: Global) -> Option<Asker> {
     Some(Asker {
@@ -35,7 +36,14 @@ fn query_of(alloc: Global, expr: &str) -> Option<ParameterQuery> {
     read_parameter_query(alloc, &source).ok()
 }
 
-fn value_on(alloc: Global, expr: &Expr, asks: bool, asker: &Asker, id: &Text, row: &Row) -> Option<Value> {
+fn value_on(
+    alloc: Global,
+    expr: &Expr,
+    asks: bool,
+    asker: &Asker,
+    id: &Text,
+    row: &Row,
+) -> Option<Value> {
     if expr.speaks_of(Subject::Bucket) {
         return None;
     }

@@ -9,7 +9,10 @@ use crate::askers::nobody;
 use crate::columns::column_value;
 use crate::members::{arrow, double_arrow, within};
 use crate::texts::{cast, join, length, lower, type_of, upper};
-use crate::truths::{bool_value, greater, greater_or_equal, greatest, least, less, less_or_equal, opposite, truth_value};
+use crate::truths::{
+    bool_value, greater, greater_or_equal, greatest, least, less, less_or_equal, opposite,
+    truth_value,
+};
 use ps_changes::Row;
 use ps_sql::{Expr, Function, Operator, same_for_every_asker, same_for_every_bucket};
 use ps_values::{Memory, Text, Truth, Value, equal_sql, truth_of};
@@ -45,13 +48,7 @@ pub fn eval_request(
 
 /// The value of an expression, with Null for each parameter of a bucket.
 #[cycle(evaluating)]
-fn eval(
-    alloc: Global,
-    expr: &Expr,
-    asker: &Asker,
-    id: &Text,
-    row: &Row,
-) -> Result<Value, Memory>
+fn eval(alloc: Global, expr: &Expr, asker: &Asker, id: &Text, row: &Row) -> Result<Value, Memory>
     ensures { IfOk result (λ value. value ≡ value_of (without_bucket asker.now id.now row.now) expr.now) }
 {
     match expr {
@@ -139,18 +136,9 @@ fn of_two(function: Function, a: Value, b: Value) -> Value
     ensures { result ≡ call_value function (a ∷ b ∷ []) }
 {
     match function {
-        Function::IfNull => {
-            if a.is_null() {
-                b
-            } else {
-                a
-            }
-        }
-        Function::Upper
-        | Function::Lower
-        | Function::Length
-        | Function::TypeOf
-        | Function::Iif => Value::Null,
+        Function::IfNull => { if a.is_null() { b } else { a } }
+        Function::Upper | Function::Lower | Function::Length | Function::TypeOf | Function::Iif =>
+            Value::Null,
     }
 }
 
@@ -159,13 +147,7 @@ fn of_three(function: Function, a: Value, b: Value, c: Value) -> Value
     ensures { result ≡ call_value function (a ∷ b ∷ c ∷ []) }
 {
     match function {
-        Function::Iif => {
-            if truth_of(&a) == Truth::True {
-                b
-            } else {
-                c
-            }
-        }
+        Function::Iif => { if truth_of(&a) == Truth::True { b } else { c } }
         Function::Upper
         | Function::Lower
         | Function::Length

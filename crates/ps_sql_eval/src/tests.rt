@@ -6,7 +6,8 @@ use std::alloc::Global;
 use std::test::Fail;
 
 // A row with the id `r1`.
-const LINE: &[u8] = br#"{"pos":"1","changes":[{"op":"PUT","table":"t","id":"r1","row":{"big":9223372036854775807,"empty":"","five":5,"json":"{\"k\":\"v\",\"n\":null,\"list\":[1,null,\"x\"],\"deep\":{\"b\":[true],\"a\":-1},\"half\":1.5,\"large\":9223372036854775808,\"yes\":true,\"k\":\"w\"}","list":" [1, \"x\", null, [2,3], {\"b\":1,\"a\":2}, 2.5, true]","minus":-7,"none":null,"one":"1","text":"Gr\u00fc\u00dfe \ud83d\ude00","zero":0}}]}"#;
+const LINE: &[u8] =
+    br#"{"pos":"1","changes":[{"op":"PUT","table":"t","id":"r1","row":{"big":9223372036854775807,"empty":"","five":5,"json":"{\"k\":\"v\",\"n\":null,\"list\":[1,null,\"x\"],\"deep\":{\"b\":[true],\"a\":-1},\"half\":1.5,\"large\":9223372036854775808,\"yes\":true,\"k\":\"w\"}","list":" [1, \"x\", null, [2,3], {\"b\":1,\"a\":2}, 2.5, true]","minus":-7,"none":null,"one":"1","text":"Gr\u00fc\u00dfe \ud83d\ude00","zero":0}}]}"#;
 
 fn text(alloc: Global, written: &str) -> Result<Text, Fail> {
     Ok(Text::from_str(alloc, written)?)
@@ -90,7 +91,11 @@ fn literals_and_columns(rt: HostRuntime) -> Result<(), Fail> {
         ("(text)", "'Grüße 😀'"),
     ];
     for (written, expected) in table {
-        assert_eq!(rt; value(rt.alloc(), written)?.as_str(), expected, "at {written}");
+        assert_eq!(rt;
+            value(rt.alloc(), written)?.as_str(),
+            expected,
+            "at {written}"
+        );
     }
     Ok(())
 }
@@ -124,7 +129,11 @@ fn comparisons(rt: HostRuntime) -> Result<(), Fail> {
         ("1 < 2 = 1", "1"),
     ];
     for (written, expected) in table {
-        assert_eq!(rt; value(rt.alloc(), written)?.as_str(), expected, "at {written}");
+        assert_eq!(rt;
+            value(rt.alloc(), written)?.as_str(),
+            expected,
+            "at {written}"
+        );
     }
     Ok(())
 }
@@ -156,7 +165,11 @@ fn three_valued_logic(rt: HostRuntime) -> Result<(), Fail> {
         ("NOT none IS NULL", "0"),
     ];
     for (written, expected) in table {
-        assert_eq!(rt; value(rt.alloc(), written)?.as_str(), expected, "at {written}");
+        assert_eq!(rt;
+            value(rt.alloc(), written)?.as_str(),
+            expected,
+            "at {written}"
+        );
     }
     Ok(())
 }
@@ -184,7 +197,11 @@ fn elements_of_arrays(rt: HostRuntime) -> Result<(), Fail> {
         ("'b' IN (request.jwt() ->> 'groups')", "1"),
     ];
     for (written, expected) in table {
-        assert_eq!(rt; value(rt.alloc(), written)?.as_str(), expected, "at {written}");
+        assert_eq!(rt;
+            value(rt.alloc(), written)?.as_str(),
+            expected,
+            "at {written}"
+        );
     }
     Ok(())
 }
@@ -224,7 +241,11 @@ fn members_of_json(rt: HostRuntime) -> Result<(), Fail> {
         ("'\"x\"' ->> 0", "NULL"),
     ];
     for (written, expected) in table {
-        assert_eq!(rt; value(rt.alloc(), written)?.as_str(), expected, "at {written}");
+        assert_eq!(rt;
+            value(rt.alloc(), written)?.as_str(),
+            expected,
+            "at {written}"
+        );
     }
     Ok(())
 }
@@ -261,7 +282,11 @@ fn texts_and_functions(rt: HostRuntime) -> Result<(), Fail> {
         ("typeof(1 = 1)", "'integer'"),
     ];
     for (written, expected) in table {
-        assert_eq!(rt; value(rt.alloc(), written)?.as_str(), expected, "at {written}");
+        assert_eq!(rt;
+            value(rt.alloc(), written)?.as_str(),
+            expected,
+            "at {written}"
+        );
     }
     Ok(())
 }
@@ -280,7 +305,11 @@ fn request_functions(rt: HostRuntime) -> Result<(), Fail> {
         ("'id' || request.user_id()", "'idann'"),
     ];
     for (written, expected) in table {
-        assert_eq!(rt; value(rt.alloc(), written)?.as_str(), expected, "at {written}");
+        assert_eq!(rt;
+            value(rt.alloc(), written)?.as_str(),
+            expected,
+            "at {written}"
+        );
     }
     Ok(())
 }
