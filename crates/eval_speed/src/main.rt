@@ -1,7 +1,8 @@
 //! Evaluates one expression again and again, for `bench/eval` to time.
 //!
 //! `times COUNT EXPRESSION` evaluates it that many times, on a row of ten columns for a user `ann`, and
-//! `deep COUNT` evaluates that many NOTs of one column once, each on a thread with the program's stack.
+//! `deep DEPTH SHAPE` evaluates one column below that many NOTs or brackets (`nots`, `brackets`), or at the front of a chain
+//! of that many operators (`ands`, `joins`), once. Either runs on a thread with the program's stack.
 //! Prints how many of the values were true.
 #![tactic(auto)]
 
@@ -79,21 +80,35 @@ fn count(alloc: Global, expr: &str, times: u64) -> Option<u64> {
     }
 }
 
-// As many NOTs of a column.
-fn nots(alloc: Global, count: u64) -> Option<String> {
-    let mut nots = String::new(alloc);
-    'nots: for _ in 0..count {
-        nots.push_str("NOT ").ok()?;
+// A text as often as that.
+fn repeated(alloc: Global, part: &str, count: u64) -> Option<String> {
+    let mut whole = String::new(alloc);
+    'parts: for _ in 0..count {
+        whole.push_str(part).ok()?;
     }
-    nots.push_str("rank").ok()?;
-    Some(nots)
+    Some(whole)
+}
+
+// An expression of that shape and depth.
+fn nested(alloc: Global, shape: &str, depth: u64) -> Option<String> {
+    let (front, back) = match shape {
+        "nots" => ("NOT ", ""),
+        "brackets" => ("(", ")"),
+        "ands" => ("", " AND rank"),
+        "joins" => ("", "||rank"),
+        _ => return None,
+    };
+    let mut whole = repeated(alloc, front, depth)?;
+    whole.push_str("rank").ok()?;
+    whole.push_str(repeated(alloc, back, depth)?.as_str()).ok()?;
+    Some(whole)
 }
 
 fn run(alloc: Global, work: &str, number: &str, expr: &str) -> Option<u64> {
     let number = number.parse::<u64>().ok()?;
     match work {
         "times" => count(alloc, expr, number),
-        "deep" => count(alloc, nots(alloc, number)?.as_str(), 1),
+        "deep" => count(alloc, nested(alloc, expr, number)?.as_str(), 1),
         _ => None,
     }
 }
@@ -102,7 +117,7 @@ fn run_words(rt: &HostRuntime) -> io::Result<()> {
     let mut words = env::args(rt)?;
     let _program = words.next();
     let (Some(work), Some(number), Some(expr)) = (words.next(), words.next(), words.next()) else {
-        return println!(rt; "usage: eval_speed times COUNT EXPRESSION | deep COUNT -");
+        return println!(rt; "usage: eval_speed times COUNT EXPRESSION | deep DEPTH SHAPE");
     };
     match run(rt.alloc(), work.as_str(), number.as_str(), expr.as_str()) {
         Some(held) => println!(rt; "{held}"),
