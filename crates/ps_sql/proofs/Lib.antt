@@ -10,6 +10,7 @@ pub mod GrammarLaws
 pub mod LexemeLaws
 pub mod Only
 pub mod OnlyQueries
+pub mod SubjectLaws
 pub mod QueryLaws
 pub mod Quotes
 pub mod Readings

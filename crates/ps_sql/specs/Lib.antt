@@ -4,6 +4,7 @@ pub mod Inputs
 pub mod Lexemes
 pub mod Json
 pub mod Meaning
+pub mod Subjects
 pub mod Queries
 pub mod Readings
 pub mod Spelled

@@ -11,6 +11,7 @@ mod primes;
 mod queries;
 mod readers;
 mod scans;
+mod subjects;
 mod words;
 
 pub use expressions::{Expr, Function, Operator};
@@ -18,6 +19,7 @@ pub use faults::SqlFault;
 pub use lexemes::tokens;
 pub use queries::{DataQuery, Output, ParameterQuery};
 pub use readers::{read_data_query, read_parameter_query};
+pub use subjects::{Subject, same_for_every_asker, same_for_every_bucket, same_on_every_row};
 pub use words::{Token, TokenKind};
 
 #[cfg(test)]

@@ -1,0 +1,5 @@
+mod Calls
+mod Elements
+mod Floats
+mod Parts
+mod Searches

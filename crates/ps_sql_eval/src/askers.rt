@@ -1,0 +1,25 @@
+use ps_values::Text;
+use std::alloc::Global;
+
+/// Who asks.
+#[derive(Debug, Drop)]
+pub struct Asker {
+    /// The user.
+    pub user: Text,
+    /// The token's payload, the compact text of a JSON object.
+    pub payload: Text,
+    /// The client's parameters, the compact text of a JSON object.
+    pub parameters: Text,
+    /// The client's own id, if it gave one.
+    pub client: Option<Text>,
+}
+
+/// An asker of whom nothing is known. Takes no memory.
+pub(crate) fn nobody(alloc: Global) -> Asker {
+    Asker {
+        user: Text::from_string(String::new(alloc)),
+        payload: Text::from_string(String::new(alloc)),
+        parameters: Text::from_string(String::new(alloc)),
+        client: None,
+    }
+}
