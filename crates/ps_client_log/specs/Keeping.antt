@@ -1,0 +1,16 @@
+-- What a keeper answers.
+use Rattle.std.specs.Prelude.{◌≡◌, ℕ, ◌+◌, ◌-◌, ◌^◌, ◌≤◌, min, Option, Some, None, Result, Ok, Err, IfSome}
+use Rattle.ps_client_log.specs.declared.states.State.{State}
+use Rattle.ps_client_log.specs.declared.faults.KeepFault.{KeepFault}
+use Rattle.ps_client_log.specs.declared.faults.KeepFault.TheVariants.{Failed, Memory}
+use Rattle.ps_client_log.specs.Kept.{Kept, kept_of}
+
+-- a count of faults rose, as far as it can
+abbrev pub Rose : ℕ → ℕ → Type 0
+Rose before now = min (before + 1) (2 ^ 64 - 1) ≤ now
+
+-- a keeper failed only where its count of faults rose
+abbrev pub RoseWhereFailed : {X : Type 0} → Result X KeepFault → ℕ → ℕ → Type 0
+RoseWhereFailed (Ok x) before now = Unit {0}
+RoseWhereFailed (Err Failed) before now = Rose before now
+RoseWhereFailed (Err Memory) before now = Unit {0}

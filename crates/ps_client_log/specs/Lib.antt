@@ -1,0 +1,6 @@
+pub mod Kept
+pub mod Soundness
+pub mod Edits
+pub mod Images
+pub mod Keeping
+pub mod Types

@@ -1,0 +1,38 @@
+use crate::Target;
+use ps_bucket_log::Op;
+use ps_changes::{Change, Shown};
+use ps_values::{Items, Text};
+
+/// A change of what a client keeps.
+#[derive(Debug, Drop)]
+pub enum Edit {
+    /// The bucket takes operations, one after another. Where there are none, nothing changes.
+    Take {
+        /// The bucket's name.
+        bucket: Text,
+        /// The operations. Their ids rise from past the bucket's position, up to 9223372036854775807.
+        ops: Items<Op>,
+    },
+    /// The bucket goes, with all that it holds.
+    Delete {
+        /// The bucket's name.
+        bucket: Text,
+    },
+    /// A local write goes to the end of the queue.
+    Push {
+        /// The local write.
+        change: Change,
+    },
+    /// The oldest local write leaves the queue, which is not empty.
+    Pop,
+    /// The target changes.
+    Aim {
+        /// The target from now on.
+        target: Target,
+    },
+    /// These rows are shown, and no others.
+    Show {
+        /// The rows. No kind and id stand twice.
+        rows: Items<Shown>,
+    },
+}

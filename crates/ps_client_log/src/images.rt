@@ -1,0 +1,73 @@
+ghost use Rattle.std.specs.Prelude.{◌≡◌, ◌+◌, ◌<◌, ◌≤◌};
+ghost use Rattle.indexmap.specs.IndexMap.{spare};
+ghost use Rattle.ps_bucket_log.specs.Buckets.{after, fresh};
+ghost use Rattle.ps_client_log.specs.Images.{image_of};
+
+use indexmap::IndexMap;
+use ps_bucket_log::{Key, Op};
+use ps_checksum::{Sum, add};
+use ps_values::{OpId, Text};
+use std::alloc::Global;
+
+// What is held of a key.
+#[derive(Debug, Drop)]
+pub struct Entry {
+    pub id: OpId,
+    pub content: Text,
+    pub sum: Sum,
+}
+
+// The image of the operations that a bucket took: the last id, the sum since the last CLEAR, and the PUTs that stand.
+#[derive(Drop)]
+pub struct Image {
+    pub position: OpId,
+    pub total: Sum,
+    pub held: IndexMap<Key, Entry>,
+}
+
+impl Image {
+    // The image of no operations.
+    pub fn new(alloc: Global) -> Image
+        ensures { image_of result ≡ fresh }
+    {
+        Image {
+            position: OpId(0),
+            total: Sum(0),
+            held: IndexMap::new(alloc),
+        }
+    }
+
+    // Takes an operation. A PUT wants room for one more entry.
+    pub fn take(&mut self, op: Op)
+        requires { 0 < spare self.old.held }
+        ensures image { image_of self.new ≡ after (image_of self.old) op }
+        ensures room { spare self.old.held ≤ spare self.new.held + 1 }
+    {
+        match op {
+            Op::Put {
+                id,
+                key,
+                content,
+                sum,
+            } => {
+                let _old = self.held.insert(key, Entry { id, content, sum });
+                self.position = id;
+                self.total = add(self.total, sum);
+            }
+            Op::Remove { id, key, sum } => {
+                let _old = self.held.swap_remove(&key);
+                self.position = id;
+                self.total = add(self.total, sum);
+            }
+            Op::Move { id, sum, .. } => {
+                self.position = id;
+                self.total = add(self.total, sum);
+            }
+            Op::Clear { id, sum, .. } => {
+                self.held.clear();
+                self.position = id;
+                self.total = sum;
+            }
+        }
+    }
+}

@@ -1,0 +1,14 @@
+//! What a client keeps of its buckets, over anything that keeps it: the image of the operations that each bucket took.
+#![tactic(auto)]
+
+mod edits;
+mod faults;
+mod images;
+mod keepers;
+mod states;
+
+pub use edits::Edit;
+pub use faults::KeepFault;
+pub use keepers::Keeper;
+pub use ps_changes::Shown;
+pub use states::{BucketState, Held, State, Target};
