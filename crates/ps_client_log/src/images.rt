@@ -1,4 +1,4 @@
-ghost use Rattle.std.specs.Prelude.{◌≡◌, ◌+◌, ◌<◌, ◌≤◌};
+ghost use Rattle.std.specs.Prelude.{◌≡◌, ◌+◌, ◌<◌, ◌≤◌, fold, length, OnOk};
 ghost use Rattle.indexmap.specs.IndexMap.{spare};
 ghost use Rattle.ps_bucket_log.specs.Buckets.{after, fresh};
 ghost use Rattle.ps_client_log.specs.Images.{image_of};
@@ -6,7 +6,7 @@ ghost use Rattle.ps_client_log.specs.Images.{image_of};
 use indexmap::IndexMap;
 use ps_bucket_log::{Key, Op};
 use ps_checksum::{Sum, add};
-use ps_values::{OpId, Text};
+use ps_values::{Memory, OpId, Text};
 use std::alloc::Global;
 
 // What is held of a key.
@@ -34,6 +34,37 @@ impl Image {
             position: OpId(0),
             total: Sum(0),
             held: IndexMap::new(alloc),
+        }
+    }
+
+    // Begins anew, and keeps the room.
+    pub fn reset(&mut self)
+        ensures image { image_of self.new ≡ fresh }
+        ensures room { spare self.old.held ≤ spare self.new.held }
+    {
+        self.position = OpId(0);
+        self.total = Sum(0);
+        self.held.clear();
+    }
+
+    // Makes room for more entries.
+    pub fn reserve(&mut self, count: usize) -> Result<(), Memory>
+        ensures image { image_of self.new ≡ image_of self.old }
+        ensures room { spare self.old.held ≤ spare self.new.held }
+        ensures ok { OnOk result (count ≤ spare self.new.held) }
+    {
+        self.held.reserve(count)?;
+        Ok(())
+    }
+
+    // Takes operations, one after another. Each wants room for one more entry.
+    pub fn take_all(&mut self, ops: Vec<Op>)
+        requires { length ops.items ≤ spare self.old.held }
+        ensures image { image_of self.new ≡ fold after (image_of self.old) ops.items }
+        ensures room { spare self.old.held ≤ spare self.new.held + length ops.items }
+    {
+        'ops: for op in ops {
+            self.take(op);
         }
     }
 

@@ -1,10 +1,12 @@
 //! What a client keeps of its buckets, over anything that keeps it: the image of the operations that each bucket took.
 #![tactic(auto)]
 
+mod buckets;
 mod edits;
 mod faults;
 mod images;
 mod keepers;
+mod slots;
 mod states;
 
 pub use edits::Edit;

@@ -1,0 +1,64 @@
+ghost use Rattle.std.specs.Prelude.{◌≡◌, ◌≢◌, ℕ, ◌+◌, ◌≤◌, List, [], Some, None, OnOk, fold, length, unwrap_or, bytes_eq, if◌then◌else◌};
+ghost use Rattle.ps_bucket_log.specs.Buckets.{after, fresh};
+ghost use Rattle.ps_client_log.specs.Images.{bucket_found, room_for};
+
+use crate::slots::Slot;
+use indexmap::IndexMap;
+use ps_bucket_log::Op;
+use ps_values::{Memory, Text};
+use std::alloc::Global;
+
+// The buckets by name.
+#[derive(Drop)]
+pub struct Buckets {
+    pub slots: IndexMap<Text, Slot>,
+}
+
+impl Buckets {
+    // No buckets.
+    pub fn new(alloc: Global) -> Buckets
+        ensures { (name : List ℕ) → bucket_found result name ≡ None }
+    {
+        Buckets {
+            slots: IndexMap::new(alloc),
+        }
+    }
+
+    // Makes room for more entries in a bucket, whether it is there or not.
+    pub fn reserve(&mut self, alloc: Global, name: &Text, count: usize) -> Result<(), Memory>
+        ensures buckets { (other : List ℕ) → bucket_found self.new other ≡ bucket_found self.old other }
+        ensures rooms { (other : List ℕ) → room_for self.old other ≤ room_for self.new other }
+        ensures ok { OnOk result (count ≤ room_for self.new name.now) }
+    {
+        if let Some(slot) = self.slots.get_mut(name) {
+            return slot.reserve(count);
+        }
+        let mut slot = Slot::new(alloc);
+        slot.reserve(count)?;
+        self.slots.insert(name.copy(alloc)?, slot)?;
+        Ok(())
+    }
+
+    // A bucket for which there is room takes operations.
+    pub fn take(&mut self, name: &Text, ops: Vec<Op>)
+        requires some { ops.items ≢ [] }
+        requires room { length ops.items ≤ room_for self.old name.now }
+        ensures buckets { (other : List ℕ) → bucket_found self.new other
+            ≡ (if bytes_eq name.now other then Some (fold after (unwrap_or (bucket_found self.old name.now) fresh) ops.items) else bucket_found self.old other) }
+        ensures rooms { (other : List ℕ) → room_for self.old other ≤ room_for self.new other + (if bytes_eq name.now other then length ops.items else 0) }
+    {
+        if let Some(slot) = self.slots.get_mut(name) {
+            slot.take(ops);
+        }
+    }
+
+    // A bucket goes, and its room stays.
+    pub fn leave(&mut self, name: &Text)
+        ensures buckets { (other : List ℕ) → bucket_found self.new other ≡ (if bytes_eq name.now other then None else bucket_found self.old other) }
+        ensures rooms { (other : List ℕ) → room_for self.old other ≤ room_for self.new other }
+    {
+        if let Some(slot) = self.slots.get_mut(name) {
+            slot.leave();
+        }
+    }
+}
