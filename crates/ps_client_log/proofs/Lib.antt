@@ -1,3 +1,4 @@
 pub mod Outcomes
 pub mod Keys
 pub mod Holding
+pub mod Making

@@ -1,11 +1,13 @@
 ghost use Rattle.std.specs.Prelude.{◌≡◌, ◌≢◌, ℕ, ◌+◌, ◌≤◌, List, [], Some, None, OnOk, fold, length, unwrap_or, bytes_eq, if◌then◌else◌};
 ghost use Rattle.ps_bucket_log.specs.Buckets.{after, fresh};
 ghost use Rattle.ps_client_log.specs.Images.{bucket_found, room_for};
+ghost use Rattle.ps_client_log.specs.Rooms.{given};
 
 use crate::slots::Slot;
 use indexmap::IndexMap;
 use ps_bucket_log::Op;
-use ps_values::{Memory, Text};
+use ps_checksum::Sum;
+use ps_values::{Memory, OpId, Text};
 use std::alloc::Global;
 
 // The buckets by name.
@@ -39,6 +41,21 @@ impl Buckets {
         Ok(())
     }
 
+    // Makes room in each bucket that has a name among the rooms.
+    pub fn reserve_all(
+        &mut self,
+        alloc: Global,
+        rooms: &IndexMap<Text, usize>,
+    ) -> Result<(), Memory>
+        ensures buckets { (other : List ℕ) → bucket_found self.new other ≡ bucket_found self.old other }
+        ensures rooms { OnOk result ((name : List ℕ) → given rooms.now name ≤ room_for self.new name) }
+    {
+        'rooms: for (name, count) in rooms.iter() {
+            self.reserve(alloc, name, *count)?;
+        }
+        Ok(())
+    }
+
     // A bucket for which there is room takes operations.
     pub fn take(&mut self, name: &Text, ops: Vec<Op>)
         requires some { ops.items ≢ [] }
@@ -59,6 +76,48 @@ impl Buckets {
     {
         if let Some(slot) = self.slots.get_mut(name) {
             slot.leave();
+        }
+    }
+
+    // Gives up the room of a bucket that is not there.
+    pub fn tidy(&mut self, name: &Text)
+        ensures { (other : List ℕ) → bucket_found self.new other ≡ bucket_found self.old other }
+    {
+        let there = match self.slots.get(name) {
+            Some(slot) => slot.there,
+            None => true,
+        };
+        if !there {
+            let _slot = self.slots.swap_remove(name);
+        }
+    }
+
+    // A bucket's total, 0 where it is not there.
+    pub fn total(&self, name: &Text) -> Sum
+        ensures { result.0 ≡ (unwrap_or (bucket_found self.now name.now) fresh).total }
+    {
+        match self.slots.get(name) {
+            Some(slot) if slot.there => slot.image.total,
+            _ => Sum(0),
+        }
+    }
+
+    // A bucket's position, 0 where it is not there.
+    pub fn position(&self, name: &Text) -> OpId
+        ensures { result.0 ≡ (unwrap_or (bucket_found self.now name.now) fresh).position }
+    {
+        match self.slots.get(name) {
+            Some(slot) if slot.there => slot.image.position,
+            _ => OpId(0),
+        }
+    }
+
+    // Gives up the room of each bucket that has a name among the rooms and is not there.
+    pub fn tidy_all(&mut self, rooms: &IndexMap<Text, usize>)
+        ensures { (other : List ℕ) → bucket_found self.new other ≡ bucket_found self.old other }
+    {
+        'rooms: for name in rooms.keys() {
+            self.tidy(name);
         }
     }
 }

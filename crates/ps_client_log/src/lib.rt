@@ -4,8 +4,10 @@
 mod buckets;
 mod edits;
 mod faults;
+mod holdings;
 mod images;
 mod keepers;
+mod rooms;
 mod slots;
 mod states;
 
