@@ -12,6 +12,9 @@ and_assoc : (x y z : Bool) → (x && (y && z)) ≡ ((x && y) && z)
 and_assoc true y z = refl
 and_assoc false y z = refl
 
+pub key_eq-same : (a b : Key) → key_eq a b ≡ same_key a b
+key_eq-same a b = and_assoc (bytes_eq a.kind b.kind) (bytes_eq a.id b.id) (bytes_eq a.subkey b.subkey)
+
 pub key_eq-same_key : (a b : Key) → key_eq a b ≡ same_key b a
 key_eq-same_key a b =
     rw (nat_list_eq_equiv.symm a.kind b.kind, nat_list_eq_equiv.symm a.id b.id, nat_list_eq_equiv.symm a.subkey b.subkey)

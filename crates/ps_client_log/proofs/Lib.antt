@@ -2,3 +2,6 @@ pub mod Outcomes
 pub mod Keys
 pub mod Holding
 pub mod Making
+pub mod Telling
+pub mod Saving
+pub mod Sound

@@ -9,8 +9,15 @@ use Rattle.ps_client_log.specs.Kept.{Kept, kept_of}
 abbrev pub Rose : ℕ → ℕ → Type 0
 Rose before now = min (before + 1) (2 ^ 64 - 1) ≤ now
 
--- a keeper failed only where its count of faults rose
+-- a keeper fails only where its count of faults rises
+abbrev pub RoseAt : KeepFault → ℕ → ℕ → Type 0
+RoseAt Failed before now = Rose before now
+RoseAt Memory before now = Unit {0}
+
 abbrev pub RoseWhereFailed : {X : Type 0} → Result X KeepFault → ℕ → ℕ → Type 0
 RoseWhereFailed (Ok x) before now = Unit {0}
-RoseWhereFailed (Err Failed) before now = Rose before now
-RoseWhereFailed (Err Memory) before now = Unit {0}
+RoseWhereFailed (Err fault) before now = RoseAt fault before now
+
+-- a keeper that tells what it keeps keeps this
+abbrev pub Tells : Option Kept → Kept → Type 0
+Tells told kept = IfSome told (λ own. own ≡ kept)

@@ -32,16 +32,27 @@ abbrev pub held_sum : List Held → ℕ
 held_sum entries = sum_by (λ held. held.sum.0) entries
 
 -- a bucket's position, its total, which is the added sum and the sums of what is held, and what is held of each key
+abbrev pub told_by : ℕ → ℕ → List Held → Bucket
+told_by position added held = record {
+  position = position;
+  total = (added + held_sum held) % 2 ^ 32;
+  held = held_in held;
+}
+
 abbrev pub bucket_kept : BucketState → Bucket
-bucket_kept bucket = record {
-  position = bucket.position.0;
-  total = (bucket.added.0 + held_sum bucket.held) % 2 ^ 32;
-  held = held_in bucket.held;
+bucket_kept bucket = told_by bucket.position.0 bucket.added.0 bucket.held
+
+-- a bucket that holds one more entry, whose sum is added
+abbrev pub with_held : Bucket → Held → Bucket
+with_held bucket held = record {
+  position = bucket.position;
+  total = (bucket.total + held.sum.0) % 2 ^ 32;
+  held = λ key. if same_key key held.key then Some (put_of held) else bucket.held key;
 }
 
 -- the bucket of that name
 abbrev pub bucket_in : List BucketState → List ℕ → Option Bucket
-bucket_in buckets name = fold (λ found bucket. if bytes_eq name bucket.name then Some (bucket_kept bucket) else found) None buckets
+bucket_in buckets name = fold (λ found bucket. if bytes_eq bucket.name name then Some (bucket_kept bucket) else found) None buckets
 
 -- the data that is shown for a kind and an id
 abbrev pub shown_in : List Shown → List ℕ → List ℕ → Option (List ℕ)

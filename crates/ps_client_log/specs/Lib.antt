@@ -4,4 +4,6 @@ pub mod Edits
 pub mod Images
 pub mod Rooms
 pub mod Keeping
+pub mod Saving
+pub mod Logs
 pub mod Types

@@ -1,13 +1,16 @@
-ghost use Rattle.std.specs.Prelude.{◌≡◌, ◌≢◌, ℕ, ◌+◌, ◌≤◌, List, [], Some, None, OnOk, fold, length, unwrap_or, bytes_eq, if◌then◌else◌};
+ghost use Rattle.std.specs.Prelude.{◌≡◌, ◌≢◌, ℕ, ◌+◌, ◌≤◌, List, [], Some, None, OnOk, IfOk, fold, length, unwrap_or, bytes_eq, if◌then◌else◌};
 ghost use Rattle.ps_bucket_log.specs.Buckets.{after, fresh};
 ghost use Rattle.ps_client_log.specs.Images.{bucket_found, room_for};
+ghost use Rattle.ps_client_log.specs.Kept.{bucket_in, bucket_kept};
 ghost use Rattle.ps_client_log.specs.Rooms.{given};
 
+use crate::BucketState;
+use crate::images::Image;
 use crate::slots::Slot;
 use indexmap::IndexMap;
 use ps_bucket_log::Op;
 use ps_checksum::Sum;
-use ps_values::{Memory, OpId, Text};
+use ps_values::{Items, Memory, OpId, Text};
 use std::alloc::Global;
 
 // The buckets by name.
@@ -24,6 +27,32 @@ impl Buckets {
         Buckets {
             slots: IndexMap::new(alloc),
         }
+    }
+
+    // Keeps one more bucket.
+    fn keep(&mut self, alloc: Global, bucket: BucketState) -> Result<(), Memory>
+        ensures { OnOk result ((other : List ℕ) → bucket_found self.new other ≡ (if bytes_eq bucket.name other then Some (bucket_kept bucket) else bucket_found self.old other)) }
+    {
+        let BucketState {
+            name,
+            position,
+            added,
+            held,
+        } = bucket;
+        let image = Image::from_state(alloc, position, added, held)?;
+        self.slots.insert(name, Slot { there: true, image })?;
+        Ok(())
+    }
+
+    // The buckets that states tell.
+    pub fn from_states(alloc: Global, states: Items<BucketState>) -> Result<Buckets, Memory>
+        ensures { IfOk result (λ buckets. (name : List ℕ) → bucket_found buckets name ≡ bucket_in states name) }
+    {
+        let mut buckets = Buckets::new(alloc);
+        'states: for state in states.into_vec() {
+            buckets.keep(alloc, state)?;
+        }
+        Ok(buckets)
     }
 
     // Makes room for more entries in a bucket, whether it is there or not.

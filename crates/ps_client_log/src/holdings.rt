@@ -1,11 +1,14 @@
-ghost use Rattle.std.specs.Prelude.{◌≡◌, ℕ, ◌≤◌, List, ◌∷◌, [], OnOk, ◌+◌, vec_len, vec_capacity};
+ghost use Rattle.std.specs.Prelude.{◌≡◌, ℕ, ◌≤◌, List, ◌∷◌, [], OnOk, IfOk, ◌+◌, vec_len, vec_capacity};
 ghost use Rattle.ps_client_log.specs.Edits.{CanMake, CanMakeAll, with_edit, with_edits};
 ghost use Rattle.ps_client_log.specs.Rooms.{kept_by, given, brings, pushes, HasRoom};
 ghost use Rattle.ps_client_log.specs.Images.{room_for};
+ghost use Rattle.ps_client_log.specs.Kept.{kept_of};
+ghost use Rattle.ps_client_log.specs.Soundness.{same_row};
+ghost use Rattle.std.specs.List.{IsDistinct};
 
 use crate::buckets::Buckets;
 use crate::rooms::rooms_for;
-use crate::{Edit, Target};
+use crate::{Edit, State, Target};
 use indexmap::IndexMap;
 use ps_changes::{Change, Shown};
 use ps_values::{Items, Memory, Text};
@@ -21,6 +24,25 @@ pub struct Holdings {
 }
 
 impl Holdings {
+    // What a state keeps.
+    pub fn from_state(alloc: Global, state: State) -> Result<Holdings, Memory>
+        ensures kept { IfOk result (λ holdings. kept_by holdings ≡ kept_of state) }
+        ensures shown { IfOk result (λ holdings. holdings.shown ≡ state.shown) }
+    {
+        let State {
+            buckets,
+            queue,
+            target,
+            shown,
+        } = state;
+        Ok(Holdings {
+            buckets: Buckets::from_states(alloc, buckets)?,
+            queue: queue.into_vec(),
+            target,
+            shown,
+        })
+    }
+
     // Makes room in the buckets.
     fn reserve(
         &mut self,
@@ -50,6 +72,7 @@ impl Holdings {
         requires can { CanMake (kept_by self.old) edit }
         requires room { HasRoom self.old (edit ∷ []) }
         ensures kept { kept_by self.new ≡ with_edit (kept_by self.old) edit }
+        ensures shown { IsDistinct same_row self.old.shown → IsDistinct same_row self.new.shown }
         ensures entries { (name : List ℕ) → room_for self.old.buckets name ≤ room_for self.new.buckets name + brings name edit }
         ensures queued { vec_len self.new.queue ≤ vec_len self.old.queue + pushes edit }
         ensures queue { vec_capacity self.old.queue ≤ vec_capacity self.new.queue }
@@ -74,7 +97,8 @@ impl Holdings {
     pub fn make_all(&mut self, edits: Vec<Edit>)
         requires can { CanMakeAll (kept_by self.old) edits.items }
         requires room { HasRoom self.old edits.items }
-        ensures { kept_by self.new ≡ with_edits (kept_by self.old) edits.items }
+        ensures kept { kept_by self.new ≡ with_edits (kept_by self.old) edits.items }
+        ensures shown { IsDistinct same_row self.old.shown → IsDistinct same_row self.new.shown }
     {
         'edits: for edit in edits {
             self.make(edit);
@@ -92,10 +116,12 @@ impl Holdings {
         ensures room { OnOk result (HasRoom self.new edits.now) }
     {
         let rooms = rooms_for(alloc, edits)?;
-        if self.reserve(alloc, &rooms, edits.len()).is_err() {
-            self.tidy(&rooms);
-            return Err(Memory);
+        match self.reserve(alloc, &rooms, edits.len()) {
+            Ok(()) => Ok(rooms),
+            Err(Memory) => {
+                self.tidy(&rooms);
+                Err(Memory)
+            }
         }
-        Ok(rooms)
     }
 }

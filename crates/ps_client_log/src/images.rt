@@ -1,12 +1,14 @@
-ghost use Rattle.std.specs.Prelude.{◌≡◌, ◌+◌, ◌<◌, ◌≤◌, fold, length, OnOk};
+ghost use Rattle.std.specs.Prelude.{◌≡◌, ◌+◌, ◌<◌, ◌≤◌, fold, length, OnOk, IfOk};
 ghost use Rattle.indexmap.specs.IndexMap.{spare};
 ghost use Rattle.ps_bucket_log.specs.Buckets.{after, fresh};
 ghost use Rattle.ps_client_log.specs.Images.{image_of};
+ghost use Rattle.ps_client_log.specs.Kept.{with_held, told_by};
 
+use crate::Held;
 use indexmap::IndexMap;
 use ps_bucket_log::{Key, Op};
 use ps_checksum::{Sum, add};
-use ps_values::{Memory, OpId, Text};
+use ps_values::{Items, Memory, OpId, Text};
 use std::alloc::Global;
 
 // What is held of a key.
@@ -35,6 +37,43 @@ impl Image {
             total: Sum(0),
             held: IndexMap::new(alloc),
         }
+    }
+
+    // Holds an entry, and adds its sum.
+    fn hold(&mut self, held: Held) -> Result<(), Memory>
+        ensures { OnOk result (image_of self.new ≡ with_held (image_of self.old) held) }
+    {
+        let Held {
+            key,
+            id,
+            content,
+            sum,
+        } = held;
+        self.held.insert(key, Entry { id, content, sum })?;
+        self.total = add(self.total, sum);
+        Ok(())
+    }
+
+    // The image that the state of a bucket tells.
+    pub fn from_state(
+        alloc: Global,
+        position: OpId,
+        added: Sum,
+        held: Items<Held>,
+    ) -> Result<Image, Memory>
+        ensures { IfOk result (λ image. image_of image ≡ told_by position.0 added.0 held) }
+    {
+        let mut image = Image::new(alloc);
+        image.reserve(held.len())?;
+        'held: for entry in held.into_vec() {
+            image.hold(entry)?;
+        }
+        let total = add(image.total, added);
+        Ok(Image {
+            position,
+            total,
+            held: image.held,
+        })
     }
 
     // Begins anew, and keeps the room.

@@ -2,6 +2,7 @@
 #![tactic(auto)]
 
 mod buckets;
+mod client_logs;
 mod edits;
 mod faults;
 mod holdings;
@@ -11,6 +12,7 @@ mod rooms;
 mod slots;
 mod states;
 
+pub use client_logs::ClientLog;
 pub use edits::Edit;
 pub use faults::KeepFault;
 pub use keepers::Keeper;
