@@ -3,5 +3,5 @@ pub mod Keys
 pub mod Holding
 pub mod Making
 pub mod Telling
-pub mod Saving
+pub mod Listings
 pub mod Sound

@@ -12,6 +12,7 @@ use Rattle.ps_bucket_log.specs.Ops.{id_of, same_key, newest}
 use Rattle.ps_bucket_log.specs.Buckets.{Bucket, after, fresh, held_after, bucket_of}
 use Rattle.ps_bucket_log.specs.Logs.{IsRising}
 use Rattle.ps_client_log.specs.declared.edits.Edit.{Edit}
+use Rattle.ps_client_log.specs.declared.edits.Edit.TheVariants.{Take, Delete}
 use Rattle.ps_client_log.specs.Kept.{Kept, bucket_at}
 use Rattle.ps_client_log.specs.Soundness.{greatest, IsSound, IsSoundBucket}
 use Rattle.ps_client_log.specs.Edits.{CanTake, CanMakeAll, with_bucket, with_taken, with_edit, with_edits}
@@ -94,3 +95,14 @@ pub tells_after : (before after_it : Option Kept) (kept : Kept) (edits : List Ed
     → after_it ≡ option_map (λ own. with_edits own edits) before → Tells after_it (with_edits kept edits)
 tells_after None after_it kept edits tells is = rw is tt
 tells_after (Some own) after_it kept edits tells is = rw is (ap (λ one. with_edits one edits) tells)
+
+-- what one edit wants
+pub taking : (name : List ℕ) (ops : List Op) (kept : Kept) → IsSound kept → CanTake (bucket_at kept name).position ops → CanMakeAll kept (Take name ops ∷ [])
+taking name ops kept sound can = (can, with_taken-sound name ops kept sound can, tt)
+
+pub leaving : (name : List ℕ) (kept : Kept) → IsSound kept → CanMakeAll kept (Delete name ∷ [])
+leaving name kept sound = (tt, with_bucket-sound name None kept sound tt, tt)
+
+pub image_taken : (name : List ℕ) (ops before : List Op) (old new : Kept) → new ≡ with_taken name ops old → bucket_at old name ≡ bucket_of before
+    → bucket_at new name ≡ bucket_of (before ++ ops)
+image_taken name ops before old new is image = ap (λ kept. bucket_at kept name) is ∙ with_taken-image name ops before old image

@@ -97,6 +97,47 @@ impl<K: Keeper> ClientLog<K> {
         }
     }
 
+    /// The bucket takes operations, one after another: what its state is the image of goes on with them, and all else stays.
+    /// No operations make no bucket. After a refusal nothing has changed.
+    #[tactic(auto, using(crate::proofs::Sound::taking, crate::proofs::Sound::image_taken))]
+    pub fn take_ops(
+        &mut self,
+        alloc: Global,
+        bucket: &Text,
+        ops: Vec<Op>,
+    ) -> Result<(), KeepFault>
+        requires { CanTake (bucket_at (kept self.old) bucket.now).position ops.items }
+        ensures ok { OnOk result (kept self.new ≡ with_taken bucket.now ops.items (kept self.old)) }
+        ensures image { OnOk result ((before : List Operation) → bucket_at (kept self.old) bucket.now ≡ bucket_of before → bucket_at (kept self.new) bucket.now ≡ bucket_of (before ++ ops.items)) }
+        ensures err { OnErr result (kept self.new ≡ kept self.old) }
+        ensures held { OnErr result (K.held (keeper_of self.new) ≡ K.held (keeper_of self.old)) }
+        ensures tells { Tells (K.held (keeper_of self.new)) (kept self.new) }
+        ensures failed { RoseWhereFailed result (K.faults (keeper_of self.old)) (K.faults (keeper_of self.new)) }
+        ensures faults { K.faults (keeper_of self.old) ≤ K.faults (keeper_of self.new) }
+    {
+        let _target = self.target();
+        let bucket = bucket.copy(alloc)?;
+        let ops = Items::from_vec(ops);
+        let edits = vec![in alloc; Edit::Take { bucket, ops }]?;
+        self.apply(alloc, edits)
+    }
+
+    /// The bucket goes, with all that it holds, and all else stays. After a refusal nothing has changed.
+    #[tactic(auto, using(crate::proofs::Sound::leaving))]
+    pub fn delete_bucket(&mut self, alloc: Global, bucket: &Text) -> Result<(), KeepFault>
+        ensures ok { OnOk result (kept self.new ≡ with_bucket bucket.now None (kept self.old)) }
+        ensures err { OnErr result (kept self.new ≡ kept self.old) }
+        ensures held { OnErr result (K.held (keeper_of self.new) ≡ K.held (keeper_of self.old)) }
+        ensures tells { Tells (K.held (keeper_of self.new)) (kept self.new) }
+        ensures failed { RoseWhereFailed result (K.faults (keeper_of self.old)) (K.faults (keeper_of self.new)) }
+        ensures faults { K.faults (keeper_of self.old) ≤ K.faults (keeper_of self.new) }
+    {
+        let _target = self.target();
+        let bucket = bucket.copy(alloc)?;
+        let edits = vec![in alloc; Edit::Delete { bucket }]?;
+        self.apply(alloc, edits)
+    }
+
     /// A bucket's total, 0 where it is not there.
     pub fn total(&self, bucket: &Text) -> Sum
         ensures { result.0 ≡ (bucket_at (kept self.now) bucket.now).total }

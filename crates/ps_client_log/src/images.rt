@@ -54,6 +54,16 @@ impl Image {
         Ok(())
     }
 
+    // Holds entries, and adds their sums.
+    fn hold_all(&mut self, entries: Vec<Held>) -> Result<(), Memory>
+        ensures { OnOk result (image_of self.new ≡ fold with_held (image_of self.old) entries.items) }
+    {
+        'entries: for entry in entries {
+            self.hold(entry)?;
+        }
+        Ok(())
+    }
+
     // The image that the state of a bucket tells.
     pub fn from_state(
         alloc: Global,
@@ -65,9 +75,7 @@ impl Image {
     {
         let mut image = Image::new(alloc);
         image.reserve(held.len())?;
-        'held: for entry in held.into_vec() {
-            image.hold(entry)?;
-        }
+        image.hold_all(held.into_vec())?;
         let total = add(image.total, added);
         Ok(Image {
             position,

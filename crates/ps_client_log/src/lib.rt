@@ -9,6 +9,7 @@ mod holdings;
 mod images;
 mod keepers;
 mod rooms;
+mod saving;
 mod slots;
 mod states;
 
