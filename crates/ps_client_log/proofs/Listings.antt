@@ -53,17 +53,23 @@ others key own found (pair ∷ pairs) is apart =
 pub listed-held : (key : Key) (pairs : List (Key × Entry)) → IsDistinct key_eq (keys_of pairs)
     → held_in (map held_of pairs) key ≡ option_map (put_at key) (lookup (key_eq key) pairs)
 listed-held key [] distinct = refl
-listed-held key (pair ∷ pairs) distinct = by (key_eq key pair.0) refl
+listed-held key (pair ∷ pairs) distinct =
+    by (key_eq key pair.0) refl (listed-held key pairs (IsDistinct-tail key_eq pair.0 (keys_of pairs) distinct))
   where
-    by : (b : Bool) → key_eq key pair.0 ≡ b
+    by : (b : Bool) → key_eq key pair.0 ≡ b → held_in (map held_of pairs) key ≡ option_map (put_at key) (lookup (key_eq key) pairs)
         → fold (found_by key) (found_by key None (held_of pair)) (map held_of pairs) ≡ option_map (put_at key) (cond (key_eq key pair.0) (Some pair.1) (lookup (key_eq key) pairs))
-    by true same =
-        let is : key ≡ pair.0 = same_key-true key pair.0 (sym (key_eq-same key pair.0) ∙ same) in
-        rw (same, sym (key_eq-same key pair.0) ∙ same)
-        (others key pair.0 (Some (put_of (held_of pair))) pairs is (IsDistinct-head key_eq pair.0 (keys_of pairs) distinct)
-        ∙ ap (λ (k : Key). Some (Put pair.1.id k pair.1.content pair.1.sum)) (sym is))
-    by false apart =
-        rw (apart, sym (key_eq-same key pair.0) ∙ apart) (listed-held key pairs (IsDistinct-tail key_eq pair.0 (keys_of pairs) distinct))
+    by true same later =
+        let tested : same_key key pair.0 ≡ true = sym (key_eq-same key pair.0) ∙ same in
+        let is : key ≡ pair.0 = same_key-true key pair.0 tested in
+        ap (λ b. fold (found_by key) (cond b (Some (put_of (held_of pair))) None) (map held_of pairs)) tested
+        ∙ others key pair.0 (Some (put_of (held_of pair))) pairs is (IsDistinct-head key_eq pair.0 (keys_of pairs) distinct)
+        ∙ ap (λ (k : Key). Some (Put pair.1.id k pair.1.content pair.1.sum)) (sym is)
+        ∙ sym (ap (λ b. option_map (put_at key) (cond b (Some pair.1) (lookup (key_eq key) pairs))) same)
+    by false apart later =
+        let tested : same_key key pair.0 ≡ false = sym (key_eq-same key pair.0) ∙ apart in
+        ap (λ b. fold (found_by key) (cond b (Some (put_of (held_of pair))) None) (map held_of pairs)) tested
+        ∙ later
+        ∙ sym (ap (λ b. option_map (put_at key) (cond b (Some pair.1) (lookup (key_eq key) pairs))) apart)
 
 listed-keys : (pairs : List (Key × Entry)) → map (λ (held : Held). held.key) (map held_of pairs) ≡ keys_of pairs
 listed-keys [] = refl
@@ -193,6 +199,6 @@ Listing-first found slots is distinct = record {
   keys = search rules;
 }
   where
-    by : (name : List ℕ) (o : Option Slot) → found name ≡ option_and_then slot_bucket o → MatchOption o (None ≡ found name) (λ slot. (None {A = Bucket} ≡ None) × (found name ≡ slot_bucket slot))
+    by : (name : List ℕ) (o : Option Slot) → found name ≡ option_and_then slot_bucket o → MatchOption o (bucket_in [] name ≡ found name) (λ slot. (bucket_in [] name ≡ None) × (found name ≡ slot_bucket slot))
     by name None is = sym is
     by name (Some slot) is = (refl, is)

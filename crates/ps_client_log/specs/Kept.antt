@@ -11,6 +11,7 @@ use Rattle.ps_client_log.specs.declared.states.State.{State}
 use Rattle.ps_client_log.specs.declared.states.BucketState.{BucketState}
 use Rattle.ps_client_log.specs.declared.states.Held.{Held}
 use Rattle.ps_client_log.specs.declared.states.Target.{Target}
+use Rattle.ps_client_log.specs.declared.states.Target.TheVariants.{Free}
 
 -- each bucket by its name, the queue, the target, and the data that is shown for each kind and id
 pub record Kept : Type 0 where
@@ -18,6 +19,10 @@ pub record Kept : Type 0 where
   pub queue : List Change
   pub target : Target
   pub shown : List ℕ → List ℕ → Option (List ℕ)
+
+-- no buckets, no local writes, no rows
+abbrev pub nothing_kept : Kept
+nothing_kept = record { bucket = λ name. None; queue = []; target = Free; shown = λ kind id. None }
 
 -- the PUT that an entry came from
 abbrev pub put_of : Held → Op

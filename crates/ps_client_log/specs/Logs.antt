@@ -14,6 +14,11 @@ keeper_of log = log.0
 abbrev pub kept : {K : Type 0} → K × Holdings → Kept
 kept log = kept_by log.1
 
+-- what is held in memory is sound
+pub record IsHeld (holdings : Holdings) : Type 0 where
+  pub sound : IsSound (kept_by holdings)
+  pub shown : IsDistinct same_row holdings.shown
+
 -- what is held in memory is sound, and what its keeper keeps, where that is told
 pub record Stands (told : Option Kept) (holdings : Holdings) : Type 0 where
   pub tells : Tells told (kept_by holdings)

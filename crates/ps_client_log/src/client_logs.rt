@@ -99,7 +99,7 @@ impl<K: Keeper> ClientLog<K> {
 
     /// The bucket takes operations, one after another: what its state is the image of goes on with them, and all else stays.
     /// No operations make no bucket. After a refusal nothing has changed.
-    #[tactic(auto, using(crate::proofs::Sound::taking, crate::proofs::Sound::image_taken))]
+    #[tactic(auto, using(crate::proofs::Sound::taking))]
     pub fn take_ops(
         &mut self,
         alloc: Global,
@@ -164,6 +164,7 @@ impl<K: Keeper> ClientLog<K> {
     pub fn target(&self) -> &Target
         ensures value { result.now ≡ (kept self.now).target }
         ensures sound { IsSound (kept self.now) }
+        ensures tells { Tells (K.held (keeper_of self.now)) (kept self.now) }
     {
         &self.holdings.target
     }

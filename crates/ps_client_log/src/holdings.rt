@@ -1,12 +1,14 @@
-ghost use Rattle.std.specs.Prelude.{◌≡◌, ℕ, ◌≤◌, List, ◌∷◌, [], OnOk, IfOk, ◌+◌, vec_len, vec_capacity};
+ghost use Rattle.std.specs.Prelude.{◌≡◌, ℕ, ◌≤◌, List, ◌∷◌, [], OnOk, OnErr, IfOk, ◌+◌, vec_len, vec_capacity};
 ghost use Rattle.ps_client_log.specs.Edits.{CanMake, CanMakeAll, with_edit, with_edits};
 ghost use Rattle.ps_client_log.specs.Rooms.{kept_by, given, brings, pushes, HasRoom};
 ghost use Rattle.ps_client_log.specs.Images.{room_for};
-ghost use Rattle.ps_client_log.specs.Kept.{kept_of};
+ghost use Rattle.ps_client_log.specs.Kept.{kept_of, nothing_kept};
+ghost use Rattle.ps_client_log.specs.Logs.{IsHeld};
 ghost use Rattle.ps_client_log.specs.Soundness.{same_row};
 ghost use Rattle.std.specs.List.{IsDistinct};
 
 use crate::buckets::Buckets;
+use crate::edits::edits_copied;
 use crate::rooms::rooms_for;
 use crate::{Edit, State, Target};
 use indexmap::IndexMap;
@@ -24,6 +26,19 @@ pub struct Holdings {
 }
 
 impl Holdings {
+    // Nothing.
+    pub fn new(alloc: Global) -> Holdings
+        ensures kept { kept_by result ≡ nothing_kept }
+        ensures held { IsHeld result }
+    {
+        Holdings {
+            buckets: Buckets::new(alloc),
+            queue: Vec::new(alloc),
+            target: Target::Free,
+            shown: Items::new(alloc),
+        }
+    }
+
     // What a state keeps.
     pub fn from_state(alloc: Global, state: State) -> Result<Holdings, Memory>
         ensures kept { IfOk result (λ holdings. kept_by holdings ≡ kept_of state) }
@@ -123,5 +138,20 @@ impl Holdings {
                 Err(Memory)
             }
         }
+    }
+
+    // Makes copies of all the edits, or of none.
+    pub fn commit(&mut self, alloc: Global, edits: &[Edit]) -> Result<(), Memory>
+        requires can { CanMakeAll (kept_by self.old) edits.now }
+        requires held { IsHeld self.old }
+        ensures ok { OnOk result (kept_by self.new ≡ with_edits (kept_by self.old) edits.now) }
+        ensures err { OnErr result (kept_by self.new ≡ kept_by self.old) }
+        ensures held { IsHeld self.new }
+    {
+        let copies = edits_copied(alloc, edits)?;
+        let rooms = self.prepare(alloc, edits)?;
+        self.make_all(copies);
+        self.tidy(&rooms);
+        Ok(())
     }
 }

@@ -8,13 +8,16 @@ ghost use Rattle.ps_bucket_log.specs.Ops.{same_key};
 ghost use Rattle.ps_client_log.specs.Kept.{held_in, held_sum, bucket_in, bucket_kept, kept_of};
 ghost use Rattle.ps_client_log.specs.Images.{key_eq, put_at, image_of, bucket_found};
 ghost use Rattle.ps_client_log.specs.Saving.{held_of, keys_held, names_of, IsBucketOf, Adds};
+ghost use Rattle.ps_client_log.specs.Soundness.{IsSoundState};
+ghost use Rattle.ps_client_log.specs.Logs.{IsHeld};
 ghost use Rattle.ps_client_log.specs.Rooms.{kept_by};
 
 use crate::buckets::Buckets;
+use crate::edits::rows_copied;
 use crate::holdings::Holdings;
 use crate::images::{Entry, Image};
 use crate::slots::Slot;
-use crate::{BucketState, Held, Shown, State};
+use crate::{BucketState, Held, State};
 use indexmap::IndexMap;
 use ps_bucket_log::Key;
 use ps_changes::Change;
@@ -108,4 +111,32 @@ fn states_of(alloc: Global, buckets: &Buckets) -> Result<Items<BucketState>, Mem
         add_state(&mut states, alloc, name, slot)?;
     }
     Ok(states)
+}
+
+// Equal changes.
+fn changes_copied(alloc: Global, changes: &[Change]) -> Result<Items<Change>, Memory>
+    ensures { IfOk result (λ copy. copy ≡ changes.now) }
+{
+    let mut copy = Items::new(alloc);
+    'changes: for change in changes {
+        copy.push(change.copy(alloc)?)?;
+    }
+    Ok(copy)
+}
+
+// The state that is held.
+pub fn state_of(alloc: Global, holdings: &Holdings) -> Result<State, Memory>
+    requires { IsHeld holdings.now }
+    ensures kept { IfOk result (λ state. kept_of state ≡ kept_by holdings.now) }
+    ensures sound { IfOk result IsSoundState }
+{
+    let buckets = states_of(alloc, &holdings.buckets)?;
+    let queue = changes_copied(alloc, holdings.queue.as_slice())?;
+    let shown = rows_copied(alloc, holdings.shown.as_slice())?;
+    Ok(State {
+        buckets,
+        queue,
+        target: holdings.target,
+        shown,
+    })
 }
