@@ -192,6 +192,7 @@ module _ (found : List ℕ → Option Bucket) (states : List BucketState) (name 
 -- at first all slots are left, and at last none
 pub Listing-first : (found : List ℕ → Option Bucket) (slots : List (List ℕ × Slot))
     → ((name : List ℕ) → found name ≡ option_and_then slot_bucket (lookup (bytes_eq name) slots)) → IsDistinct bytes_eq (keys_of slots) → Listing found [] slots
+unfolding IsDistinct
 Listing-first found slots is distinct = record {
   kept = λ name. by name (lookup (bytes_eq name) slots) (is name);
   apart = distinct;

@@ -13,8 +13,12 @@ use Rattle.ps_bucket_log.specs.Buckets.{Bucket, after, fresh, held_after, bucket
 use Rattle.ps_bucket_log.specs.Logs.{IsRising}
 use Rattle.ps_client_log.specs.declared.edits.Edit.{Edit}
 use Rattle.ps_client_log.specs.declared.edits.Edit.TheVariants.{Take, Delete}
-use Rattle.ps_client_log.specs.Kept.{Kept, bucket_at}
-use Rattle.ps_client_log.specs.Soundness.{greatest, IsSound, IsSoundBucket}
+use Rattle.std.specs.List.{IsDistinct}
+use Rattle.ps_client_log.specs.declared.holdings.Holdings.{Holdings}
+use Rattle.ps_client_log.specs.Rooms.{kept_by}
+use Rattle.ps_client_log.specs.Logs.{IsHeld}
+use Rattle.ps_client_log.specs.Kept.{Kept, bucket_at, nothing_kept}
+use Rattle.ps_client_log.specs.Soundness.{greatest, same_row, IsSound, IsSoundBucket}
 use Rattle.ps_client_log.specs.Edits.{CanTake, CanMakeAll, with_bucket, with_taken, with_edit, with_edits}
 use Rattle.ps_client_log.specs.Keeping.{Tells}
 
@@ -106,3 +110,13 @@ leaving name kept sound = (tt, with_bucket-sound name None kept sound tt, tt)
 pub image_taken : (name : List ℕ) (ops before : List Op) (old new : Kept) → new ≡ with_taken name ops old → bucket_at old name ≡ bucket_of before
     → bucket_at new name ≡ bucket_of (before ++ ops)
 image_taken name ops before old new is image = ap (λ kept. bucket_at kept name) is ∙ with_taken-image name ops before old image
+
+-- nothing is sound
+pub nothing_held : (holdings : Holdings) → kept_by holdings ≡ nothing_kept → holdings.shown ≡ [] → IsHeld holdings
+unfolding IsDistinct
+nothing_held holdings kept shown =
+    let sound : IsSound nothing_kept = record { buckets = λ name. tt; queue = λ k d within. absurd (omega arith); target = tt } in
+    record {
+      sound = subst IsSound (sym kept) sound;
+      shown = subst (IsDistinct same_row) (sym shown) tt;
+    }
