@@ -143,7 +143,7 @@ module _ (found : List ℕ → Option Bucket) (states : List BucketState) (name 
       by other true same =
           let here : (bucket_in states other ≡ None) × (found other ≡ slot_bucket slot) = rw same at (listing.kept other) in
           let none : lookup (bytes_eq other) left ≡ None =
-              lookup-none other name left ((bytes_eq-Decides other name).0 same) (IsDistinct-head bytes_eq name (keys_of left) listing.apart) in
+          lookup-none other name left ((bytes_eq-Decides other name).0 same) (IsDistinct-head bytes_eq name (keys_of left) listing.apart) in
           rw none (here.0 ∙ sym gone ∙ sym here.1)
       by other false apart = rw apart at (listing.kept other)
 
@@ -169,7 +169,7 @@ module _ (found : List ℕ → Option Bucket) (states : List BucketState) (name 
       by other true same =
           let here : (bucket_in states other ≡ None) × (found other ≡ slot_bucket slot) = rw same at (listing.kept other) in
           let none : lookup (bytes_eq other) left ≡ None =
-              lookup-none other name left ((bytes_eq-Decides other name).0 same) (IsDistinct-head bytes_eq name (keys_of left) listing.apart) in
+          lookup-none other name left ((bytes_eq-Decides other name).0 same) (IsDistinct-head bytes_eq name (keys_of left) listing.apart) in
           let named : bytes_eq state.name other ≡ true = ap (λ one. bytes_eq one other) own.named ∙ nat_list_eq_equiv.symm name other ∙ same in
           let now : named_by other (bucket_in states other) state ≡ Some (bucket_kept state) = rw named refl in
           rw none (pushed other ∙ now ∙ ap (λ one. Some one) own.kept ∙ sym there ∙ sym here.1)

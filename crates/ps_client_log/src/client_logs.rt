@@ -25,7 +25,6 @@ pub struct ClientLog<K: Keeper> {
 
 impl<K: Keeper> Model for ClientLog<K> {
     ghost use Rattle.ps_client_log.specs.declared.holdings.Holdings.{Holdings};
-
     ghost use Rattle.std.specs.Coded.{coded×};
     ghost use Rattle.ps_client_log.specs.contracts.holdings.Holdings as stored;
 
@@ -100,12 +99,7 @@ impl<K: Keeper> ClientLog<K> {
     /// The bucket takes operations, one after another: what its state is the image of goes on with them, and all else stays.
     /// No operations make no bucket. After a refusal nothing has changed.
     #[tactic(auto, using(crate::proofs::Sound::taking))]
-    pub fn take_ops(
-        &mut self,
-        alloc: Global,
-        bucket: &Text,
-        ops: Vec<Op>,
-    ) -> Result<(), KeepFault>
+    pub fn take_ops(&mut self, alloc: Global, bucket: &Text, ops: Vec<Op>) -> Result<(), KeepFault>
         requires { CanTake (bucket_at (kept self.old) bucket.now).position ops.items }
         ensures ok { OnOk result (kept self.new ≡ with_taken bucket.now ops.items (kept self.old)) }
         ensures image { OnOk result ((before : List Operation) → bucket_at (kept self.old) bucket.now ≡ bucket_of before → bucket_at (kept self.new) bucket.now ≡ bucket_of (before ++ ops.items)) }

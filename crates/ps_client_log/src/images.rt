@@ -91,7 +91,8 @@ impl Image {
     {
         self.position = OpId(0);
         self.total = Sum(0);
-        self.held.clear();
+        let held = &mut self.held;
+        held.clear();
     }
 
     // Makes room for more entries.

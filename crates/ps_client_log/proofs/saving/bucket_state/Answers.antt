@@ -15,9 +15,9 @@ returns c =
     let image = c.args.image.now in
     let unique : IsDistinct key_eq (keys_of image.held.entries) = c.as_slice-pairs.ensures.unique in
     let sum : c.sum_of_held-sum.result.0 ≡ held_sum c.in_ok-held.held % 2 ^ 32 =
-        c.sum_of_held-sum.ensures ∙ ap (λ (entries : List Held). held_sum entries % 2 ^ 32) c.as_slice.ensures in
+    c.sum_of_held-sum.ensures ∙ ap (λ (entries : List Held). held_sum entries % 2 ^ 32) c.as_slice.ensures in
     let total : (c.without-added.result.0 + held_sum c.in_ok-held.held) % 2 ^ 32 ≡ image.total.0 =
-        made_up c.without-added.result.0 c.sum_of_held-sum.result.0 (held_sum c.in_ok-held.held) image.total.0 c.without-added.ensures sum in
+    made_up c.without-added.result.0 c.sum_of_held-sum.result.0 (held_sum c.in_ok-held.held) image.total.0 c.without-added.ensures sum in
     record {
       named = c.in_ok-copy.ensures;
       kept = λ i. record {

@@ -16,13 +16,13 @@ invariant_of-self-in-Ok-1 g c =
     let told = g.K.Keeper.held c.self.inside.keeper in
     let now = g.K.Keeper.held c.commit.new.self in
     let is : kept_by c.tidy.new.self ≡ with_edits (kept_by before) edits =
-        c.tidy.ensures.kept ∙ c.make_all.ensures.kept ∙ ap (λ kept. with_edits kept edits) c.in_ok-rooms.ensures.kept in
+    c.tidy.ensures.kept ∙ c.make_all.ensures.kept ∙ ap (λ kept. with_edits kept edits) c.in_ok-rooms.ensures.kept in
     let can : CanMakeAll (kept_by before) edits = subst (λ log. CanMakeAll (kept_by log.1) edits) (sym c.self.view_is) c.requires in
     let made : now ≡ option_map (λ own. with_edits own edits) told =
-        subst (λ (all : List Edit). now ≡ option_map (λ own. with_edits own all) told) c.as_slice-2.ensures.value c.in-Ok.ensures.ok in
+    subst (λ (all : List Edit). now ≡ option_map (λ own. with_edits own all) told) c.as_slice-2.ensures.value c.in-Ok.ensures.ok in
     record {
       tells = subst (Tells now) (sym is) (tells_after told now (kept_by before) edits c.self.invariant.tells made);
       sound = subst IsSound (sym is) (with_edits-sound edits (kept_by before) c.self.invariant.sound can);
       shown = subst (IsDistinct same_row) (sym c.tidy.ensures.shown)
-      (c.make_all.ensures.shown (subst (IsDistinct same_row) (sym c.in_ok-rooms.ensures.shown) c.self.invariant.shown));
+          (c.make_all.ensures.shown (subst (IsDistinct same_row) (sym c.in_ok-rooms.ensures.shown) c.self.invariant.shown));
     }
