@@ -114,10 +114,15 @@ fn outcome_of(alloc: Global, shape: Shape, count: u32, work: Work) -> &'static s
 fn main(rt: HostRuntime) -> io::Result<()> {
     let mut words = env::args(&rt)?;
     let _program = words.next();
-    let (Some(shape), Some(count), Some(work), Some(stack)) =
-        (words.next(), words.next(), words.next(), words.next())
-    else {
-        return println!(rt; "usage: sql_speed brackets|open|nots|chain|calls COUNT text|read|copy STACK");
+    let (Some(shape), Some(count), Some(work), Some(stack)) = (
+        words.next(),
+        words.next(),
+        words.next(),
+        words.next(),
+    ) else {
+        return println!(rt;
+            "usage: sql_speed brackets|open|nots|chain|calls COUNT text|read|copy STACK"
+        );
     };
     let (Some(shape), Ok(count), Some(work), Ok(stack)) = (
         shape_of(shape.as_str()),
