@@ -1,5 +1,8 @@
+ghost use Rattle.std.specs.Prelude.{◌≡◌, IfOk};
+
 use crate::Row;
-use ps_values::{Items, Position, Text};
+use ps_values::{Items, Memory, Position, Text};
+use std::alloc::Global;
 
 /// A change of one source row.
 #[derive(Debug, Drop)]
@@ -19,4 +22,19 @@ pub struct Transaction {
     pub position: Position,
     /// Its changes, in order.
     pub changes: Items<Change>,
+}
+
+impl Change {
+    /// An equal change.
+    pub fn copy(&self, alloc: Global) -> Result<Change, Memory>
+        ensures { IfOk result (λ copy. copy ≡ self.now) }
+    {
+        let table = self.table.copy(alloc)?;
+        let id = self.id.copy(alloc)?;
+        let row = match &self.row {
+            Some(row) => Some(row.copy(alloc)?),
+            None => None,
+        };
+        Ok(Change { table, id, row })
+    }
 }

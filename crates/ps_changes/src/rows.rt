@@ -1,7 +1,8 @@
-ghost use Rattle.std.specs.Prelude.{◌≡◌, true};
+ghost use Rattle.std.specs.Prelude.{◌≡◌, true, IfOk};
 ghost use Rattle.ps_changes.specs.Rows.{is_row};
 
-use ps_values::{Column, Items};
+use ps_values::{Column, Items, Memory};
+use std::alloc::Global;
 use std::marker::Model;
 
 /// The columns of a row, with distinct names in the order of their bytes. No column is named `id`: that is the row's id.
@@ -38,5 +39,18 @@ impl Row {
         ensures ordered { is_row self.now ≡ true }
     {
         self.columns.as_slice()
+    }
+
+    /// An equal row.
+    pub fn copy(&self, alloc: Global) -> Result<Row, Memory>
+        ensures { IfOk result (λ copy. copy ≡ self.now) }
+    {
+        let mut columns = Items::new(alloc);
+        'columns: for column in self.columns() {
+            let name = column.name.copy(alloc)?;
+            let value = column.value.copy(alloc)?;
+            columns.push(Column { name, value })?;
+        }
+        Ok(Row::from_columns(columns))
     }
 }
