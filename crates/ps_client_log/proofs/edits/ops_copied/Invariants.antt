@@ -1,0 +1,5 @@
+use Rattle.std.proofs.Common.{◌≡◌, take}
+use Rattle.ps_client_log.proofs.edits.ops_copied.Given as goal
+
+abbrev pub invariant-ops : goal.invariant-ops
+invariant-ops l = l.copy ≡ take l.op-index l.ops

@@ -1,0 +1,9 @@
+pub mod Kept
+pub mod Soundness
+pub mod Edits
+pub mod Images
+pub mod Rooms
+pub mod Keeping
+pub mod Saving
+pub mod Logs
+pub mod Types

@@ -1,0 +1,174 @@
+ghost use Rattle.std.specs.Prelude.{◌≡◌, ◌≤◌, List, ◌++◌, OnOk, OnErr, IfOk, IfErr, IfSome, None};
+ghost use Rattle.std.specs.List.{IsDistinct};
+ghost use Rattle.ps_bucket_log.specs.declared.ops.Op.{Op as Operation};
+ghost use Rattle.ps_bucket_log.specs.Buckets.{bucket_of};
+ghost use Rattle.ps_client_log.specs.Kept.{bucket_at, shown_in};
+ghost use Rattle.ps_client_log.specs.Soundness.{IsSound, same_row};
+ghost use Rattle.ps_client_log.specs.Edits.{CanTake, CanMakeAll, with_bucket, with_taken, with_edits};
+ghost use Rattle.ps_client_log.specs.Keeping.{RoseAt, RoseWhereFailed, Tells};
+ghost use Rattle.ps_client_log.specs.Logs.{keeper_of, kept};
+
+use crate::holdings::Holdings;
+use crate::{Edit, KeepFault, Keeper, Shown, Target};
+use ps_bucket_log::Op;
+use ps_changes::Change;
+use ps_checksum::Sum;
+use ps_values::{Items, Memory, OpId, Text};
+use std::alloc::Global;
+use std::marker::Model;
+
+/// What a client keeps, in memory and by a keeper. Contracts see the keeper and what is held in memory.
+#[derive(Drop)]
+pub struct ClientLog<K: Keeper> {
+    keeper: K,
+    holdings: Holdings,
+}
+
+impl<K: Keeper> Model for ClientLog<K> {
+    ghost use Rattle.ps_client_log.specs.declared.holdings.Holdings.{Holdings};
+    ghost use Rattle.std.specs.Coded.{coded×};
+    ghost use Rattle.ps_client_log.specs.contracts.holdings.Holdings as stored;
+
+    ghost Value = { K × Holdings };
+
+    ghost coded = { coded× K.code stored.the_row.coded };
+
+    ghost use Rattle.ps_client_log.specs.Logs.{Stands};
+
+    ghost view = { λ log. (log.keeper, log.holdings) };
+
+    ghost invariant = { λ log. Stands (K.held log.keeper) log.holdings };
+}
+
+impl<K: Keeper> ClientLog<K> {
+    /// Holds the state that a keeper keeps. After a refusal the keeper is given back.
+    pub fn open(alloc: Global, keeper: K) -> Result<ClientLog<K>, (K, KeepFault)>
+        ensures kept { IfOk result (λ log. Tells (K.held keeper) (kept log)) }
+        ensures held { IfOk result (λ log. K.held (keeper_of log) ≡ K.held keeper) }
+        ensures sound { IfOk result (λ log. IsSound (kept log)) }
+        ensures faults { IfOk result (λ log. K.faults keeper ≤ K.faults (keeper_of log)) }
+        ensures refused_held { IfErr result (λ refused. K.held refused.0 ≡ K.held keeper) }
+        ensures refused_faults { IfErr result (λ refused. K.faults keeper ≤ K.faults refused.0) }
+        ensures failed { IfErr result (λ refused. RoseAt refused.1 (K.faults keeper) (K.faults refused.0)) }
+    {
+        let mut keeper = keeper;
+        match keeper.load(alloc) {
+            Ok(state) => match Holdings::from_state(alloc, state) {
+                Ok(holdings) => Ok(ClientLog { keeper, holdings }),
+                Err(Memory) => Err((keeper, KeepFault::Memory)),
+            },
+            Err(fault) => Err((keeper, fault)),
+        }
+    }
+
+    /// Gives the keeper back as it stands.
+    pub fn close(self) -> K
+        ensures { result ≡ keeper_of self }
+    {
+        let ClientLog {
+            keeper,
+            holdings: _holdings,
+        } = self;
+        keeper
+    }
+
+    /// Makes the edits, one after another, in one commit of the keeper. After a refusal nothing has changed.
+    #[tactic(auto, using(crate::proofs::Sound::tells_can, crate::proofs::Sound::tells_after))]
+    pub fn apply(&mut self, alloc: Global, edits: Vec<Edit>) -> Result<(), KeepFault>
+        requires { CanMakeAll (kept self.old) edits.items }
+        ensures ok { OnOk result (kept self.new ≡ with_edits (kept self.old) edits.items) }
+        ensures err { OnErr result (kept self.new ≡ kept self.old) }
+        ensures held { OnErr result (K.held (keeper_of self.new) ≡ K.held (keeper_of self.old)) }
+        ensures tells { Tells (K.held (keeper_of self.new)) (kept self.new) }
+        ensures failed { RoseWhereFailed result (K.faults (keeper_of self.old)) (K.faults (keeper_of self.new)) }
+        ensures faults { K.faults (keeper_of self.old) ≤ K.faults (keeper_of self.new) }
+    {
+        let rooms = self.holdings.prepare(alloc, edits.as_slice())?;
+        match self.keeper.commit(alloc, edits.as_slice()) {
+            Ok(()) => {
+                self.holdings.make_all(edits);
+                self.holdings.tidy(&rooms);
+                Ok(())
+            }
+            Err(fault) => {
+                self.holdings.tidy(&rooms);
+                Err(fault)
+            }
+        }
+    }
+
+    /// The bucket takes operations, one after another: what its state is the image of goes on with them, and all else stays.
+    /// No operations make no bucket. After a refusal nothing has changed.
+    #[tactic(auto, using(crate::proofs::Sound::taking))]
+    pub fn take_ops(&mut self, alloc: Global, bucket: &Text, ops: Vec<Op>) -> Result<(), KeepFault>
+        requires { CanTake (bucket_at (kept self.old) bucket.now).position ops.items }
+        ensures ok { OnOk result (kept self.new ≡ with_taken bucket.now ops.items (kept self.old)) }
+        ensures image { OnOk result ((before : List Operation) → bucket_at (kept self.old) bucket.now ≡ bucket_of before → bucket_at (kept self.new) bucket.now ≡ bucket_of (before ++ ops.items)) }
+        ensures err { OnErr result (kept self.new ≡ kept self.old) }
+        ensures held { OnErr result (K.held (keeper_of self.new) ≡ K.held (keeper_of self.old)) }
+        ensures tells { Tells (K.held (keeper_of self.new)) (kept self.new) }
+        ensures failed { RoseWhereFailed result (K.faults (keeper_of self.old)) (K.faults (keeper_of self.new)) }
+        ensures faults { K.faults (keeper_of self.old) ≤ K.faults (keeper_of self.new) }
+    {
+        let _target = self.target();
+        let bucket = bucket.copy(alloc)?;
+        let ops = Items::from_vec(ops);
+        let edits = vec![in alloc; Edit::Take { bucket, ops }]?;
+        self.apply(alloc, edits)
+    }
+
+    /// The bucket goes, with all that it holds, and all else stays. After a refusal nothing has changed.
+    #[tactic(auto, using(crate::proofs::Sound::leaving))]
+    pub fn delete_bucket(&mut self, alloc: Global, bucket: &Text) -> Result<(), KeepFault>
+        ensures ok { OnOk result (kept self.new ≡ with_bucket bucket.now None (kept self.old)) }
+        ensures err { OnErr result (kept self.new ≡ kept self.old) }
+        ensures held { OnErr result (K.held (keeper_of self.new) ≡ K.held (keeper_of self.old)) }
+        ensures tells { Tells (K.held (keeper_of self.new)) (kept self.new) }
+        ensures failed { RoseWhereFailed result (K.faults (keeper_of self.old)) (K.faults (keeper_of self.new)) }
+        ensures faults { K.faults (keeper_of self.old) ≤ K.faults (keeper_of self.new) }
+    {
+        let _target = self.target();
+        let bucket = bucket.copy(alloc)?;
+        let edits = vec![in alloc; Edit::Delete { bucket }]?;
+        self.apply(alloc, edits)
+    }
+
+    /// A bucket's total, 0 where it is not there.
+    pub fn total(&self, bucket: &Text) -> Sum
+        ensures { result.0 ≡ (bucket_at (kept self.now) bucket.now).total }
+    {
+        self.holdings.buckets.total(bucket)
+    }
+
+    /// A bucket's position, the id of the last operation that it took; 0 where it is not there.
+    pub fn position(&self, bucket: &Text) -> OpId
+        ensures { result.0 ≡ (bucket_at (kept self.now) bucket.now).position }
+    {
+        self.holdings.buckets.position(bucket)
+    }
+
+    /// The local writes that wait for their upload, the oldest first.
+    pub fn queue(&self) -> &[Change]
+        ensures value { result.now ≡ (kept self.now).queue }
+        ensures sound { IsSound (kept self.now) }
+    {
+        self.holdings.queue.as_slice()
+    }
+
+    /// What a checkpoint must have reached before it is applied.
+    pub fn target(&self) -> &Target
+        ensures value { result.now ≡ (kept self.now).target }
+        ensures sound { IsSound (kept self.now) }
+        ensures tells { Tells (K.held (keeper_of self.now)) (kept self.now) }
+    {
+        &self.holdings.target
+    }
+
+    /// The rows as they are shown, in no order. No kind and id stand twice.
+    pub fn shown(&self) -> &[Shown]
+        ensures value { shown_in result.now ≡ (kept self.now).shown }
+        ensures distinct { IsDistinct same_row result.now }
+    {
+        self.holdings.shown.as_slice()
+    }
+}

@@ -1,0 +1,23 @@
+//! What a client keeps of its buckets, over anything that keeps it: the image of the operations that each bucket took.
+#![tactic(auto)]
+
+mod buckets;
+mod client_logs;
+mod edits;
+mod faults;
+mod holdings;
+mod images;
+mod keepers;
+mod memory;
+mod rooms;
+mod saving;
+mod slots;
+mod states;
+
+pub use client_logs::ClientLog;
+pub use edits::Edit;
+pub use faults::KeepFault;
+pub use keepers::Keeper;
+pub use memory::{MemoryKeeper, SureKeeper};
+pub use ps_changes::Shown;
+pub use states::{BucketState, Held, State, Target};
