@@ -18,6 +18,7 @@ use std::alloc::Global;
 use std::marker::Model;
 
 /// What a client keeps, in memory and by a keeper. Contracts see the keeper and what is held in memory.
+#[derive(Drop)]
 pub struct ClientLog<K: Keeper> {
     keeper: K,
     holdings: Holdings,
