@@ -1,24 +1,23 @@
 -- What is written of a body is read as that body.
-use Rattle.std.proofs.Common.{◌≡◌, ℕ, ◌<◌, ◌≤◌, Bool, true, false, List, [], ◌∷◌, ◌++◌, Option, Some, None, Result, Ok, map, bytes_eq, codes, refl, sym, ap, ◌∙◌, arith}
-use Rattle.std.specs.Fmt.{decimal}
+use Rattle.std.proofs.Common.{◌≡◌, ℕ, ◌<◌, ◌≤◌, true, false, List, [], ◌∷◌, ◌++◌, Option, Some, None, Result, Ok, map, bytes_eq, codes, refl, ap, ◌∙◌, arith}
 use Rattle.std.specs.List.{All, IsDistinct}
 use Rattle.std.specs.Option.{unwrap_or}
 use Rattle.std.specs.Str.{IsUtf8}
 use Rattle.std.proofs.lemmas.Str.{is_utf8-from_IsUtf8}
 use Rattle.std.proofs.lemmas.List.Elements.{All-head, All-tail}
-use Rattle.serde_json.specs.Data.{Data as Json, null, object, Members, depth, items_depth}
+use Rattle.serde_json.specs.Data.{Data as Json, null, object, Members, depth}
 use Rattle.serde_json.specs.Read.{read, max_depth}
 use Rattle.serde_json.specs.View.{items_of}
 use Rattle.serde_json.specs.Written.{has_float, compact_text}
-use Rattle.ps_values.specs.Numbers.{decimal_of, greatest}
+use Rattle.ps_values.specs.Numbers.{greatest}
 use Rattle.ps_values.specs.Documents.{json_of}
 use Rattle.ps_values.specs.Conversions.{plain_of}
-use Rattle.ps_values.specs.Laws.{HasNoFloatWherePlain, ReadsWhatIsWritten}
+use Rattle.ps_values.specs.Laws.{HasNoFloatWherePlain}
 use Rattle.ps_lines.specs.Types.{Known, StreamBody, LineFault}
 use Rattle.ps_lines.specs.Shapes.{all_items}
 use Rattle.ps_lines.specs.BodyShapes.{is_position}
-use Rattle.ps_lines.specs.Bodies.{entries_known, last_ones, known_of, body_of_json, body_of, IsParameters, IsBody}
-use Rattle.ps_lines.specs.BodyTexts.{known_json, client_member, json_text, body_json, body_text}
+use Rattle.ps_lines.specs.Bodies.{entries_known, known_of, body_of_json, body_of, IsBody}
+use Rattle.ps_lines.specs.BodyTexts.{known_json, client_member, body_json, body_text}
 use Rattle.ps_lines.specs.Writing.{object_of, list_json}
 use Rattle.ps_lines.proofs.Kept.{distinct_kept}
 use Rattle.ps_lines.proofs.RoundTrips.{ReadsBack, all_back}

@@ -1,6 +1,10 @@
+pub mod BodyFound
+pub mod BodyOnly
 pub mod BodyRounds
+pub mod Found
 pub mod Insertions
 pub mod Kept
+pub mod Only
 pub mod Parameters
 pub mod RoundTrips
 pub mod Texts

@@ -6,3 +6,5 @@ pub mod Writing
 pub mod BodyShapes
 pub mod Bodies
 pub mod BodyTexts
+pub mod Grammar
+pub mod BodyGrammar

@@ -1,4 +1,4 @@
-ghost use Rattle.std.specs.Prelude.{◌≡◌, ◌<◌, ◌≤◌, All, IfOk, IsSome, None, map, bytes_eq};
+ghost use Rattle.std.specs.Prelude.{◌≡◌, ◌<◌, ◌≤◌, All, IfOk, Ok, IsSome, None, map, bytes_eq};
 ghost use Rattle.std.specs.List.{IsDistinct};
 ghost use Rattle.serde_json.specs.View.{view, items_view, members_view};
 ghost use Rattle.serde_json.specs.Data.{depth};
@@ -7,13 +7,15 @@ ghost use Rattle.serde_json.specs.Read.{max_depth};
 ghost use Rattle.serde_json.specs.Written.{compact_text};
 ghost use Rattle.ps_values.specs.Conversions.{plain_of};
 ghost use Rattle.ps_values.specs.Numbers.{greatest};
+ghost use Rattle.ps_lines.specs.declared.bodies.StreamBody.{StreamBody as SomeBody};
 ghost use Rattle.ps_lines.specs.Members.{Reads};
+ghost use Rattle.ps_lines.specs.BodyGrammar.{IsBodyOf};
 ghost use Rattle.ps_lines.specs.Bodies.{last_ones, known_of, entries_known, positions_of, client_of, plain_text, parameters_of, shaped_body, body_of, IsParameters, IsBody};
 
 use crate::body_shapes::is_body;
 use crate::members::{read_id, read_text};
 use crate::{Known, LineFault, StreamBody};
-use ps_values::{Items, Memory, Text, plain, read_json};
+use ps_values::{Items, Memory, Text, decimals_read_back, plain, read_json};
 use serde_json::Value as Json;
 use std::alloc::Global;
 use std::collections::BTreeSet;
@@ -22,8 +24,18 @@ use std::collections::BTreeSet;
 /// the last entry counts.
 /// Fails with `BadJson` where the bytes are no JSON; else with `BadShape` where they are no object, or a member
 /// is of the wrong kind or `raw_data` is false; else with `BadNumber` where an `after` is no decimal text.
-#[tactic(auto, unfolding(crate::specs::Bodies::body_of))]
 pub fn read_body(alloc: Global, bytes: &[u8]) -> Result<StreamBody, LineFault>
+    ensures exact { Reads result (body_of bytes.now) }
+    ensures found { IfOk result (λ body. IsBodyOf bytes.now body) }
+    ensures only { (body : SomeBody) → IsBodyOf bytes.now body → Reads result (Ok body) }
+    ensures is_one { IfOk result IsBody }
+{
+    decimals_read_back();
+    read_whole_body(alloc, bytes)
+}
+
+#[tactic(auto, unfolding(crate::specs::Bodies::body_of))]
+fn read_whole_body(alloc: Global, bytes: &[u8]) -> Result<StreamBody, LineFault>
     ensures exact { Reads result (body_of bytes.now) }
     ensures is_one { IfOk result IsBody }
 {

@@ -1,5 +1,7 @@
-ghost use Rattle.std.specs.Prelude.{◌≡◌};
+ghost use Rattle.std.specs.Prelude.{◌≡◌, IfOk, Ok};
 ghost use Rattle.serde_json.specs.View.{view, items_view, members_view};
+ghost use Rattle.ps_lines.specs.declared.lines.Line.{Line as SomeLine};
+ghost use Rattle.ps_lines.specs.Grammar.{IsLine};
 ghost use Rattle.ps_lines.specs.Members.{Reads};
 ghost use Rattle.ps_lines.specs.Reading.{upload_at, entry_of, entries_of, texts_of, key_of, put_of, remove_of, op_named, op_of, ops_of, rises_from as rises_past, leads as leads_to, checkpoint_of, diff_of, data_of, expires_of, shaped, line_named, line_of_members, without_feed as cut_feed, line_of};
 ghost use Rattle.ps_lines.specs.Shapes.{is_checkpoint as is_checkpoint_shape, is_diff as is_diff_shape, is_data as is_data_shape};
@@ -11,7 +13,7 @@ use crate::shapes::{is_checkpoint, is_data, is_diff};
 use crate::{Entry, Line, LineFault};
 use ps_bucket_log::{Key, Op};
 use ps_checksum::Sum;
-use ps_values::{Items, OpId, Text, read_json};
+use ps_values::{Items, OpId, Text, decimals_read_back, read_json};
 use serde_json::{Map, Value as Json};
 use std::alloc::Global;
 
@@ -20,8 +22,17 @@ use std::alloc::Global;
 /// Fails with `BadJson` where the bytes are no JSON; else with `BadShape` where a member is missing or of the
 /// wrong kind, an operation's kind is not known, or there is not exactly one member; else with `BadNumber`
 /// where a number is out of form or out of range, or the ids of a data line do not lead from `after` to `next_after`.
-#[tactic(auto, unfolding(crate::specs::Reading::line_of))]
 pub fn read_line(alloc: Global, bytes: &[u8]) -> Result<Line, LineFault>
+    ensures exact { Reads result (line_of bytes.now) }
+    ensures found { IfOk result (λ line. IsLine bytes.now line) }
+    ensures only { (line : SomeLine) → IsLine bytes.now line → Reads result (Ok line) }
+{
+    decimals_read_back();
+    read_whole_line(alloc, bytes)
+}
+
+#[tactic(auto, unfolding(crate::specs::Reading::line_of))]
+fn read_whole_line(alloc: Global, bytes: &[u8]) -> Result<Line, LineFault>
     ensures { Reads result (line_of bytes.now) }
 {
     let Some(json) = read_json(alloc, without_feed(bytes))? else {
