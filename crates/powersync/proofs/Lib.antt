@@ -1,9 +1,14 @@
+pub mod Batches
 pub mod Causes
 pub mod Dues
 pub mod Exactness
 pub mod FaultLines
 pub mod Forms
+pub mod Holdings
+pub mod LogLaws
 pub mod Reaching
+pub mod Sending
 pub mod Splitting
 pub mod Standing
+pub mod Streaming
 pub mod Words

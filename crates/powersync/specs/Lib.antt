@@ -1,11 +1,15 @@
 pub mod ChangeFiles
 pub mod Claims
+pub mod Clients
 pub mod Commands
 pub mod Grants
 pub mod Loading
+pub mod Logs
 pub mod Operations
 pub mod Parts
 pub mod Replicating
 pub mod Rules
 pub mod Saying
+pub mod Sessions
+pub mod Streams
 pub mod Texts

@@ -2,15 +2,19 @@
 #![tactic(auto)]
 
 mod change_files;
+mod checkpoints;
 mod claims;
 mod clients;
 mod faults;
 mod loading;
+mod logs;
 mod plain;
 mod printing;
 mod replicas;
 mod rules;
 mod saying;
+mod sessions;
+mod streams;
 #[cfg(test)]
 mod tests;
 mod writing;
