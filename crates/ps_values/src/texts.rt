@@ -75,6 +75,13 @@ impl Text {
         Text { inner: text }
     }
 
+    /// Its string, to be added to. Takes no memory.
+    pub fn into_string(self) -> String
+        ensures { string_bytes result ≡ self }
+    {
+        self.inner
+    }
+
     /// Its bytes, which are UTF-8.
     pub fn bytes(&self) -> &[u8]
         ensures value { result.now ≡ self.now }
