@@ -3,95 +3,109 @@ use Rattle.std.proofs.Common.{◌≡◌, ℕ, ◌≤◌, true, List, [], ◌∷�
 use Rattle.std.specs.declared.alloc.Global.{Global}
 use Rattle.ps_io.specs.Contents.{Contents, HoldsMore, Gains}
 use Rattle.ps_io.specs.Counts.{Rose}
+use Rattle.ps_rules.specs.RuleSets.{RuleSet}
+use Rattle.ps_sql_eval.specs.declared.askers.Asker.{Asker}
+use Rattle.ps_sql_eval.specs.Evaluated.{asker_of}
 use Rattle.powersync.specs.declared.faults.Fault.{Fault}
 use Rattle.powersync.specs.declared.faults.Fault.TheVariants.{Usage, Rules, Change, LongLine, Claims, TooLong, CannotRead, CannotWrite, Memory}
-use Rattle.powersync.specs.declared.rules.Rule.{Rule}
-use Rattle.powersync.specs.Commands.{Names, names_of, rules_limit, file_limit, HoldsWithin, ReadsRule, ReadsUser, Prints, Outside, Kept, Caused}
-use Rattle.powersync.specs.Loading.{Loads, FindsRule, RefusesRule, FindsUser, RefusesUser, FindsRows, RefusesLine}
+use Rattle.powersync.specs.Checking.{check_text}
+use Rattle.powersync.specs.Commands.{Names, Command, check, rows, command_of, rules_file, IsFileOf, rules_limit, file_limit, HoldsWithin, ReadsRules, ReadsAsker, ReachesChanges, Prints, Outside, Kept, Caused}
+use Rattle.powersync.specs.Loading.{Loads, FindsRules, IsRulesFault, FindsAsker, IsClaimsFault, FindsRows, RefusesLine}
 
 rose_later : (before mid now : ℕ) → before ≤ mid → Rose mid now → Rose before now
 rose_later before mid now le h = omega arith
 
-rose_earlier : (before mid now : ℕ) → mid ≤ now → Rose before mid → Rose before now
-rose_earlier before mid now le h = omega arith
+pub words_check : (word rules : List ℕ) → bytes_eq word (codes "check") ≡ true → command_of (word ∷ rules ∷ []) ≡ Some (check rules)
+words_check word rules h = rw h refl
 
-pub words_name : (word rules changes claims : List ℕ) → bytes_eq word (codes "rows") ≡ true → names_of (word ∷ rules ∷ changes ∷ claims ∷ []) ≡ Some (record { rules = rules; changes = changes; claims = claims })
-words_name word rules changes claims h = rw h refl
+pub words_rows : (word rules changes claims : List ℕ) → bytes_eq word (codes "rows") ≡ true → command_of (word ∷ rules ∷ changes ∷ claims ∷ []) ≡ Some (rows (record { rules = rules; changes = changes; claims = claims }))
+words_rows word rules changes claims h = rw h refl
 
 -- ---- the rules file
 
-pub rule_read : (held : Option Contents) (words : List (List ℕ)) (names : Names) (before now : ℕ) (rule : Rule) → names_of words ≡ Some names
-    → Loads held names.rules rules_limit before now FindsRule RefusesRule (Ok rule) → ReadsRule held words names rule
-rule_read held words names before now rule command h = record { command = command; bytes = h.0; file = h.1; read = h.2 }
+pub rules_read : (held : Option Contents) (words : List (List ℕ)) (command : Command) (before now : ℕ) (rules : RuleSet) → command_of words ≡ Some command
+    → Loads held (rules_file command) rules_limit before now FindsRules IsRulesFault (Ok rules) → ReadsRules held words command rules
+rules_read held words command before now rules is h = record { is = is; bytes = h.0; file = h.1; read = h.2 }
 
-pub cause_of_rule : (o : Outside) (words : List (List ℕ)) (names : Names) (fault : Fault) → names_of words ≡ Some names → Kept o
-    → Loads {X = Rule} o.held names.rules rules_limit o.read_before o.read_now FindsRule RefusesRule (Err fault) → Caused o words fault
-cause_of_rule o words names Usage command kept h = absurd h
-cause_of_rule o words names Rules command kept h = (kept, record { names = names; command = command; bytes = h.0; file = h.1; refused = h.2 })
-cause_of_rule o words names (Change line why) command kept h = absurd h.2
-cause_of_rule o words names (LongLine length) command kept h = absurd h.2
-cause_of_rule o words names Claims command kept h = absurd h.2
-cause_of_rule o words names (TooLong seen) command kept h = (kept, inl (record { names = names; command = command; more = h.0; file = h.1 }))
-cause_of_rule o words names (CannotRead name) command kept h = (kept, record { names = names; command = command; file = inl h.0 }, h.1)
-cause_of_rule o words names CannotWrite command kept h = absurd h
-cause_of_rule o words names Memory command kept h = (kept, (names, command))
+-- a command names its rules file
+rules_named : (command : Command) (name : List ℕ) → name ≡ rules_file command → IsFileOf command name
+rules_named (check rules) name h = h
+rules_named (rows names) name h = inl h
+
+pub cause_of_rules : (o : Outside) (words : List (List ℕ)) (command : Command) (fault : Fault) → command_of words ≡ Some command → Kept o
+    → Loads {X = RuleSet} o.held (rules_file command) rules_limit o.read_before o.read_now FindsRules IsRulesFault (Err fault) → Caused o words fault
+cause_of_rules o words command Usage is kept h = absurd h
+cause_of_rules o words command (Rules line column why) is kept h = (kept, record { command = command; is = is; bytes = h.0; file = h.1; refused = h.2 })
+cause_of_rules o words command (Change line why) is kept h = absurd h.2
+cause_of_rules o words command (LongLine length) is kept h = absurd h.2
+cause_of_rules o words command Claims is kept h = absurd h.2
+cause_of_rules o words command (TooLong seen) is kept h = (kept, inl (record { command = command; is = is; more = h.0; file = h.1 }))
+cause_of_rules o words command (CannotRead name) is kept h = (kept, record { command = command; is = is; file = rules_named command name h.0 }, h.1)
+cause_of_rules o words command CannotWrite is kept h = absurd h
+cause_of_rules o words command Memory is kept h = (kept, (command, is))
 
 -- ---- the claims file, after the rules file
 
-pub user_read : (held mid_held : Option Contents) (names : Names) (before now : ℕ) (user : List ℕ) → mid_held ≡ held
-    → Loads mid_held names.claims file_limit before now FindsUser RefusesUser (Ok user) → ReadsUser held names user
-user_read held mid_held names before now user same h =
+pub asker_read : (held mid_held : Option Contents) (names : Names) (before now : ℕ) (asker : Asker) → mid_held ≡ held
+    → Loads mid_held names.claims file_limit before now FindsAsker IsClaimsFault (Ok asker) → ReadsAsker held names (asker_of asker)
+asker_read held mid_held names before now asker same h =
     record { bytes = h.0; file = subst (λ x. HoldsWithin x names.claims file_limit h.0) same h.1; read = h.2 }
 
-pub cause_of_user : (o : Outside) (mid_held : Option Contents) (mid : ℕ) (words : List (List ℕ)) (names : Names) (rule : Rule) (fault : Fault) → mid_held ≡ o.held → o.read_before ≤ mid
-    → ReadsRule o.held words names rule → Kept o
-    → Loads {X = List ℕ} mid_held names.claims file_limit mid o.read_now FindsUser RefusesUser (Err fault) → Caused o words fault
-cause_of_user o mid_held mid words names rule Usage same le rules kept h = absurd h
-cause_of_user o mid_held mid words names rule Rules same le rules kept h = absurd h.2
-cause_of_user o mid_held mid words names rule (Change line why) same le rules kept h = absurd h.2
-cause_of_user o mid_held mid words names rule (LongLine length) same le rules kept h = absurd h.2
-cause_of_user o mid_held mid words names rule Claims same le rules kept h =
-    (kept, record { names = names; rule = rule; rules = rules; bytes = h.0; file = subst (λ x. HoldsWithin x names.claims file_limit h.0) same h.1; refused = h.2 })
-cause_of_user o mid_held mid words names rule (TooLong seen) same le rules kept h =
-    (kept, inr (inl (record { names = names; rule = rule; rules = rules; more = h.0; file = subst (λ x. HoldsMore x names.claims file_limit) same h.1 })))
-cause_of_user o mid_held mid words names rule (CannotRead name) same le rules kept h =
-    (kept, record { names = names; command = rules.command; file = inr (inl h.0) }, rose_later o.read_before mid o.read_now le h.1)
-cause_of_user o mid_held mid words names rule CannotWrite same le rules kept h = absurd h
-cause_of_user o mid_held mid words names rule Memory same le rules kept h = (kept, (names, rules.command))
+pub cause_of_asker : (o : Outside) (mid_held : Option Contents) (mid : ℕ) (words : List (List ℕ)) (names : Names) (rules : RuleSet) (fault : Fault) → mid_held ≡ o.held → o.read_before ≤ mid
+    → ReadsRules o.held words (rows names) rules → Kept o
+    → Loads {X = Asker} mid_held names.claims file_limit mid o.read_now FindsAsker IsClaimsFault (Err fault) → Caused o words fault
+cause_of_asker o mid_held mid words names rules Usage same le read kept h = absurd h
+cause_of_asker o mid_held mid words names rules (Rules line column why) same le read kept h = absurd h.2
+cause_of_asker o mid_held mid words names rules (Change line why) same le read kept h = absurd h.2
+cause_of_asker o mid_held mid words names rules (LongLine length) same le read kept h = absurd h.2
+cause_of_asker o mid_held mid words names rules Claims same le read kept h =
+    (kept, record { names = names; rules = rules; rules_read = read; bytes = h.0; file = subst (λ x. HoldsWithin x names.claims file_limit h.0) same h.1; refused = h.2 })
+cause_of_asker o mid_held mid words names rules (TooLong seen) same le read kept h =
+    (kept, inr (inl (record { names = names; rules = rules; rules_read = read; more = h.0; file = subst (λ x. HoldsMore x names.claims file_limit) same h.1 })))
+cause_of_asker o mid_held mid words names rules (CannotRead name) same le read kept h =
+    (kept, record { command = rows names; is = read.is; file = inr (inl h.0) }, rose_later o.read_before mid o.read_now le h.1)
+cause_of_asker o mid_held mid words names rules CannotWrite same le read kept h = absurd h
+cause_of_asker o mid_held mid words names rules Memory same le read kept h = (kept, (rows names, read.is))
 
 -- ---- the change file, after both
 
-pub cause_of_rows : (o : Outside) (mid_held : Option Contents) (mid : ℕ) (words : List (List ℕ)) (names : Names) (rule : Rule) (user : List ℕ) (fault : Fault) → mid_held ≡ o.held → o.read_before ≤ mid
-    → ReadsRule o.held words names rule → ReadsUser o.held names user → Kept o
-    → Loads {X = Vec ℕ Global} mid_held names.changes file_limit mid o.read_now (FindsRows rule user) RefusesLine (Err fault) → Caused o words fault
-cause_of_rows o mid_held mid words names rule user Usage same le rules claims kept h = absurd h
-cause_of_rows o mid_held mid words names rule user Rules same le rules claims kept h = absurd h.2
-cause_of_rows o mid_held mid words names rule user (Change line why) same le rules claims kept h =
-    (kept, record { names = names; rule = rule; user = user; rules = rules; claims = claims; bytes = h.0; file = subst (λ x. HoldsWithin x names.changes file_limit h.0) same h.1; refused = h.2 })
-cause_of_rows o mid_held mid words names rule user (LongLine length) same le rules claims kept h =
-    (kept, record { names = names; rule = rule; user = user; rules = rules; claims = claims; bytes = h.0; file = subst (λ x. HoldsWithin x names.changes file_limit h.0) same h.1; refused = h.2 })
-cause_of_rows o mid_held mid words names rule user Claims same le rules claims kept h = absurd h.2
-cause_of_rows o mid_held mid words names rule user (TooLong seen) same le rules claims kept h =
-    (kept, inr (inr (record { names = names; rule = rule; user = user; rules = rules; claims = claims; more = h.0; file = subst (λ x. HoldsMore x names.changes file_limit) same h.1 })))
-cause_of_rows o mid_held mid words names rule user (CannotRead name) same le rules claims kept h =
-    (kept, record { names = names; command = rules.command; file = inr (inr h.0) }, rose_later o.read_before mid o.read_now le h.1)
-cause_of_rows o mid_held mid words names rule user CannotWrite same le rules claims kept h = absurd h
-cause_of_rows o mid_held mid words names rule user Memory same le rules claims kept h = (kept, (names, rules.command))
+reaches : (held mid_held : Option Contents) (words : List (List ℕ)) (names : Names) (rules : RuleSet) (asker : Asker) (bytes : List ℕ) → mid_held ≡ held
+    → ReadsRules held words (rows names) rules → ReadsAsker held names (asker_of asker) → HoldsWithin mid_held names.changes file_limit bytes → ReachesChanges held words rules (asker_of asker) bytes
+reaches held mid_held words names rules asker bytes same read claims file =
+    record { names = names; rules_read = read; claims_read = claims; file = subst (λ x. HoldsWithin x names.changes file_limit bytes) same file }
+
+pub cause_of_rows : (o : Outside) (mid_held : Option Contents) (mid : ℕ) (words : List (List ℕ)) (names : Names) (rules : RuleSet) (asker : Asker) (fault : Fault) → mid_held ≡ o.held → o.read_before ≤ mid
+    → ReadsRules o.held words (rows names) rules → ReadsAsker o.held names (asker_of asker) → Kept o
+    → Loads {X = Vec ℕ Global} mid_held names.changes file_limit mid o.read_now (FindsRows rules asker) RefusesLine (Err fault) → Caused o words fault
+cause_of_rows o mid_held mid words names rules asker Usage same le read claims kept h = absurd h
+cause_of_rows o mid_held mid words names rules asker (Rules line column why) same le read claims kept h = absurd h.2
+cause_of_rows o mid_held mid words names rules asker (Change line why) same le read claims kept h =
+    (kept, record { rules = rules; asker = asker_of asker; bytes = h.0; files = reaches o.held mid_held words names rules asker h.0 same read claims h.1; refused = h.2 })
+cause_of_rows o mid_held mid words names rules asker (LongLine length) same le read claims kept h =
+    (kept, record { rules = rules; asker = asker_of asker; bytes = h.0; files = reaches o.held mid_held words names rules asker h.0 same read claims h.1; refused = h.2 })
+cause_of_rows o mid_held mid words names rules asker Claims same le read claims kept h = absurd h.2
+cause_of_rows o mid_held mid words names rules asker (TooLong seen) same le read claims kept h =
+    (kept, inr (inr (record { names = names; rules = rules; asker = asker_of asker; rules_read = read; claims_read = claims; more = h.0; file = subst (λ x. HoldsMore x names.changes file_limit) same h.1 })))
+cause_of_rows o mid_held mid words names rules asker (CannotRead name) same le read claims kept h =
+    (kept, record { command = rows names; is = read.is; file = inr (inr h.0) }, rose_later o.read_before mid o.read_now le h.1)
+cause_of_rows o mid_held mid words names rules asker CannotWrite same le read claims kept h = absurd h
+cause_of_rows o mid_held mid words names rules asker Memory same le read claims kept h = (kept, (rows names, read.is))
 
 -- ---- and all is printed
 
-pub all_printed : (held mid_held : Option Contents) (mid now : ℕ) (words : List (List ℕ)) (names : Names) (rule : Rule) (user : List ℕ) (text : Vec ℕ Global) (old new : Option (List ℕ)) → mid_held ≡ held
-    → ReadsRule held words names rule → ReadsUser held names user
-    → Loads mid_held names.changes file_limit mid now (FindsRows rule user) RefusesLine (Ok text) → Gains old new text.items → Prints held words old new
-all_printed held mid_held mid now words names rule user text old new same rules claims h gained = record {
-  names = names;
-  rule = rule;
-  user = user;
-  transactions = h.2.0;
+pub all_printed : (held mid_held : Option Contents) (mid now : ℕ) (words : List (List ℕ)) (names : Names) (rules : RuleSet) (asker : Asker) (text : Vec ℕ Global) (old new : Option (List ℕ)) → mid_held ≡ held
+    → ReadsRules held words (rows names) rules → ReadsAsker held names (asker_of asker)
+    → Loads mid_held names.changes file_limit mid now (FindsRows rules asker) RefusesLine (Ok text) → Gains old new text.items → Prints held words old new
+all_printed held mid_held mid now words names rules asker text old new same read claims h gained = inr (record {
   rules = rules;
-  claims = claims;
+  asker = asker_of asker;
   bytes = h.0;
-  file = subst (λ x. HoldsWithin x names.changes file_limit h.0) same h.1;
+  transactions = h.2.0;
+  files = reaches held mid_held words names rules asker h.0 same read claims h.1;
   read = h.2.1;
   printed = subst (λ bytes. Gains old new bytes) h.2.2 gained;
-}
+})
+
+pub all_checked : (held : Option Contents) (words : List (List ℕ)) (name : List ℕ) (rules : RuleSet) (text : Vec ℕ Global) (old new : Option (List ℕ))
+    → ReadsRules held words (check name) rules → text.items ≡ check_text rules → Gains old new text.items → Prints held words old new
+all_checked held words name rules text old new read is gained = inl (record { name = name; rules = rules; read = read; printed = subst (λ bytes. Gains old new bytes) is gained })

@@ -4,133 +4,82 @@ use Rattle.std.proofs.lemmas.Bool.{le-leb}
 use Rattle.std.proofs.lemmas.Bool.Decides.{nat_tests}
 use Rattle.ps_io.specs.Contents.{Contents, HoldsMore}
 use Rattle.ps_io.specs.Counts.{Rose}
+use Rattle.ps_rules.specs.RuleSets.{RuleSet}
+use Rattle.ps_sql.specs.Meaning.{Asker}
 use Rattle.powersync.specs.declared.faults.Fault.{Fault}
 use Rattle.powersync.specs.declared.faults.Fault.TheVariants.{Usage, Rules, Change, LongLine, Claims, TooLong, CannotRead, CannotWrite, Memory}
-use Rattle.powersync.specs.declared.rules.Rule.{Rule}
 use Rattle.powersync.specs.ChangeFiles.{transactions_of, last_position}
-use Rattle.powersync.specs.Claims.{claims_of}
-use Rattle.powersync.specs.Commands.{Names, names_of, rules_limit, file_limit, HoldsWithin, ReadsRule, ReadsUser, Prints, RefusesRules, RefusesClaims, RefusesChanges, ExceedsFile, ExceedsLimit, Outside, Caused, Refusal, exceeds, no_rules, no_claims, no_change, within_limit, or_refused, or_line, meaning, IsAnswer, IsExact, ◌>>=◌}
-use Rattle.powersync.specs.Grants.{due}
-use Rattle.powersync.specs.Rules.{rule_of}
+use Rattle.powersync.specs.Checking.{check_text}
+use Rattle.powersync.specs.Claims.{asker_of_claims}
+use Rattle.powersync.specs.Commands.{Names, Command, check, rows, command_of, rules_file, rules_limit, file_limit, HoldsWithin, ReadsRules, ReadsAsker, ReachesChanges, PrintsRows, PrintsCheck, Prints, RefusesRules, RefusesClaims, RefusesChanges, ExceedsFile, ExceedsLimit, Outside, Caused, Refusal, exceeds, refused, refusal_status, within_limit, or_refused, or_no_claims, rules_meant, asker_meant, transactions_meant, meaning, IsAnswer, IsExact, ◌>>=◌}
+use Rattle.powersync.specs.Dues.{due}
+use Rattle.powersync.specs.RulesFaults.{rules_of_file}
 use Rattle.powersync.specs.Saying.{Told, Says}
 use Rattle.powersync.specs.Texts.{rows_text}
 
 same_value : {A : Type 0} (o : Option A) (a b : A) → o ≡ Some a → o ≡ Some b → a ≡ b
 same_value o a b h g = let e : Some a ≡ Some b = sym h ∙ g in cc
 
-fits : (limit : ℕ) (bytes : List ℕ) → length bytes ≤ limit → within_limit limit bytes ≡ Ok bytes
-fits limit bytes h = ap (λ b. cond b (Ok bytes) (Err exceeds)) (le-leb (length bytes) limit h)
-
 not_within : (m n : ℕ) → n < m → leb m n ≡ false
 not_within m n h = grind (arith, nat_tests)
 
-exceeds_by : (limit : ℕ) (bytes : List ℕ) → limit < length bytes → within_limit limit bytes ≡ Err exceeds
-exceeds_by limit bytes h = ap (λ b. cond b (Ok bytes) (Err exceeds)) (not_within (length bytes) limit h)
+-- ---- one file
 
--- ---- the meaning, stage by stage
+module _ (held : Contents) (name : List ℕ) (limit : ℕ) where
+  fits : (bytes : List ℕ) → HoldsWithin (Some held) name limit bytes → within_limit limit (held name) ≡ Ok bytes
+  fits bytes file = ap (within_limit limit) file.holds ∙ ap (λ b. cond b (Ok bytes) (Err exceeds)) (le-leb (length bytes) limit file.within)
 
-abbrev after_claims : Rule → List ℕ → List ℕ → Result (List ℕ) Refusal
-after_claims rule user changes = within_limit file_limit changes >>= λ bytes. or_line (transactions_of bytes) >>= λ ts. Ok (rows_text (due rule user ts (last_position 0 ts)))
+  exceeds_by : HoldsMore (Some held) name limit → within_limit limit (held name) ≡ Err exceeds
+  exceeds_by more = ap (within_limit limit) more.1 ∙ ap (λ b. cond b (Ok more.0) (Err exceeds)) (not_within (length more.0) limit more.2)
 
-abbrev after_rules : Rule → List ℕ → List ℕ → Result (List ℕ) Refusal
-after_rules rule changes claims = within_limit file_limit claims >>= λ bytes. or_refused no_claims (claims_of bytes) >>= λ user. after_claims rule user changes
+-- ---- the three files
 
-abbrev from_rules : List ℕ → List ℕ → List ℕ → Result (List ℕ) Refusal
-from_rules rules changes claims = or_refused no_rules (rule_of rules) >>= λ rule. after_rules rule changes claims
+module _ (held : Contents) where
+  rules_are : (words : List (List ℕ)) (command : Command) (rules : RuleSet) → ReadsRules (Some held) words command rules → rules_meant held (rules_file command) ≡ Ok rules
+  rules_are words command rules r =
+      ap (λ x. x >>= λ bytes. or_refused (rules_of_file bytes)) (fits held (rules_file command) rules_limit r.bytes r.file) ∙ ap or_refused r.read
 
-abbrev from_claims : Rule → List ℕ → List ℕ → Result (List ℕ) Refusal
-from_claims rule changes claims = or_refused no_claims (claims_of claims) >>= λ user. after_claims rule user changes
+  no_rules : (command : Command) (bytes : List ℕ) (fault : Fault) → HoldsWithin (Some held) (rules_file command) rules_limit bytes → rules_of_file bytes ≡ Err fault
+      → rules_meant held (rules_file command) ≡ Err (refused fault)
+  no_rules command bytes fault file read =
+      ap (λ x. x >>= λ bytes. or_refused (rules_of_file bytes)) (fits held (rules_file command) rules_limit bytes file) ∙ ap or_refused read
 
-abbrev from_changes : Rule → List ℕ → List ℕ → Result (List ℕ) Refusal
-from_changes rule user changes = or_line (transactions_of changes) >>= λ ts. Ok (rows_text (due rule user ts (last_position 0 ts)))
+  asker_is : (names : Names) (asker : Asker) → ReadsAsker (Some held) names asker → asker_meant held names.claims ≡ Ok asker
+  asker_is names asker r = ap (λ x. x >>= λ bytes. or_no_claims (asker_of_claims bytes)) (fits held names.claims file_limit r.bytes r.file) ∙ ap or_no_claims r.read
 
-stage_rules : (rules changes claims : List ℕ) → length rules ≤ rules_limit → meaning rules changes claims ≡ from_rules rules changes claims
-unfolding meaning
-stage_rules rules changes claims h = ap (λ r. r >>= λ bytes. from_rules bytes changes claims) (fits rules_limit rules h)
+  no_asker : (names : Names) (bytes : List ℕ) → HoldsWithin (Some held) names.claims file_limit bytes → asker_of_claims bytes ≡ None → asker_meant held names.claims ≡ Err (refused Claims)
+  no_asker names bytes file read = ap (λ x. x >>= λ bytes. or_no_claims (asker_of_claims bytes)) (fits held names.claims file_limit bytes file) ∙ ap or_no_claims read
 
-stage_rule : (rules changes claims : List ℕ) (rule : Rule) → length rules ≤ rules_limit → rule_of rules ≡ Some rule → meaning rules changes claims ≡ after_rules rule changes claims
-stage_rule rules changes claims rule h read = stage_rules rules changes claims h ∙ ap (λ o. or_refused no_rules o >>= λ r. after_rules r changes claims) read
+  transactions_are : (names : Names) (bytes : List ℕ) → HoldsWithin (Some held) names.changes file_limit bytes → transactions_meant held names.changes ≡ or_refused (transactions_of bytes)
+  transactions_are names bytes file = ap (λ x. x >>= λ bytes. or_refused (transactions_of bytes)) (fits held names.changes file_limit bytes file)
 
-stage_claims : (rule : Rule) (changes claims : List ℕ) → length claims ≤ file_limit → after_rules rule changes claims ≡ from_claims rule changes claims
-stage_claims rule changes claims h = ap (λ r. r >>= λ bytes. from_claims rule changes bytes) (fits file_limit claims h)
+  -- ---- the command, stage by stage
 
-stage_user : (rule : Rule) (changes claims user : List ℕ) → length claims ≤ file_limit → claims_of claims ≡ Some user → after_rules rule changes claims ≡ after_claims rule user changes
-stage_user rule changes claims user h read = stage_claims rule changes claims h ∙ ap (λ o. or_refused no_claims o >>= λ u. after_claims rule u changes) read
+  abbrev from_asker : RuleSet → Asker → Names → Result (List ℕ) Refusal
+  from_asker rules asker names = transactions_meant held names.changes >>= λ ts. Ok (rows_text (due rules asker ts (last_position 0 ts)))
 
-stage_changes : (rule : Rule) (user changes : List ℕ) → length changes ≤ file_limit → after_claims rule user changes ≡ from_changes rule user changes
-stage_changes rule user changes h = ap (λ r. r >>= λ bytes. from_changes rule user bytes) (fits file_limit changes h)
+  abbrev from_rules : RuleSet → Names → Result (List ℕ) Refusal
+  from_rules rules names = asker_meant held names.claims >>= λ asker. from_asker rules asker names
 
--- ---- files that tell what they hold
+  abbrev after_rules : Command → RuleSet → Result (List ℕ) Refusal
+  after_rules (check name) rules = Ok (check_text rules)
+  after_rules (rows names) rules = from_rules rules names
 
-module _ (held : Contents) (words : List (List ℕ)) (names : Names) (rules changes claims : List ℕ)
-    (command : names_of words ≡ Some names) (has_rules : held names.rules ≡ Some rules) (has_changes : held names.changes ≡ Some changes) (has_claims : held names.claims ≡ Some claims) where
-  -- what was read is what is there
-  is_there : (name content bytes : List ℕ) (limit : ℕ) → held name ≡ Some content → HoldsWithin (Some held) name limit bytes → (bytes ≡ content) × (length content ≤ limit)
-  is_there name content bytes limit has file =
-      let same = same_value (held name) bytes content file.holds has in
-      (same, subst (λ b. length b ≤ limit) same file.within)
+  from_start : (command : Command) → meaning held command ≡ (rules_meant held (rules_file command) >>= after_rules command)
+  from_start (check name) = refl
+  from_start (rows names) = refl
 
-  rules_there : (other : Names) (bytes : List ℕ) → names_of words ≡ Some other → HoldsWithin (Some held) other.rules rules_limit bytes → (bytes ≡ rules) × (length rules ≤ rules_limit)
-  rules_there other bytes h file = is_there names.rules rules bytes rules_limit has_rules (subst (λ (n : Names). HoldsWithin (Some held) n.rules rules_limit bytes) (same_value (names_of words) other names h command) file)
+  past_rules : (words : List (List ℕ)) (command : Command) (rules : RuleSet) → ReadsRules (Some held) words command rules → meaning held command ≡ after_rules command rules
+  past_rules words command rules r = from_start command ∙ ap (λ x. x >>= after_rules command) (rules_are words command rules r)
 
-  claims_there : (other : Names) (bytes : List ℕ) → names_of words ≡ Some other → HoldsWithin (Some held) other.claims file_limit bytes → (bytes ≡ claims) × (length claims ≤ file_limit)
-  claims_there other bytes h file = is_there names.claims claims bytes file_limit has_claims (subst (λ (n : Names). HoldsWithin (Some held) n.claims file_limit bytes) (same_value (names_of words) other names h command) file)
+  past_claims : (words : List (List ℕ)) (names : Names) (rules : RuleSet) (asker : Asker) → ReadsRules (Some held) words (rows names) rules → ReadsAsker (Some held) names asker
+      → meaning held (rows names) ≡ from_asker rules asker names
+  past_claims words names rules asker r a = past_rules words (rows names) rules r ∙ ap (λ x. x >>= λ asker. from_asker rules asker names) (asker_is names asker a)
 
-  changes_there : (other : Names) (bytes : List ℕ) → names_of words ≡ Some other → HoldsWithin (Some held) other.changes file_limit bytes → (bytes ≡ changes) × (length changes ≤ file_limit)
-  changes_there other bytes h file = is_there names.changes changes bytes file_limit has_changes (subst (λ (n : Names). HoldsWithin (Some held) n.changes file_limit bytes) (same_value (names_of words) other names h command) file)
-
-  -- past the rules, and past the claims
-  past_rules : (other : Names) (rule : Rule) → ReadsRule (Some held) words other rule → meaning rules changes claims ≡ after_rules rule changes claims
-  past_rules other rule r =
-      let there = rules_there other r.bytes r.command r.file in
-      stage_rule rules changes claims rule there.1 (ap rule_of (sym there.0) ∙ r.read)
-
-  past_claims : (other : Names) (rule : Rule) (user : List ℕ) → ReadsRule (Some held) words other rule → ReadsUser (Some held) other user → meaning rules changes claims ≡ after_claims rule user changes
-  past_claims other rule user r u =
-      let there = claims_there other u.bytes r.command u.file in
-      past_rules other rule r ∙ stage_user rule changes claims user there.1 (ap claims_of (sym there.0) ∙ u.read)
-
-  means_no_rules : RefusesRules (Some held) words → meaning rules changes claims ≡ Err no_rules
-  means_no_rules r =
-      let there = rules_there r.names r.bytes r.command r.file in
-      stage_rules rules changes claims there.1 ∙ ap (λ o. or_refused no_rules o >>= λ rule. after_rules rule changes claims) (ap rule_of (sym there.0) ∙ r.refused)
-
-  means_no_claims : RefusesClaims (Some held) words → meaning rules changes claims ≡ Err no_claims
-  means_no_claims r =
-      let there = claims_there r.names r.bytes r.rules.command r.file in
-      past_rules r.names r.rule r.rules ∙ stage_claims r.rule changes claims there.1
-      ∙ ap (λ o. or_refused no_claims o >>= λ user. after_claims r.rule user changes) (ap claims_of (sym there.0) ∙ r.refused)
-
-  means_no_change : (fault : Fault) → RefusesChanges (Some held) words fault → meaning rules changes claims ≡ Err (no_change fault)
-  means_no_change fault r =
-      let there = changes_there r.names r.bytes r.rules.command r.file in
-      past_claims r.names r.rule r.user r.rules r.claims ∙ stage_changes r.rule r.user changes there.1
-      ∙ ap (λ o. or_line o >>= λ ts. Ok (rows_text (due r.rule r.user ts (last_position 0 ts)))) (ap transactions_of (sym there.0) ∙ r.refused)
-
-  means_rows : (old new : Option (List ℕ)) → (p : Prints (Some held) words old new) → meaning rules changes claims ≡ Ok (rows_text (due p.rule p.user p.transactions (last_position 0 p.transactions)))
-  means_rows old new p =
-      let there = changes_there p.names p.bytes p.rules.command p.file in
-      past_claims p.names p.rule p.user p.rules p.claims ∙ stage_changes p.rule p.user changes there.1
-      ∙ ap (λ o. or_line o >>= λ ts. Ok (rows_text (due p.rule p.user ts (last_position 0 ts)))) (ap transactions_of (sym there.0) ∙ p.read)
-
-  more_there : (name content : List ℕ) (limit : ℕ) → held name ≡ Some content → HoldsMore (Some held) name limit → limit < length content
-  more_there name content limit has more = subst (λ b. limit < length b) (same_value (held name) more.0 content more.1 has) more.2
-
-  -- a name of another command of these words is the name of this one
-  more_at : (other : Names) (file : Names → List ℕ) (content : List ℕ) (limit : ℕ) → names_of words ≡ Some other → held (file names) ≡ Some content → HoldsMore (Some held) (file other) limit → limit < length content
-  more_at other file content limit h has more =
-      more_there (file names) content limit has (subst (λ (n : Names). HoldsMore (Some held) (file n) limit) (same_value (names_of words) other names h command) more)
-
-  means_exceeds : (seen : ℕ) → ExceedsFile (Some held) words seen → meaning rules changes claims ≡ Err exceeds
-  unfolding meaning
-  means_exceeds seen (inl r) =
-      ap (λ b. b >>= λ bytes. from_rules bytes changes claims) (exceeds_by rules_limit rules (more_at r.names (λ n. n.rules) rules rules_limit r.command has_rules r.file))
-  means_exceeds seen (inr (inl r)) =
-      past_rules r.names r.rule r.rules
-      ∙ ap (λ b. b >>= λ bytes. from_claims r.rule changes bytes) (exceeds_by file_limit claims (more_at r.names (λ n. n.claims) claims file_limit r.rules.command has_claims r.file))
-  means_exceeds seen (inr (inr r)) =
-      past_claims r.names r.rule r.user r.rules r.claims
-      ∙ ap (λ b. b >>= λ bytes. from_changes r.rule r.user bytes) (exceeds_by file_limit changes (more_at r.names (λ n. n.changes) changes file_limit r.rules.command has_changes r.file))
+  past_changes : (words : List (List ℕ)) (rules : RuleSet) (asker : Asker) (bytes : List ℕ) → (r : ReachesChanges (Some held) words rules asker bytes)
+      → meaning held (rows r.names) ≡ (or_refused (transactions_of bytes) >>= λ ts. Ok (rows_text (due rules asker ts (last_position 0 ts))))
+  past_changes words rules asker bytes r =
+      past_claims words r.names rules asker r.rules_read r.claims_read ∙ ap (λ x. x >>= λ ts. Ok (rows_text (due rules asker ts (last_position 0 ts)))) (transactions_are r.names bytes r.file)
 
 -- ---- the answer is what the files mean
 
@@ -138,41 +87,78 @@ wanting : (m : Result (List ℕ) Refusal) (old new : Option (List ℕ)) (status 
 wanting (Ok text) old new status h kept = inr (h, kept)
 wanting (Err refusal) old new status h kept = inr (h, kept)
 
-answers : (m : Result (List ℕ) Refusal) (n : Result (List ℕ) Refusal) (old new : Option (List ℕ)) (status : ℕ) → m ≡ n → IsAnswer n old new status → IsAnswer m old new status
-answers m n old new status e h = subst (λ x. IsAnswer x old new status) (sym e) h
+-- the words are one command alone
+at_command : (held : Contents) (words : List (List ℕ)) (command own : Command) (m : Result (List ℕ) Refusal) (old new : Option (List ℕ)) (status : ℕ) → command_of words ≡ Some command → command_of words ≡ Some own
+    → meaning held own ≡ m → IsAnswer m old new status → IsAnswer (meaning held command) old new status
+at_command held words command own m old new status is other means h =
+    subst (λ x. IsAnswer x old new status) (sym (ap (meaning held) (same_value (command_of words) command own is other) ∙ means)) h
+
+ok_of : (held : Contents) (words : List (List ℕ)) (old new : Option (List ℕ)) → Prints (Some held) words old new → IsExact (Some held) words old new 0
+ok_of held words old new (inl p) = λ command is.
+    at_command held words command (check p.name) _ old new 0 is p.read.is (past_rules held words (check p.name) p.rules p.read) (inl (refl, p.printed))
+ok_of held words old new (inr p) = λ command is.
+    at_command held words command (rows p.files.names) _ old new 0 is p.files.rules_read.is
+    (past_changes held words p.rules p.asker p.bytes p.files ∙ ap (λ x. or_refused x >>= λ ts. Ok (rows_text (due p.rules p.asker ts (last_position 0 ts)))) p.read) (inl (refl, p.printed))
 
 pub exact_ok : (held : Option Contents) (words : List (List ℕ)) (old new : Option (List ℕ)) → Prints held words old new → IsExact held words old new 0
 exact_ok None words old new p = tt
-exact_ok (Some held) words old new p = λ names rules changes claims command has_rules has_changes has_claims.
-    answers _ _ old new 0 (means_rows held words names rules changes claims command has_rules has_changes has_claims old new p) (inl (refl, p.printed))
+exact_ok (Some held) words old new p = ok_of held words old new p
 
 abbrev outside : Contents → ℕ → ℕ → Option (List ℕ) → Option (List ℕ) → ℕ → ℕ → Outside
 outside held read_before read_now old new write_before write_now =
     record { held = Some held; read_before = read_before; read_now = read_now; taken_before = old; taken_now = new; write_before = write_before; write_now = write_now }
 
-module _ (held : Contents) (words : List (List ℕ)) (read_before read_now : ℕ) (old new : Option (List ℕ)) (write_before write_now : ℕ) (e : Told) (status : ℕ)
-    (read : ¬ (Rose read_before read_now)) (written : ¬ (Rose write_before write_now)) (names : Names) (rules changes claims : List ℕ)
-    (command : names_of words ≡ Some names) (has_rules : held names.rules ≡ Some rules) (has_changes : held names.changes ≡ Some changes) (has_claims : held names.claims ≡ Some claims) where
-  answer_of : (fault : Fault) → Caused (outside held read_before read_now old new write_before write_now) words fault → Says e fault status → IsAnswer (meaning rules changes claims) old new status
-  answer_of Usage c s = let wrong : Some names ≡ None = sym command ∙ c.1 in cc
-  answer_of Rules c s = answers _ _ old new status (means_no_rules held words names rules changes claims command has_rules has_changes has_claims c.1) (inl (s.is, c.0))
-  answer_of (Change line why) c (inl s) = answers _ _ old new status (means_no_change held words names rules changes claims command has_rules has_changes has_claims (Change line why) c.1) (inl (s.is, c.0))
-  answer_of (Change line why) c (inr s) = wanting (meaning rules changes claims) old new status s.is c.0
-  answer_of (LongLine length) c (inl s) = answers _ _ old new status (means_no_change held words names rules changes claims command has_rules has_changes has_claims (LongLine length) c.1) (inl (s.is, c.0))
-  answer_of (LongLine length) c (inr s) = wanting (meaning rules changes claims) old new status s.is c.0
-  answer_of Claims c s = answers _ _ old new status (means_no_claims held words names rules changes claims command has_rules has_changes has_claims c.1) (inl (s.is, c.0))
-  answer_of (TooLong seen) c (inl s) = answers _ _ old new status (means_exceeds held words names rules changes claims command has_rules has_changes has_claims seen c.1) (inl (s.is, c.0))
-  answer_of (TooLong seen) c (inr s) = wanting (meaning rules changes claims) old new status s.is c.0
-  answer_of (CannotRead name) c s = absurd (read c.2)
-  answer_of CannotWrite c s = absurd (written c.2)
-  answer_of Memory c s = wanting (meaning rules changes claims) old new status s.is c.0
+module _ (held : Contents) (words : List (List ℕ)) (command : Command) (is : command_of words ≡ Some command) (old new : Option (List ℕ)) (status : ℕ) where
+  rules_answer : (fault : Fault) → RefusesRules (Some held) words fault → (status ≡ refusal_status (refused fault)) × (new ≡ old) → IsAnswer (meaning held command) old new status
+  rules_answer fault r h =
+      at_command held words command r.command (Err (refused fault)) old new status is r.is
+      (from_start held r.command ∙ ap (λ x. x >>= after_rules held r.command) (no_rules held r.command r.bytes fault r.file r.refused)) (inl h)
+
+  claims_answer : RefusesClaims (Some held) words → (status ≡ 4) × (new ≡ old) → IsAnswer (meaning held command) old new status
+  claims_answer r h =
+      at_command held words command (rows r.names) (Err (refused Claims)) old new status is r.rules_read.is
+      (past_rules held words (rows r.names) r.rules r.rules_read ∙ ap (λ x. x >>= λ asker. from_asker held r.rules asker r.names) (no_asker held r.names r.bytes r.file r.refused)) (inl h)
+
+  changes_answer : (fault : Fault) → RefusesChanges (Some held) words fault → (status ≡ refusal_status (refused fault)) × (new ≡ old) → IsAnswer (meaning held command) old new status
+  changes_answer fault r h =
+      at_command held words command (rows r.files.names) (Err (refused fault)) old new status is r.files.rules_read.is
+      (past_changes held words r.rules r.asker r.bytes r.files ∙ ap (λ x. or_refused x >>= λ ts. Ok (rows_text (due r.rules r.asker ts (last_position 0 ts)))) r.refused) (inl h)
+
+  limit_answer : (seen : ℕ) → ExceedsFile (Some held) words seen → (status ≡ 5) × (new ≡ old) → IsAnswer (meaning held command) old new status
+  limit_answer seen (inl r) h =
+      at_command held words command r.command (Err exceeds) old new status is r.is
+      (from_start held r.command ∙ ap (λ x. x >>= (λ bytes. or_refused (rules_of_file bytes)) >>= after_rules held r.command) (exceeds_by held (rules_file r.command) rules_limit r.file)) (inl h)
+  limit_answer seen (inr (inl r)) h =
+      at_command held words command (rows r.names) (Err exceeds) old new status is r.rules_read.is
+      (past_rules held words (rows r.names) r.rules r.rules_read
+      ∙ ap (λ x. x >>= (λ bytes. or_no_claims (asker_of_claims bytes)) >>= λ asker. from_asker held r.rules asker r.names) (exceeds_by held r.names.claims file_limit r.file)) (inl h)
+  limit_answer seen (inr (inr r)) h =
+      at_command held words command (rows r.names) (Err exceeds) old new status is r.rules_read.is
+      (past_claims held words r.names r.rules r.asker r.rules_read r.claims_read
+      ∙ ap (λ x. x >>= (λ bytes. or_refused (transactions_of bytes)) >>= λ ts. Ok (rows_text (due r.rules r.asker ts (last_position 0 ts)))) (exceeds_by held r.names.changes file_limit r.file)) (inl h)
+
+  answer_of : (read_before read_now write_before write_now : ℕ) (e : Told) → ¬ (Rose read_before read_now) → ¬ (Rose write_before write_now)
+      → (fault : Fault) → Caused (outside held read_before read_now old new write_before write_now) words fault → Says e fault status → IsAnswer (meaning held command) old new status
+  answer_of read_before read_now write_before write_now e read written Usage c s = let wrong : Some command ≡ None = sym is ∙ c.1 in cc
+  answer_of read_before read_now write_before write_now e read written (Rules line column why) c (inl s) = rules_answer (Rules line column why) c.1 (s.is, c.0)
+  answer_of read_before read_now write_before write_now e read written (Rules line column why) c (inr s) = wanting (meaning held command) old new status s.is c.0
+  answer_of read_before read_now write_before write_now e read written (Change line why) c (inl s) = changes_answer (Change line why) c.1 (s.is, c.0)
+  answer_of read_before read_now write_before write_now e read written (Change line why) c (inr s) = wanting (meaning held command) old new status s.is c.0
+  answer_of read_before read_now write_before write_now e read written (LongLine length) c (inl s) = changes_answer (LongLine length) c.1 (s.is, c.0)
+  answer_of read_before read_now write_before write_now e read written (LongLine length) c (inr s) = wanting (meaning held command) old new status s.is c.0
+  answer_of read_before read_now write_before write_now e read written Claims c s = claims_answer c.1 (s.is, c.0)
+  answer_of read_before read_now write_before write_now e read written (TooLong seen) c (inl s) = limit_answer seen c.1 (s.is, c.0)
+  answer_of read_before read_now write_before write_now e read written (TooLong seen) c (inr s) = wanting (meaning held command) old new status s.is c.0
+  answer_of read_before read_now write_before write_now e read written (CannotRead name) c s = absurd (read c.2)
+  answer_of read_before read_now write_before write_now e read written CannotWrite c s = absurd (written c.2)
+  answer_of read_before read_now write_before write_now e read written Memory c s = wanting (meaning held command) old new status s.is c.0
 
 pub exact_err : (held : Option Contents) (words : List (List ℕ)) (read_before read_now : ℕ) (old new : Option (List ℕ)) (write_before write_now : ℕ) (e : Told) (status : ℕ) (fault : Fault)
     → Caused (record { held = held; read_before = read_before; read_now = read_now; taken_before = old; taken_now = new; write_before = write_before; write_now = write_now }) words fault → Says e fault status
     → ¬ (Rose read_before read_now) → ¬ (Rose write_before write_now) → IsExact held words old new status
 exact_err None words read_before read_now old new write_before write_now e status fault c s read written = tt
-exact_err (Some held) words read_before read_now old new write_before write_now e status fault c s read written = λ names rules changes claims command has_rules has_changes has_claims.
-    answer_of held words read_before read_now old new write_before write_now e status read written names rules changes claims command has_rules has_changes has_claims fault c s
+exact_err (Some held) words read_before read_now old new write_before write_now e status fault c s read written = λ command is.
+    answer_of held words command is old new status read_before read_now write_before write_now e read written fault c s
 
 -- ---- a count past its limit
 
@@ -180,7 +166,8 @@ pub limits_by : (held : Option Contents) (words : List (List ℕ)) (read_before 
     → Caused (record { held = held; read_before = read_before; read_now = read_now; taken_before = old; taken_now = new; write_before = write_before; write_now = write_now }) words fault → Says e fault status
     → status ≡ 5 → (seen : ℕ) × ExceedsLimit held words seen
 limits_by held words read_before read_now old new write_before write_now e status Usage c s h = absurd (omega (arith, s.is, h))
-limits_by held words read_before read_now old new write_before write_now e status Rules c s h = absurd (omega (arith, s.is, h))
+limits_by held words read_before read_now old new write_before write_now e status (Rules line column why) c (inl s) h = absurd (omega (arith, s.is, h))
+limits_by held words read_before read_now old new write_before write_now e status (Rules line column why) c (inr s) h = absurd (omega (arith, s.is, h))
 limits_by held words read_before read_now old new write_before write_now e status (Change line why) c (inl s) h = absurd (omega (arith, s.is, h))
 limits_by held words read_before read_now old new write_before write_now e status (Change line why) c (inr s) h = absurd (omega (arith, s.is, h))
 limits_by held words read_before read_now old new write_before write_now e status (LongLine seen) c (inl s) h = (seen, inr c.1)

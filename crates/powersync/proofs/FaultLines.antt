@@ -1,12 +1,16 @@
 -- The lines of faults, from their parts.
 use Rattle.std.proofs.Common.{◌≡◌, ℕ, List, ◌++◌, refl, append_assoc, codes, decimal}
-use Rattle.powersync.specs.declared.faults.Fault.TheVariants.{Change, LongLine, TooLong, CannotRead}
+use Rattle.powersync.specs.declared.faults.Fault.TheVariants.{Rules, Change, LongLine, TooLong, CannotRead}
 use Rattle.powersync.specs.declared.faults.LineFault.{LineFault}
+use Rattle.powersync.specs.declared.faults.RulesCause.{RulesCause}
 use Rattle.powersync.specs.Commands.{fault_line}
-use Rattle.powersync.specs.Saying.{end_of_line}
+use Rattle.powersync.specs.Saying.{end_of_line, end_of_cause}
 
 pub change_line : (line : ℕ) (why : LineFault) → fault_line (Change line why) ≡ codes "powersync: change " ++ (decimal line ++ end_of_line why)
 change_line line why = simp append_assoc
+
+pub rules_line : (line column : ℕ) (why : RulesCause) → fault_line (Rules line column why) ≡ codes "powersync: rules " ++ (decimal line ++ (codes ":" ++ (decimal column ++ end_of_cause why)))
+rules_line line column why = simp append_assoc
 
 pub long_line : (length : ℕ) → fault_line (LongLine length) ≡ codes "powersync: limit line-bytes " ++ (decimal length ++ codes "\n")
 long_line length = refl

@@ -3,12 +3,12 @@ pub mod Causes
 pub mod Dues
 pub mod Exactness
 pub mod FaultLines
-pub mod Forms
 pub mod Holdings
 pub mod LogLaws
 pub mod Reaching
+pub mod RulesReading
 pub mod Sending
+pub mod ShownRows
 pub mod Splitting
 pub mod Standing
 pub mod Streaming
-pub mod Words

@@ -7,7 +7,7 @@ use Rattle.ps_values.specs.declared.values.Value.{Value}
 use Rattle.ps_bucket_log.specs.declared.ops.Op.{Op}
 use Rattle.ps_bucket_log.specs.Ops.{id_of, newest, upto, is_entry}
 use Rattle.ps_bucket_log.specs.Logs.{IsRising, AreEntries}
-use Rattle.powersync.specs.declared.rules.Rule.{Rule}
+use Rattle.powersync.specs.declared.one_forms.Rule.{Rule}
 use Rattle.powersync.specs.declared.replicas.Operation.{Operation}
 use Rattle.powersync.specs.declared.replicas.Operation.TheVariants.{Put, Remove}
 use Rattle.powersync.specs.Operations.{names}

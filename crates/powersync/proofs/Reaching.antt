@@ -1,18 +1,15 @@
--- How far a change file has been replicated.
-use Rattle.std.proofs.Common.{◌≡◌, ℕ, ◌+◌, ◌<◌, ◌≤◌, true, false, List, [], ◌∷◌, ◌++◌, Option, Some, None, Result, Ok, Err, length, refl, sym, ap, ◌∙◌, arith, append_assoc, Bor}
+-- How far a change file has been read.
+use Rattle.std.proofs.Common.{◌≡◌, ℕ, ◌+◌, ◌<◌, ◌≤◌, Bool, true, false, cond, List, [], ◌∷◌, ◌++◌, Option, Some, None, Result, Ok, Err, length, refl, sym, ap, ◌∙◌, arith, append_assoc, subst, ltb, Bor}
 use Rattle.std.specs.Prelude.{MatchOption}
-use Rattle.std.specs.Cmp.Lexicographic.{slice_cmp}
-use Rattle.std.specs.Ordering.{nat_cmp, is_eq}
-use Rattle.std.specs.Map.{lookup}
+use Rattle.std.proofs.lemmas.Bool.{ltb-true}
 use Rattle.ps_changes.specs.declared.changes.Transaction.{Transaction}
 use Rattle.ps_changes.specs.Lines.{line_of}
-use Rattle.ps_changes.specs.Source.{Source, after_changes, after_transactions}
+use Rattle.ps_changes.specs.declared.faults.ChangeFault.{ChangeFault}
 use Rattle.powersync.specs.declared.faults.Fault.{Fault}
-use Rattle.powersync.specs.declared.replicas.Replica.{Replica}
-use Rattle.powersync.specs.declared.rules.Rule.{Rule}
-use Rattle.powersync.specs.ChangeFiles.{lines_of, is_blank, rising, transactions_from, transactions_of, ◌>>=◌}
-use Rattle.powersync.specs.Operations.{StandsFor}
-use Rattle.powersync.specs.Replicating.{Reached, lines_left, bytes_left, before_left}
+use Rattle.powersync.specs.declared.faults.Fault.TheVariants.{Change}
+use Rattle.powersync.specs.declared.faults.LineFault.TheVariants.{NotRising}
+use Rattle.powersync.specs.ChangeFiles.{lines_of, is_blank, rising, transactions_from, transactions_of, Rises, ◌>>=◌}
+use Rattle.powersync.specs.ReadingChanges.{HasRead, lines_left, bytes_left, before_left}
 
 pub before_none : (r : Result (List Transaction) Fault) → r ≡ before_left [] r
 before_none (Ok ts) = refl
@@ -22,17 +19,9 @@ before_more : (done : List Transaction) (t : Transaction) (r : Result (List Tran
 before_more done t (Ok ts) = ap Ok (sym (append_assoc done (t ∷ []) ts))
 before_more done t (Err fault) = refl
 
--- an empty replica stands for the empty source
-pub fresh : (rule : Rule) (replica : Replica) → replica.live.entries ≡ [] → replica.operations.items ≡ [] → StandsFor rule replica []
-fresh rule replica nobody nothing = record {
-  live = λ id. ap (lookup (λ k. is_eq (slice_cmp nat_cmp id k))) nobody;
-  held = λ bucket id. rw nothing refl;
-}
-
-pub started : (rule : Rule) (replica : Replica) (changes : Bor (List ℕ)) → replica.live.entries ≡ [] → replica.operations.items ≡ [] → Reached rule changes.now 0 0 (Some changes) replica []
+pub started_reading : (changes : Bor (List ℕ)) → HasRead changes.now 0 0 (Some changes) []
 unfolding transactions_of
-started rule replica changes nobody nothing = record {
-  stands = fresh rule replica nobody nothing;
+started_reading changes = record {
   meaning = before_none (transactions_from 1 0 (lines_of changes.now));
   counted = omega arith;
 }
@@ -49,21 +38,15 @@ fewer : (bytes line : List ℕ) (rest : Option (Bor (List ℕ))) → SplitsLine 
 fewer bytes line None h = omega arith
 fewer bytes line (Some r) h = omega (arith, h.1)
 
-after-append : (done : List Transaction) (t : Transaction) (source : Source) → after_transactions (done ++ t ∷ []) source ≡ after_changes t.position.0 0 t.changes (after_transactions done source)
-after-append [] t source = refl
-after-append (d ∷ done) t source = after-append done t (after_changes d.position.0 0 d.changes source)
-
 read_one : (number last : ℕ) (line : List ℕ) (lines : List (List ℕ)) (t : Transaction) → is_blank line ≡ false → rising number last (line_of line) ≡ Ok t
     → transactions_from number last (line ∷ lines) ≡ (transactions_from (number + 1) t.position.0 lines >>= λ ts. Ok (t ∷ ts))
 read_one number last line lines t full is = rw full (ap (λ r. r >>= λ (x : Transaction). transactions_from (number + 1) x.position.0 lines >>= λ ts. Ok (x ∷ ts)) is)
 
 -- a transaction more
-pub reached_more : (rule : Rule) (changes : List ℕ) (number last : ℕ) (bytes : Bor (List ℕ)) (line : List ℕ) (rest : Option (Bor (List ℕ))) (old new : Replica) (done : List Transaction) (t : Transaction)
-    → Reached rule changes number last (Some bytes) old done → SplitsLine bytes.now line rest → is_blank line ≡ false → rising (number + 1) last (line_of line) ≡ Ok t
-    → ((source : Source) → StandsFor rule old source → StandsFor rule new (after_changes t.position.0 0 t.changes source))
-    → Reached rule changes (number + 1) t.position.0 rest new (done ++ t ∷ [])
-reached_more rule changes number last bytes line rest old new done t so_far splits full is written = record {
-  stands = rw (after-append done t []) (written (after_transactions done []) so_far.stands);
+pub read_more : (changes : List ℕ) (number last : ℕ) (bytes : Bor (List ℕ)) (line : List ℕ) (rest : Option (Bor (List ℕ))) (done : List Transaction) (t : Transaction)
+    → HasRead changes number last (Some bytes) done → SplitsLine bytes.now line rest → is_blank line ≡ false → rising (number + 1) last (line_of line) ≡ Ok t
+    → HasRead changes (number + 1) t.position.0 rest (done ++ t ∷ [])
+read_more changes number last bytes line rest done t so_far splits full is = record {
   meaning =
       so_far.meaning
       ∙ ap (λ ls. before_left done (transactions_from (number + 1) last ls)) (left_lines bytes.now line rest splits)
@@ -73,14 +56,47 @@ reached_more rule changes number last bytes line rest old new done t so_far spli
 }
 
 -- a blank line more
-pub reached_blank : (rule : Rule) (changes : List ℕ) (number last : ℕ) (bytes : Bor (List ℕ)) (line : List ℕ) (rest : Option (Bor (List ℕ))) (replica : Replica) (done : List Transaction)
-    → Reached rule changes number last (Some bytes) replica done → SplitsLine bytes.now line rest → is_blank line ≡ true
-    → Reached rule changes (number + 1) last rest replica done
-reached_blank rule changes number last bytes line rest replica done so_far splits blank = record {
-  stands = so_far.stands;
+pub read_blank : (changes : List ℕ) (number last : ℕ) (bytes : Bor (List ℕ)) (line : List ℕ) (rest : Option (Bor (List ℕ))) (done : List Transaction)
+    → HasRead changes number last (Some bytes) done → SplitsLine bytes.now line rest → is_blank line ≡ true
+    → HasRead changes (number + 1) last rest done
+read_blank changes number last bytes line rest done so_far splits blank = record {
   meaning =
       so_far.meaning
       ∙ ap (λ ls. before_left done (transactions_from (number + 1) last ls)) (left_lines bytes.now line rest splits)
       ∙ ap (before_left done) (rw blank refl);
   counted = omega (arith, so_far.counted, fewer bytes.now line rest splits);
 }
+
+-- ---- positions rise
+
+module _ (number last : ℕ) (lines : List (List ℕ)) (ts : List Transaction) where
+  -- what follows a transaction
+  abbrev followed : Transaction → Result (List Transaction) Fault
+  followed t = transactions_from (number + 1) t.position.0 lines >>= λ rest. Ok (t ∷ rest)
+
+  risen : (t : Transaction) (r : Result (List Transaction) Fault) → last < t.position.0 → ((rest : List Transaction) → r ≡ Ok rest → Rises t.position.0 rest)
+      → (r >>= λ rest. Ok (t ∷ rest)) ≡ Ok ts → Rises last ts
+  risen t (Ok rest) above k g = let e : t ∷ rest ≡ ts = cc in subst (Rises last) e (above, k rest refl)
+  risen t (Err fault) above k g = absurd (cc)
+
+  past : ((t : Transaction) (rest : List Transaction) → transactions_from (number + 1) t.position.0 lines ≡ Ok rest → Rises t.position.0 rest)
+      → (t : Transaction) (b : Bool) → ltb last t.position.0 ≡ b → (cond b (Ok t) (Err (Change number (NotRising last t.position.0))) >>= followed) ≡ Ok ts → Rises last ts
+  past k t true e g = risen t (transactions_from (number + 1) t.position.0 lines) (ltb-true last t.position.0 e) (k t) g
+  past k t false e g = absurd (cc)
+
+  accepted : ((t : Transaction) (rest : List Transaction) → transactions_from (number + 1) t.position.0 lines ≡ Ok rest → Rises t.position.0 rest)
+      → (r : Result Transaction ChangeFault) → (rising number last r >>= followed) ≡ Ok ts → Rises last ts
+  accepted k (Err fault) g = absurd (cc)
+  accepted k (Ok t) g = past k t (ltb last t.position.0) refl g
+
+rises_from : (number last : ℕ) (lines : List (List ℕ)) (ts : List Transaction) → transactions_from number last lines ≡ Ok ts → Rises last ts
+rises_from number last [] ts h = let e : [] ≡ ts = cc in subst (Rises last) e tt
+rises_from number last (line ∷ lines) ts h =
+    elim (is_blank line) as (λ b. cond b (transactions_from (number + 1) last lines) (rising number last (line_of line) >>= followed number last lines ts) ≡ Ok ts → Rises last ts) [
+      | true ↦ λ g. rises_from (number + 1) last lines ts g
+      | false ↦ λ g. accepted number last lines ts (λ t rest r. rises_from (number + 1) t.position.0 lines rest r) (line_of line) g
+    ] h
+
+pub positions_rise : (bytes : List ℕ) (ts : List Transaction) → transactions_of bytes ≡ Ok ts → Rises 0 ts
+unfolding transactions_of
+positions_rise bytes ts h = rises_from 1 0 (lines_of bytes) ts h

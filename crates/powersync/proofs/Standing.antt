@@ -4,6 +4,7 @@ use Rattle.std.specs.Prelude.{option_and_then}
 use Rattle.std.specs.BTreeMap.{get}
 use Rattle.std.specs.Cmp.Lexicographic.{slice_cmp, texts_ties, nat_list_cmp_total, nat_list_eq_equiv}
 use Rattle.std.specs.FinMap.Entries.{find}
+use Rattle.std.specs.Map.{lookup}
 use Rattle.std.specs.Ordering.{nat_cmp, int_cmp, is_eq, ordering_then}
 use Rattle.std.proofs.lemmas.Cmp.{tied_itself}
 use Rattle.std.proofs.lemmas.Map.Lookups.{exact_bytes, exact_signed}
@@ -14,11 +15,11 @@ use Rattle.ps_values.specs.Values.{equal_by}
 use Rattle.ps_values.specs.Documents.{document_of}
 use Rattle.ps_changes.specs.Source.{key_cmp, Version, Source, after_row}
 use Rattle.ps_changes.proofs.Sources.{find-after_row}
-use Rattle.powersync.specs.declared.rules.Rule.{Rule}
+use Rattle.powersync.specs.declared.one_forms.Rule.{Rule}
 use Rattle.powersync.specs.declared.replicas.Operation.{Operation}
 use Rattle.powersync.specs.declared.replicas.Operation.TheVariants.{Put, Remove}
 use Rattle.powersync.specs.declared.replicas.Replica.{Replica}
-use Rattle.powersync.specs.Grants.{is_true}
+use Rattle.ps_sql.specs.Meaning.{is_true}
 use Rattle.powersync.specs.Operations.{bucket_of, names, is_in, after_operation, held_after, removal, arrival, bucket_in, content_in, row_bucket, row_content, StandsFor, Writes}
 
 -- ---- one bucket has one name
@@ -204,3 +205,10 @@ stands_same rule old new source position index table id row same written stands 
 -- two texts are alike in one test where they are in the other
 pub same_test : (a b : List ℕ) → bytes_eq a b ≡ is_eq (slice_cmp nat_cmp a b)
 same_test a b = texts_ties a b
+
+-- an empty replica stands for the empty source
+pub fresh : (rule : Rule) (replica : Replica) → replica.live.entries ≡ [] → replica.operations.items ≡ [] → StandsFor rule replica []
+fresh rule replica nobody nothing = record {
+  live = λ id. ap (lookup (λ k. is_eq (slice_cmp nat_cmp id k))) nobody;
+  held = λ bucket id. rw nothing refl;
+}

@@ -1,5 +1,5 @@
 -- Files of change lines.
-use Rattle.std.specs.Prelude.{ℕ, ◌+◌, Bool, ◌||◌, ◌==◌, nat_lt, if◌then◌else◌, List, [], ◌∷◌, Result, Ok, Err}
+use Rattle.std.specs.Prelude.{ℕ, ◌<◌, ◌+◌, Bool, ◌||◌, ◌==◌, nat_lt, if◌then◌else◌, List, [], ◌∷◌, Result, Ok, Err}
 use Rattle.std.specs.List.{list_all, slice_split}
 use Rattle.ps_changes.specs.declared.changes.Transaction.{Transaction}
 use Rattle.ps_changes.specs.declared.faults.ChangeFault.{ChangeFault}
@@ -53,3 +53,8 @@ transactions_of bytes = transactions_from 1 0 (lines_of bytes)
 abbrev pub last_position : ℕ → List Transaction → ℕ
 last_position position [] = position
 last_position position (transaction ∷ transactions) = last_position transaction.position.0 transactions
+
+-- positions rise from past a last one
+abbrev pub Rises : ℕ → List Transaction → Type 0
+Rises last [] = Unit {0}
+Rises last (transaction ∷ transactions) = (last < transaction.position.0) × Rises transaction.position.0 transactions

@@ -1,23 +1,39 @@
 -- Claims files: who asks.
-use Rattle.std.specs.Prelude.{ℕ, List, codes, Option, Some, None, option_and_then, is_some, Bool, true, ◌&&◌, if◌then◌else◌}
+use Rattle.std.specs.Prelude.{ℕ, List, codes, Option, Some, None, option_and_then, is_some, if◌then◌else◌}
 use Rattle.serde_json.specs.Data.{Data}
 use Rattle.serde_json.specs.Find.{get, as_str, as_object}
+use Rattle.serde_json.specs.Written.{compact_text}
+use Rattle.ps_values.specs.Conversions.{plain_of}
 use Rattle.ps_values.specs.Documents.{json_of}
-use Rattle.powersync.specs.Rules.{◌>>=◌}
+use Rattle.ps_sql.specs.Meaning.{Asker}
 
--- a member that is missing, or passes a test
-abbrev pub passes_if_there : (Data → Bool) → Option Data → Bool
-passes_if_there test None = true
-passes_if_there test (Some d) = test d
+infixl 10 ◌>>=◌
+abbrev pub ◌>>=◌ : {A B : Type 0} → Option A → (A → Option B) → Option B
+o >>= f = option_and_then f o
 
--- the user of a claims file: an object with a token, whose subject is a text; the parameters, if any, are an object, and the client's id, if any, is a text
-abbrev pub user_of : Data → Option (List ℕ)
-user_of d = do
-  token ← get (codes "token") d
+-- the compact text of JSON, with null for each number that is no whole number of signed 64 bits
+abbrev pub plain_text : Data → List ℕ
+plain_text json = compact_text (plain_of json)
+
+-- the parameters' text: they are an object, or missing and then `{}`
+abbrev pub parameters_text : Option Data → Option (List ℕ)
+parameters_text None = Some (codes "{}")
+parameters_text (Some json) = if is_some (as_object json) then Some (plain_text json) else None
+
+-- the client's id: a text, or missing
+abbrev pub client_id : Option Data → Option (Option (List ℕ))
+client_id None = Some None
+client_id (Some json) = as_str json >>= λ id. Some (Some id)
+
+-- the asker of a claims file: an object with a token, whose subject is the user and whose text is the payload
+abbrev pub asker_in : Data → Option Asker
+asker_in json = do
+  token ← get (codes "token") json
   subject ← get (codes "sub") token
   user ← as_str subject
-  if passes_if_there (λ parameters. is_some (as_object parameters)) (get (codes "parameters") d) && passes_if_there (λ client. is_some (as_str client)) (get (codes "client_id") d)
-      then Some user else None
+  parameters ← parameters_text (get (codes "parameters") json)
+  client ← client_id (get (codes "client_id") json)
+  Some (record { user = user; payload = plain_text token; parameters = parameters; client = client })
 
-unfoldable pub claims_of : List ℕ → Option (List ℕ)
-claims_of bytes = option_and_then user_of (json_of bytes)
+unfoldable pub asker_of_claims : List ℕ → Option Asker
+asker_of_claims bytes = option_and_then asker_in (json_of bytes)

@@ -7,7 +7,7 @@ use Rattle.ps_checksum.specs.Sums.{checksum_of, put_text, remove_text}
 use Rattle.ps_bucket_log.specs.declared.ops.Key.{Key}
 use Rattle.ps_bucket_log.specs.declared.ops.Op.{Op}
 use Rattle.ps_bucket_log.specs.declared.ops.Op.TheVariants.{Put as put, Remove as remove, Move as move, Clear as clear}
-use Rattle.powersync.specs.declared.rules.Rule.{Rule}
+use Rattle.powersync.specs.declared.one_forms.Rule.{Rule}
 use Rattle.powersync.specs.declared.replicas.Operation.{Operation}
 use Rattle.powersync.specs.declared.replicas.Operation.TheVariants.{Put, Remove}
 use Rattle.powersync.specs.Operations.{names}

@@ -10,11 +10,11 @@ use Rattle.ps_values.specs.declared.values.Value.TheVariants.{Null, Int, Text}
 use Rattle.ps_values.specs.Values.{equal_sql}
 use Rattle.ps_values.specs.Documents.{document_of}
 use Rattle.ps_changes.specs.Source.{key_cmp, Source}
-use Rattle.powersync.specs.declared.rules.Rule.{Rule}
+use Rattle.powersync.specs.declared.one_forms.Rule.{Rule}
 use Rattle.powersync.specs.declared.replicas.Operation.{Operation}
 use Rattle.powersync.specs.declared.replicas.Operation.TheVariants.{Put, Remove}
 use Rattle.powersync.specs.declared.replicas.Replica.{Replica}
-use Rattle.powersync.specs.Grants.{value_at, is_true}
+use Rattle.ps_sql.specs.Meaning.{column_value, is_true}
 
 -- the bucket of a row, as the value of its parameter: Null names none
 abbrev pub unless_null : Value → Option Value
@@ -23,7 +23,7 @@ unless_null (Int n) = Some (Int n)
 unless_null (Text t) = Some (Text t)
 
 abbrev pub bucket_of : Rule → List ℕ → List Column → Option Value
-bucket_of rule id columns = unless_null (value_at rule.column id columns)
+bucket_of rule id columns = unless_null (column_value id columns rule.column)
 
 -- whether it is that bucket
 abbrev pub names : Value → Value → Bool

@@ -3,6 +3,8 @@ use Rattle.std.specs.Prelude.{◌≡◌, ◌⊎◌, ◌++◌, ℕ, List, Option,
 use Rattle.powersync.specs.declared.faults.Fault.{Fault}
 use Rattle.powersync.specs.declared.faults.Fault.TheVariants.{Usage, Rules, Change, LongLine, Claims, TooLong, CannotRead, CannotWrite, Memory}
 use Rattle.powersync.specs.declared.faults.LineFault.{LineFault}
+use Rattle.powersync.specs.declared.faults.RulesCause.{RulesCause}
+use Rattle.powersync.specs.RulesFaults.{cause_text}
 use Rattle.powersync.specs.Commands.{Outside, Caused, status_of, line_fault_text, fault_line, Tells}
 
 -- standard error before and after
@@ -20,7 +22,7 @@ pub record SaysFault (e : Told) (fault : Fault) (status : ℕ) : Type 0 where
 -- the same, where the line is a constant; one that has a number or a name in it may want memory
 abbrev pub Says : Told → Fault → ℕ → Type 0
 Says e Usage status = SaysFault e Usage status
-Says e Rules status = SaysFault e Rules status
+Says e (Rules line column why) status = SaysFault e (Rules line column why) status ⊎ SaysFault e Memory status
 Says e (Change line why) status = SaysFault e (Change line why) status ⊎ SaysFault e Memory status
 Says e (LongLine length) status = SaysFault e (LongLine length) status ⊎ SaysFault e Memory status
 Says e Claims status = SaysFault e Claims status
@@ -36,3 +38,7 @@ SaysCause o e words status = (fault : Fault) × Caused o words fault × Says e f
 -- the end of the line of a change line's fault
 abbrev pub end_of_line : LineFault → List ℕ
 end_of_line why = codes " " ++ (line_fault_text why ++ codes "\n")
+
+-- the end of the line of a rules file's fault
+abbrev pub end_of_cause : RulesCause → List ℕ
+end_of_cause why = codes " " ++ (cause_text why ++ codes "\n")

@@ -1,16 +1,12 @@
-ghost use Rattle.std.specs.Prelude.{◌≡◌, Err, ◌==◌, ◌<◌, ◌^◌, ◌∷◌, [], length, IfSome, MatchOption};
+ghost use Rattle.std.specs.Prelude.{◌≡◌, Err, ◌==◌, ◌<◌, ◌^◌, ◌∷◌, [], length, IfSome, IfOk, MatchOption};
 ghost use Rattle.std.specs.List.{position};
 ghost use Rattle.ps_changes.specs.Lines.{line_of};
-ghost use Rattle.powersync.specs.ChangeFiles.{lines_of, is_blank as is_blank_line, rising};
-ghost use Rattle.powersync.specs.Replicating.{Replicates, ReadsRising};
+ghost use Rattle.powersync.specs.ChangeFiles.{lines_of, is_blank as is_blank_line, rising, transactions_of, Rises};
+ghost use Rattle.powersync.specs.ReadingChanges.{ReadsRising, ReadsAll};
 
 use crate::faults::{Fault, LineFault};
-use crate::replicas::Replica;
-use crate::rules::Rule;
-use crate::writing::write_transaction;
 use ps_changes::{ChangeFault, Transaction, read_line};
 use std::alloc::Global;
-use std::collections::BTreeMap;
 
 // The place of the first line feed.
 fn line_feed(bytes: &[u8]) -> Option<usize>
@@ -39,16 +35,14 @@ pub fn is_blank(line: &[u8]) -> bool
         .all(|byte| *byte == b' ' || *byte == b'\t' || *byte == b'\r')
 }
 
-/// Replicates a change file: the replica of the source after its transactions.
+/// Reads a change file: its transactions, whose positions rise.
 /// Fails by the first line that is refused: with `LongLine` where it is longer than a line may be, and else with `Change`.
-pub fn replicate(alloc: Global, rule: &Rule, changes: &[u8]) -> Result<Replica, Fault>
+pub fn read_transactions(alloc: Global, changes: &[u8]) -> Result<Vec<Transaction>, Fault>
     requires { length changes.now < 2 ^ 63 }
-    ensures { Replicates rule.now changes.now result }
+    ensures read { ReadsAll result (transactions_of changes.now) }
+    ensures rising { IfOk result (λ transactions. Rises 0 transactions.items) }
 {
-    let mut replica = Replica {
-        live: BTreeMap::new(alloc),
-        operations: Vec::new(alloc),
-    };
+    let mut transactions = Vec::new(alloc);
     let mut number = 0u64;
     let mut last = 0;
     let mut rest = Some(changes);
@@ -60,10 +54,10 @@ pub fn replicate(alloc: Global, rule: &Rule, changes: &[u8]) -> Result<Replica, 
             continue;
         }
         let transaction = read_rising(alloc, line, number, last)?;
-        write_transaction(alloc, &mut replica, rule, &transaction)?;
         last = transaction.position.0;
+        transactions.push(transaction)?;
     }
-    Ok(replica)
+    Ok(transactions)
 }
 
 // The transaction of a line, where its position is past the last one.

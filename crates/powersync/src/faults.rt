@@ -21,13 +21,53 @@ pub enum LineFault {
     },
 }
 
+/// Why a rules file is refused: docs/FORMATS.md, "Faults of rules".
+#[derive(Clone, Copy, Debug, PartialEq, Eq)]
+pub enum RulesCause {
+    /// A line's indent fits no open map or list, or a tab stands in an indentation.
+    YamlIndent,
+    /// No scalar, no entry or no item of the profile.
+    YamlScalar,
+    /// A map has this name already.
+    YamlDuplicateKey,
+    /// YAML that the profile leaves out.
+    YamlUnsupported,
+    /// A name or a kind of node does not belong here, or a map lacks a name.
+    Shape,
+    /// No token of SQL begins at this byte of the query, counted from 0.
+    SqlToken { at: u32 },
+    /// The token at this byte of the query fits no rule of the grammar.
+    SqlUnexpected { at: u32 },
+    /// What begins at this byte of the query is SQL that the profile leaves out.
+    SqlUnsupported { at: u32 },
+    /// `bucket.q` where q is no parameter's name.
+    UnknownParameter,
+    /// A parameter is not matched in some branch, or stands where it is not matched.
+    UnmatchedParameter,
+    /// A data query without `*` and without an output `id`.
+    NoId,
+    /// A condition of more than 64 branches.
+    TooManyBranches,
+    /// Two outputs of one name.
+    DuplicateName,
+    /// A parameter query with other names than the first one.
+    MixedOutput,
+}
+
 /// Why the program did not do what it was asked: docs/FORMATS.md, "Fault texts".
 #[derive(Debug, Drop)]
 pub enum Fault {
     /// The words are no command.
     Usage,
-    /// The rules file is no rule of the form that is read.
-    Rules,
+    /// The rules file is refused.
+    Rules {
+        /// The line of the first fault, counted from 1.
+        line: u32,
+        /// The column there, in bytes, counted from 1.
+        column: u32,
+        /// What is wrong there.
+        why: RulesCause,
+    },
     /// A change line is no transaction, or its position does not rise.
     Change {
         /// The line's number, counted from 1.

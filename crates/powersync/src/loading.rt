@@ -1,15 +1,16 @@
 ghost use Rattle.std.specs.Prelude.{◌≡◌, ◌≤◌, ◌<◌, ◌^◌, length};
-ghost use Rattle.powersync.specs.Loading.{Loads, IsContent, RefusesNothing, FindsRule, RefusesRule, FindsUser, RefusesUser, FindsRows, RefusesLine, Prepares};
+ghost use Rattle.powersync.specs.Loading.{Loads, IsContent, RefusesNothing, FindsRules, IsRulesFault, FindsAsker, IsClaimsFault, FindsRows, RefusesLine, Prepares};
 
-use crate::change_files::replicate;
+use crate::change_files::read_transactions;
 use crate::claims::read_claims;
-use crate::clients::take_operations;
+use crate::dues::due_rows;
 use crate::faults::Fault;
 use crate::printing::print_rows;
-use crate::replicas::Replica;
-use crate::rules::{Rule, read_rule};
+use crate::rules_faults::read_rules_file;
 use ps_io::{FileFault, Files};
-use ps_values::{Text, Value};
+use ps_rules::Rules;
+use ps_sql_eval::Asker;
+use ps_values::Text;
 use std::alloc::Global;
 
 /// The greatest number of bytes of a rules file.
@@ -34,60 +35,53 @@ fn load<F: Files>(alloc: Global, files: &mut F, name: &Text, limit: u64) -> Resu
     }
 }
 
-/// Loads the rule of a rules file.
-pub fn load_rule<F: Files>(alloc: Global, files: &mut F, name: &Text) -> Result<Rule, Fault>
-    ensures loads { Loads (F.held files.old) name.now RULES_LIMIT (F.faults files.old) (F.faults files.new) FindsRule RefusesRule result }
+/// Loads the rules of a rules file.
+pub fn load_rules<F: Files>(alloc: Global, files: &mut F, name: &Text) -> Result<Rules, Fault>
+    ensures loads { Loads (F.held files.old) name.now RULES_LIMIT (F.faults files.old) (F.faults files.new) FindsRules IsRulesFault result }
     ensures held { F.held files.new ≡ F.held files.old }
     ensures faults { F.faults files.old ≤ F.faults files.new }
 {
     let bytes = load(alloc, files, name, RULES_LIMIT)?;
-    match read_rule(alloc, bytes.as_slice())? {
-        Some(rule) => Ok(rule),
-        None => Err(Fault::Rules),
-    }
+    read_rules_file(alloc, bytes.as_slice())
 }
 
-/// Loads the user of a claims file.
-pub fn load_user<F: Files>(alloc: Global, files: &mut F, name: &Text) -> Result<Text, Fault>
-    ensures loads { Loads (F.held files.old) name.now FILE_LIMIT (F.faults files.old) (F.faults files.new) FindsUser RefusesUser result }
+/// Loads the asker of a claims file.
+pub fn load_asker<F: Files>(alloc: Global, files: &mut F, name: &Text) -> Result<Asker, Fault>
+    ensures loads { Loads (F.held files.old) name.now FILE_LIMIT (F.faults files.old) (F.faults files.new) FindsAsker IsClaimsFault result }
     ensures held { F.held files.new ≡ F.held files.old }
     ensures faults { F.faults files.old ≤ F.faults files.new }
 {
     let bytes = load(alloc, files, name, FILE_LIMIT)?;
     match read_claims(alloc, bytes.as_slice())? {
-        Some(user) => Ok(user),
+        Some(asker) => Ok(asker),
         None => Err(Fault::Claims),
     }
 }
 
-// The printed rows of a change file's bytes that are due to a user.
-fn prepare(alloc: Global, rule: &Rule, user: &Text, changes: &[u8]) -> Result<Vec<u8>, Fault>
+// The printed rows of a change file's bytes that are due to an asker.
+fn prepare(alloc: Global, rules: &Rules, asker: &Asker, changes: &[u8]) -> Result<Vec<u8>, Fault>
     requires { length changes.now < 2 ^ 63 }
-    ensures { Prepares rule.now user.now changes.now result }
+    ensures { Prepares rules.now asker.now changes.now result }
 {
-    let Replica {
-        live: _,
-        operations,
-    } = replicate(alloc, rule, changes)?;
-    let bucket = Value::Text(user.copy(alloc)?);
-    let rows = take_operations(alloc, operations, &bucket)?;
-    let text = print_rows(alloc, &rule.table, &rows)?;
+    let transactions = read_transactions(alloc, changes)?;
+    let rows = due_rows(alloc, rules, asker, transactions)?;
+    let text = print_rows(alloc, rows.as_slice())?;
     Ok(text)
 }
 
-/// Loads the printed rows of a change file that are due to a user.
+/// Loads the printed rows of a change file that are due to an asker.
 pub fn load_rows<F: Files>(
     alloc: Global,
     files: &mut F,
     name: &Text,
-    rule: &Rule,
-    user: &Text,
+    rules: &Rules,
+    asker: &Asker,
 ) -> Result<Vec<u8>, Fault>
     ensures loads { Loads (F.held files.old) name.now FILE_LIMIT (F.faults files.old) (F.faults files.new)
-        (FindsRows rule.now user.now) RefusesLine result }
+        (FindsRows rules.now asker.now) RefusesLine result }
     ensures held { F.held files.new ≡ F.held files.old }
     ensures faults { F.faults files.old ≤ F.faults files.new }
 {
     let bytes = load(alloc, files, name, FILE_LIMIT)?;
-    prepare(alloc, rule, user, bytes.as_slice())
+    prepare(alloc, rules, asker, bytes.as_slice())
 }

@@ -6,8 +6,8 @@ ghost use Rattle.ps_bucket_log.specs.Logs.{AreEntries};
 ghost use Rattle.powersync.specs.Operations.{names as names_bucket, held_after};
 ghost use Rattle.powersync.specs.Logs.{bucket_name as name_of_bucket, subkey_of as subkey_text, key_of as key_of_row, bucket_of_operation, numbered as numbered_as, log_of as log_of_bucket, content_of};
 
+use crate::one_forms::Rule;
 use crate::replicas::Operation;
-use crate::rules::Rule;
 use crate::writing::names;
 use ps_bucket_log::{BucketLog, Key, Log, Op};
 use ps_checksum::{put_sum, remove_sum};

@@ -2,16 +2,18 @@
 #![tactic(auto)]
 
 mod change_files;
+mod checking;
 mod checkpoints;
 mod claims;
-mod clients;
+mod dues;
 mod faults;
 mod loading;
 mod logs;
+mod one_forms;
 mod plain;
 mod printing;
 mod replicas;
-mod rules;
+mod rules_faults;
 mod saying;
 mod sessions;
 mod streams;

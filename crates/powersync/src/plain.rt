@@ -1,14 +1,16 @@
 ghost use Rattle.std.specs.Prelude.{◌≡◌, ◌≢◌, ◌≤◌, ◌↔◌, ℕ, List, [], ◌∷◌, None, true, bytes_eq, codes};
 ghost use Rattle.ps_io.specs.Counts.{Rose};
-ghost use Rattle.powersync.specs.Commands.{names_of, Outcome, Prints, RefusesRules, RefusesChanges, RefusesClaims, ExceedsLimit, IsExact};
+ghost use Rattle.powersync.specs.Commands.{command_of, Outcome, Prints, RefusesRules, RefusesChanges, RefusesClaims, ExceedsLimit, IsExact};
 ghost use Rattle.powersync.specs.Saying.{SaysCause};
 ghost use Rattle.powersync.specs.declared.faults.LineFault.{LineFault as LineFaultData};
+ghost use Rattle.powersync.specs.declared.faults.RulesCause.{RulesCause as RulesCauseData};
 
+use crate::checking::print_check;
 use crate::faults::Fault;
-use crate::loading::{load_rows, load_rule, load_user};
+use crate::loading::{load_asker, load_rows, load_rules};
 use crate::saying::say;
 use ps_io::{Files, Sink};
-use ps_values::Text;
+use ps_values::{Memory, Text};
 use std::alloc::Global;
 
 // Does the command that the words are: docs/FORMATS.md, "Commands".
@@ -29,6 +31,12 @@ fn command<F: Files, K: Sink>(
     }) words.now result }
 {
     match words {
+        [word, rules] => {
+            if word.as_str() != "check" {
+                return Err(Fault::Usage);
+            }
+            check(alloc, rules, files, out)
+        }
         [word, rules, changes, claims] => {
             if word.as_str() != "rows" {
                 return Err(Fault::Usage);
@@ -36,6 +44,38 @@ fn command<F: Files, K: Sink>(
             rows(alloc, rules, changes, claims, files, out)
         }
         _ => Err(Fault::Usage),
+    }
+}
+
+// Prints what rules have.
+fn check<F: Files, K: Sink>(
+    alloc: Global,
+    rules: &Text,
+    files: &mut F,
+    out: &mut K,
+) -> Result<(), Fault>
+    ensures { (word : List ℕ) → bytes_eq word (codes "check") ≡ true → Outcome (record {
+      held = F.held files.old;
+      read_before = F.faults files.old;
+      read_now = F.faults files.new;
+      taken_before = K.taken out.old;
+      taken_now = K.taken out.new;
+      write_before = K.faults out.old;
+      write_now = K.faults out.new;
+    })
+        (word ∷ rules.now ∷ []) result }
+{
+    let rules = match load_rules(alloc, files, rules) {
+        Ok(rules) => rules,
+        Err(fault) => return Err(fault),
+    };
+    let text = match print_check(alloc, &rules) {
+        Ok(text) => text,
+        Err(Memory) => return Err(Fault::Memory),
+    };
+    match out.write(text.as_slice()) {
+        Ok(()) => Ok(()),
+        Err(_) => Err(Fault::CannotWrite),
     }
 }
 
@@ -59,15 +99,15 @@ fn rows<F: Files, K: Sink>(
     })
         (word ∷ rules.now ∷ changes.now ∷ claims.now ∷ []) result }
 {
-    let rule = match load_rule(alloc, files, rules) {
-        Ok(rule) => rule,
+    let rules = match load_rules(alloc, files, rules) {
+        Ok(rules) => rules,
         Err(fault) => return Err(fault),
     };
-    let user = match load_user(alloc, files, claims) {
-        Ok(user) => user,
+    let asker = match load_asker(alloc, files, claims) {
+        Ok(asker) => asker,
         Err(fault) => return Err(fault),
     };
-    let text = match load_rows(alloc, files, changes, &rule, &user) {
+    let text = match load_rows(alloc, files, changes, &rules, &asker) {
         Ok(text) => text,
         Err(fault) => return Err(fault),
     };
@@ -79,8 +119,8 @@ fn rows<F: Files, K: Sink>(
 
 /// Does a command that does not wait, and answers its status: docs/FORMATS.md, "Commands" and "Statuses".
 ///
-/// The words are those after the program's name. The one command is `rows RULES CHANGES CLAIMS`, which prints the rows that are due
-/// to the user of the claims over all transactions of the change file, or nothing.
+/// The words are those after the program's name. `check RULES` prints what the rules have. `rows RULES CHANGES CLAIMS` prints the rows
+/// that are due to the asker of the claims over all transactions of the change file. Where anything is refused, nothing is printed.
 pub fn run_plain<F: Files, K: Sink, E: Sink>(
     alloc: Global,
     words: &[Text],
@@ -88,13 +128,13 @@ pub fn run_plain<F: Files, K: Sink, E: Sink>(
     out: &mut K,
     err: &mut E,
 ) -> u8
-    // Status 0: exactly the rows that are due were printed, and nothing was said.
+    // Status 0: exactly the lines of the rules or the rows that are due were printed, and nothing was said.
     ensures done { result ≡ 0 → Prints (F.held files.old) words.now (K.taken out.old) (K.taken out.new) }
     ensures quiet { result ≡ 0 → E.taken err.new ≡ E.taken err.old }
 
     // Statuses 1 to 8, each by its cause.
-    ensures usage { (result ≡ 1) ↔ (names_of words.now ≡ None) }
-    ensures rules { result ≡ 2 → RefusesRules (F.held files.old) words.now }
+    ensures usage { (result ≡ 1) ↔ (command_of words.now ≡ None) }
+    ensures rules { result ≡ 2 → (line column : ℕ) × (why : RulesCauseData) × RefusesRules (F.held files.old) words.now (Fault.Rules line column why) }
     ensures changes { result ≡ 3 → (line : ℕ) × (why : LineFaultData) × RefusesChanges (F.held files.old) words.now (Fault.Change line why) }
     ensures claims { result ≡ 4 → RefusesClaims (F.held files.old) words.now }
     ensures limits { result ≡ 5 → (seen : ℕ) × ExceedsLimit (F.held files.old) words.now seen }

@@ -1,8 +1,8 @@
 ghost use Rattle.std.specs.Prelude.{◌≡◌, ◌++◌, codes, decimal, string_bytes, IfOk};
 ghost use Rattle.powersync.specs.Commands.{Tells};
-ghost use Rattle.powersync.specs.Saying.{Says, end_of_line};
+ghost use Rattle.powersync.specs.Saying.{Says, end_of_line, end_of_cause};
 
-use crate::faults::{Fault, LineFault};
+use crate::faults::{Fault, LineFault, RulesCause};
 use ps_io::Sink;
 use ps_values::{Memory, Text};
 use std::alloc::Global;
@@ -82,6 +82,53 @@ fn say_change<E: Sink>(alloc: Global, err: &mut E, line: u64, why: LineFault) ->
     }
 }
 
+// What is wrong in a rules file, behind a space, as the end of a line.
+fn cause_end(alloc: Global, why: RulesCause) -> Result<String, Memory>
+    ensures { IfOk result (λ text. string_bytes text ≡ end_of_cause why) }
+{
+    match why {
+        RulesCause::YamlIndent => Ok(String::from_str(alloc, " yaml-indent\n")?),
+        RulesCause::YamlScalar => Ok(String::from_str(alloc, " yaml-scalar\n")?),
+        RulesCause::YamlDuplicateKey => Ok(String::from_str(alloc, " yaml-duplicate-key\n")?),
+        RulesCause::YamlUnsupported => Ok(String::from_str(alloc, " yaml-unsupported\n")?),
+        RulesCause::Shape => Ok(String::from_str(alloc, " shape\n")?),
+        RulesCause::SqlToken { at } => { numbered_line(alloc, " sql-token ", u64::from(at), "\n") }
+        RulesCause::SqlUnexpected { at } => {
+            numbered_line(alloc, " sql-unexpected ", u64::from(at), "\n")
+        }
+        RulesCause::SqlUnsupported { at } => {
+            numbered_line(alloc, " sql-unsupported ", u64::from(at), "\n")
+        }
+        RulesCause::UnknownParameter => Ok(String::from_str(alloc, " unknown-parameter\n")?),
+        RulesCause::UnmatchedParameter => Ok(String::from_str(alloc, " unmatched-parameter\n")?),
+        RulesCause::NoId => Ok(String::from_str(alloc, " no-id\n")?),
+        RulesCause::TooManyBranches => Ok(String::from_str(alloc, " too-many-branches\n")?),
+        RulesCause::DuplicateName => Ok(String::from_str(alloc, " duplicate-name\n")?),
+        RulesCause::MixedOutput => Ok(String::from_str(alloc, " mixed-output\n")?),
+    }
+}
+
+// The line of a fault of a rules file.
+fn rules_line(alloc: Global, line: u32, column: u32, why: RulesCause) -> Result<String, Memory>
+    ensures { IfOk result (λ text. string_bytes text ≡ codes "powersync: rules " ++ (decimal line ++ (codes ":" ++ (decimal column ++ end_of_cause why)))) }
+{
+    let end = cause_end(alloc, why)?;
+    let column = numbered_line(alloc, ":", u64::from(column), end.as_str())?;
+    numbered_line(alloc, "powersync: rules ", u64::from(line), column.as_str())
+}
+
+fn say_rules<E: Sink>(alloc: Global, err: &mut E, line: u32, column: u32, why: RulesCause) -> u8
+    ensures { Says (record { old = E.taken err.old; new = E.taken err.new; before = E.faults err.old; now = E.faults err.new }) (Fault.Rules line column why) result }
+{
+    match rules_line(alloc, line, column, why) {
+        Ok(text) => {
+            tell(err, text.as_str().as_bytes());
+            2
+        }
+        Err(_) => say_memory(err),
+    }
+}
+
 fn say_too_long<E: Sink>(alloc: Global, err: &mut E, seen: u64) -> u8
     ensures { Says (record { old = E.taken err.old; new = E.taken err.new; before = E.faults err.old; now = E.faults err.new }) (Fault.TooLong seen) result }
 {
@@ -128,10 +175,7 @@ pub fn say<E: Sink>(alloc: Global, err: &mut E, fault: &Fault) -> u8
             tell(err, b"powersync: usage\n");
             1
         }
-        Fault::Rules => {
-            tell(err, b"powersync: rules 1:1 not-yet\n");
-            2
-        }
+        Fault::Rules { line, column, why } => say_rules(alloc, err, *line, *column, *why),
         Fault::Change { line, why } => say_change(alloc, err, *line, *why),
         Fault::LongLine { length } => say_long_line(alloc, err, *length),
         Fault::Claims => {

@@ -1,6 +1,17 @@
+ghost use Rattle.std.specs.Prelude.{◌≤◌, IfOk};
+ghost use Rattle.ps_values.specs.Numbers.{greatest};
+ghost use Rattle.ps_bucket_log.specs.Logs.{AreEntries};
+
+use crate::change_files::read_transactions;
+use crate::logs::{bucket_name, log_of};
 use crate::plain::run_plain;
+use crate::one_forms::Rule;
+use crate::streams::{checkpoint_line, complete_line, data_line};
+use crate::writing::replicate;
+use ps_bucket_log::{BucketLog, Log, batches_are_the_log, standing_logs_stay_standing};
 use ps_io::{Files, MemoryFile, MemoryFiles, MemorySink, SureFiles};
-use ps_values::{Items, Text};
+use ps_lines::write_line;
+use ps_values::{Items, Memory, OpId, Text, Value};
 use std::alloc::Global;
 use std::test::Fail;
 
@@ -101,7 +112,7 @@ fn prints_the_rows_that_are_due(rt: HostRuntime) -> Result<(), Fail> {
 fn each_refusal_has_its_status_and_text(rt: HostRuntime) -> Result<(), Fail> {
     let blank_lines = "\n \t\r\n{\"pos\":\"1\",\"changes\":[]}\n\n{\"pos\":\"1\",\"changes\":[]}";
     'table: for (rules, changes, claims, status, said) in [
-        ("", CHANGES, CLAIMS, 2, "powersync: rules 1:1 not-yet\n"),
+        ("", CHANGES, CLAIMS, 2, "powersync: rules 1:1 shape\n"),
         (RULES, "{", CLAIMS, 3, "powersync: change 1 bad-json\n"),
         (RULES, "{}", CLAIMS, 3, "powersync: change 1 bad-shape\n"),
         (
@@ -118,8 +129,22 @@ fn each_refusal_has_its_status_and_text(rt: HostRuntime) -> Result<(), Fail> {
             3,
             "powersync: change 5 not-rising 1 1\n",
         ),
+        (
+            "bucket_definitions: [a]",
+            CHANGES,
+            CLAIMS,
+            2,
+            "powersync: rules 1:21 yaml-unsupported\n",
+        ),
         (RULES, CHANGES, "{}", 4, "powersync: claims\n"),
-        ("", "{}", "{}", 2, "powersync: rules 1:1 not-yet\n"),
+        (
+            RULES,
+            CHANGES,
+            "{\"token\":{\"sub\":\"ann\"},\"parameters\":[]}",
+            4,
+            "powersync: claims\n",
+        ),
+        ("", "{}", "{}", 2, "powersync: rules 1:1 shape\n"),
         (RULES, "{}", "{}", 4, "powersync: claims\n"),
     ] {
         let refused = rows(rt.alloc(), rules, changes, claims)?;
@@ -212,7 +237,16 @@ fn other_words_are_no_command(rt: HostRuntime) -> Result<(), Fail> {
     let row: [&str; 4] = ["row", "r", "c", "u"];
     let three: [&str; 3] = ["rows", "r", "c"];
     let five: [&str; 5] = ["rows", "r", "c", "u", "u"];
-    'words: for words in [&none[..], &row[..], &three[..], &five[..]] {
+    let check: [&str; 1] = ["check"];
+    let rows: [&str; 2] = ["rows", "r"];
+    'words: for words in [
+        &none[..],
+        &row[..],
+        &three[..],
+        &five[..],
+        &check[..],
+        &rows[..],
+    ] {
         let refused = do_command(rt.alloc(), words, &mut files, 64, Items::new(rt.alloc()))?;
         assert_eq!(rt; refused.status, 1);
         assert_eq!(rt; refused.said.as_slice(), "powersync: usage\n".as_bytes());
@@ -286,5 +320,254 @@ fn ten_thousand_changes(rt: HostRuntime) -> Result<(), Fail> {
     assert_eq!(rt; lines, 50);
     let first = "\"items\" \"r0\" {\"id\":\"r0\",\"owner\":\"ann\"}\n";
     assert!(rt; printed.printed.as_slice().starts_with(first.as_bytes()));
+    Ok(())
+}
+
+// The log of the user's bucket over a change file, with the bucket's name and the number of all operations.
+fn log_over(alloc: Global, changes: &str) -> Result<(Text, BucketLog, OpId), Memory>
+    ensures entries { IfOk result (λ made. AreEntries 0 made.1.ops) }
+    ensures last { IfOk result (λ made. made.2.0 ≤ greatest) }
+{
+    let rule = Rule {
+        name: Text::from_str(alloc, "mine")?,
+        table: Text::from_str(alloc, "items")?,
+        column: Text::from_str(alloc, "owner")?,
+    };
+    let user = Text::from_str(alloc, "ann")?;
+    let name = bucket_name(alloc, &rule, &user)?;
+    let Ok(transactions) = read_transactions(alloc, changes.as_bytes()) else {
+        return Err(Memory);
+    };
+    let replica = replicate(alloc, &rule, transactions)?;
+    let last_op = OpId(replica.operations.len() as u64);
+    let log = log_of(alloc, &rule, &Value::Text(user), replica.operations)?;
+    Ok((name, log, last_op))
+}
+
+// The first data line of a log, as it is written.
+fn data_bytes(
+    alloc: Global,
+    name: &Text,
+    log: &BucketLog,
+    last_op: OpId,
+) -> Result<Vec<u8>, Memory>
+    requires log { AreEntries 0 log.now.ops }
+    requires last { last_op.0 ≤ greatest }
+{
+    standing_logs_stay_standing();
+    batches_are_the_log();
+    if log.newest_upto(last_op).0 == 0 {
+        return Ok(Vec::new(alloc));
+    }
+    let batch = log.read(alloc, OpId(0), last_op)?;
+    let line = data_line(alloc, name, OpId(0), batch)?;
+    write_line(alloc, &line)
+}
+
+// The checkpoint's line, as it is written.
+fn checkpoint_bytes(
+    alloc: Global,
+    name: &Text,
+    log: &BucketLog,
+    last_op: OpId,
+) -> Result<Vec<u8>, Memory>
+    requires { last_op.0 ≤ greatest }
+{
+    let line = checkpoint_line(alloc, name, log, last_op)?;
+    write_line(alloc, &line)
+}
+
+// The sums are the first four bytes of SHA-256 of each operation's text, by another implementation.
+#[test]
+fn the_worked_changes_make_three_lines(rt: HostRuntime) -> Result<(), Fail> {
+    let (name, log, last_op) = log_over(rt.alloc(), CHANGES)?;
+    let checkpoint = checkpoint_bytes(rt.alloc(), &name, &log, last_op)?;
+    let first =
+        "{\"checkpoint\":{\"buckets\":[{\"bucket\":\"mine[\\\"ann\\\"]\",\"checksum\":4064033389,\"count\":3,\"priority\":3}],\"last_op_id\":\"4\"}}\n";
+    assert_eq!(rt; checkpoint.as_slice(), first.as_bytes());
+    let data = data_bytes(rt.alloc(), &name, &log, last_op)?;
+    let second =
+        "{\"data\":{\"after\":\"0\",\"bucket\":\"mine[\\\"ann\\\"]\",\"data\":[{\"checksum\":2616632941,\"data\":\"{\\\"id\\\":\\\"r1\\\",\\\"n\\\":1,\\\"owner\\\":\\\"ann\\\"}\",\"object_id\":\"r1\",\"object_type\":\"items\",\"op\":\"PUT\",\"op_id\":\"1\",\"subkey\":\"1/items/r1\"},{\"checksum\":269619152,\"data\":\"{\\\"id\\\":\\\"r3\\\",\\\"n\\\":2,\\\"owner\\\":\\\"ann\\\"}\",\"object_id\":\"r3\",\"object_type\":\"items\",\"op\":\"PUT\",\"op_id\":\"3\",\"subkey\":\"1/items/r3\"},{\"checksum\":1177781296,\"object_id\":\"r1\",\"object_type\":\"items\",\"op\":\"REMOVE\",\"op_id\":\"4\",\"subkey\":\"1/items/r1\"}],\"has_more\":false,\"next_after\":\"4\"}}\n";
+    assert_eq!(rt; data.as_slice(), second.as_bytes());
+    Ok(())
+}
+
+#[test]
+fn the_last_line_completes_the_checkpoint(rt: HostRuntime) -> Result<(), Fail> {
+    let complete = write_line(rt.alloc(), &complete_line(OpId(4)))?;
+    let third = "{\"checkpoint_complete\":{\"last_op_id\":\"4\"}}\n";
+    assert_eq!(rt; complete.as_slice(), third.as_bytes());
+    Ok(())
+}
+
+// A line has a thousand operations at most.
+#[test]
+fn more_than_a_thousand_operations_make_several_lines(rt: HostRuntime) -> Result<(), Fail> {
+    let mut changes = String::new(rt.alloc());
+    'changes: for position in 1..1002 {
+        let line = format!(in rt.alloc();
+            "{{\"pos\":\"{position}\",\"changes\":[{{\"op\":\"PUT\",\"table\":\"items\",\"id\":\"r{position}\",\"row\":{{\"owner\":\"ann\"}}}}]}}\n"
+        )?;
+        changes.push_str(line.as_str())?;
+    }
+    let (name, log, last_op) = log_over(rt.alloc(), changes.as_str())?;
+    let data = data_bytes(rt.alloc(), &name, &log, last_op)?;
+    let end = "\"has_more\":true,\"next_after\":\"1000\"}}\n";
+    assert!(rt; data.as_slice().ends_with(end.as_bytes()));
+    let printed = rows(rt.alloc(), RULES, changes.as_str(), CLAIMS)?;
+    let lines = printed
+        .printed
+        .iter()
+        .filter(|byte| **byte == b'\n')
+        .count();
+    assert_eq!(rt; lines, 1001);
+    Ok(())
+}
+
+const TODO_RULES: &str =
+    "# To-do application\nbucket_definitions:\n  user_lists:\n    parameters: SELECT request.user_id() AS user_id\n    data:\n      - SELECT * FROM lists WHERE owner_id = bucket.user_id\n  list_todos:\n    parameters: SELECT id AS list_id FROM lists WHERE owner_id = request.user_id()\n    data:\n      - SELECT id, list_id, upper(title) AS title, done FROM todos\n        WHERE list_id = bucket.list_id\n  global:\n    data:\n      - SELECT id, name FROM settings AS options\n";
+
+const TODO_CHANGES: &str =
+    "{\"pos\":\"1\",\"changes\":[{\"op\":\"PUT\",\"table\":\"lists\",\"id\":\"l1\",\"row\":{\"owner_id\":\"ann\",\"name\":\"Home\"}}]}\n{\"pos\":\"2\",\"changes\":[{\"op\":\"PUT\",\"table\":\"lists\",\"id\":\"l2\",\"row\":{\"owner_id\":\"bob\",\"name\":\"Work\"}}]}\n{\"pos\":\"3\",\"changes\":[{\"op\":\"PUT\",\"table\":\"todos\",\"id\":\"t1\",\"row\":{\"list_id\":\"l1\",\"title\":\"milk\",\"done\":false}},{\"op\":\"PUT\",\"table\":\"todos\",\"id\":\"t2\",\"row\":{\"list_id\":\"l2\",\"title\":\"mail\",\"done\":false}}]}\n{\"pos\":\"4\",\"changes\":[{\"op\":\"PUT\",\"table\":\"settings\",\"id\":\"s1\",\"row\":{\"name\":\"theme\",\"value\":{\"dark\":true}}}]}\n{\"pos\":\"5\",\"changes\":[{\"op\":\"PUT\",\"table\":\"todos\",\"id\":\"t1\",\"row\":{\"list_id\":\"l1\",\"title\":\"milk\",\"done\":true}}]}\n{\"pos\":\"6\",\"changes\":[{\"op\":\"PUT\",\"table\":\"todos\",\"id\":\"t3\",\"row\":{\"list_id\":\"l1\",\"title\":\"tea\",\"done\":null}}]}\n{\"pos\":\"7\",\"changes\":[{\"op\":\"PUT\",\"table\":\"todos\",\"id\":\"t2\",\"row\":{\"list_id\":\"l1\",\"title\":\"mail\",\"done\":false}}]}\n{\"pos\":\"8\",\"changes\":[{\"op\":\"DELETE\",\"table\":\"todos\",\"id\":\"t3\"}]}\n";
+
+// Prints what the rules of a file in memory have.
+fn checked(alloc: Global, rules: &str) -> Result<Answer, Fail> {
+    let mut files = SureFiles::new(three_files(alloc, rules, "", "")?);
+    do_command(alloc, &["check", "r"], &mut files, 4096, Items::new(alloc))
+}
+
+#[test]
+fn prints_what_rules_have(rt: HostRuntime) -> Result<(), Fail> {
+    'table: for (rules, lines) in [
+        (
+            TODO_RULES,
+            "definition user_lists parameters 1 queries 1\ndefinition list_todos parameters 1 queries 1\ndefinition global parameters 0 queries 1\n",
+        ),
+        (
+            "bucket_definitions:\n  d:\n    parameters: SELECT request.parameters() ->> 'k' AS k\n    data: SELECT id FROM t WHERE k = bucket.k\n",
+            "definition d parameters 1 queries 1\nwarning 3:17 client-parameters\n",
+        ),
+        (
+            "bucket_definitions:\n  a:\n    data:\n",
+            "definition a parameters 0 queries 0\nwarning 2:3 no-data\n",
+        ),
+    ] {
+        let answer = checked(rt.alloc(), rules)?;
+        assert_eq!(rt; answer.status, 0);
+        assert_eq!(rt; answer.printed.as_slice(), lines.as_bytes());
+    }
+    Ok(())
+}
+
+#[test]
+fn refused_rules_have_their_place(rt: HostRuntime) -> Result<(), Fail> {
+    'table: for (rules, said) in [
+        (
+            "bucket_definitions:\n  a:\n    data:\n      - SELECT name FROM t\n",
+            "powersync: rules 4:9 no-id\n",
+        ),
+        (
+            "bucket_definitions:\n	a:\n",
+            "powersync: rules 2:1 yaml-indent\n",
+        ),
+        (
+            "bucket_definitions:\n  a:\n    data: SELECT * FROM t WHERE = 1\n",
+            "powersync: rules 3:11 sql-unexpected 22\n",
+        ),
+        (
+            "bucket_definitions:\n  a:\n    data: SELECT * FROM t WHERE ^\n",
+            "powersync: rules 3:11 sql-token 22\n",
+        ),
+        (
+            "bucket_definitions:\n  a:\n    data: SELECT * FROM t LIMIT 1\n",
+            "powersync: rules 3:11 sql-unsupported 16\n",
+        ),
+        (
+            "bucket_definitions:\n  a:\n    data: SELECT * FROM t WHERE a = bucket.b\n",
+            "powersync: rules 3:11 unknown-parameter\n",
+        ),
+    ] {
+        let answer = checked(rt.alloc(), rules)?;
+        assert_eq!(rt; answer.status, 2);
+        assert_eq!(rt; answer.said.as_slice(), said.as_bytes());
+    }
+    Ok(())
+}
+
+#[test]
+fn prints_the_rows_of_the_to_do_application(rt: HostRuntime) -> Result<(), Fail> {
+    'table: for (claims, due) in [
+        (
+            CLAIMS,
+            "\"lists\" \"l1\" {\"id\":\"l1\",\"name\":\"Home\",\"owner_id\":\"ann\"}\n\"options\" \"s1\" {\"id\":\"s1\",\"name\":\"theme\"}\n\"todos\" \"t1\" {\"done\":1,\"id\":\"t1\",\"list_id\":\"l1\",\"title\":\"MILK\"}\n\"todos\" \"t2\" {\"done\":0,\"id\":\"t2\",\"list_id\":\"l1\",\"title\":\"MAIL\"}\n",
+        ),
+        (
+            "{\"token\":{\"sub\":\"bob\"}}",
+            "\"lists\" \"l2\" {\"id\":\"l2\",\"name\":\"Work\",\"owner_id\":\"bob\"}\n\"options\" \"s1\" {\"id\":\"s1\",\"name\":\"theme\"}\n",
+        ),
+    ] {
+        let answer = rows(rt.alloc(), TODO_RULES, TODO_CHANGES, claims)?;
+        assert_eq!(rt; answer.status, 0);
+        assert_eq!(rt; answer.printed.as_slice(), due.as_bytes());
+    }
+    Ok(())
+}
+
+#[test]
+fn prints_the_rows_of_other_rules(rt: HostRuntime) -> Result<(), Fail> {
+    'table: for (rules, changes, claims, due) in [
+        (
+            "bucket_definitions:\n  a:\n    data: SELECT id, name FROM t\n  b:\n    data: SELECT id, upper(name) AS name FROM t\n",
+            "{\"pos\":\"1\",\"changes\":[{\"op\":\"PUT\",\"table\":\"t\",\"id\":\"x\",\"row\":{\"name\":\"q\"}}]}\n",
+            "{\"token\":{\"sub\":\"ann\"}}",
+            "\"t\" \"x\" {\"id\":\"x\",\"name\":\"Q\"}\n",
+        ),
+        (
+            "bucket_definitions:\n  a:\n    data:\n      - SELECT * FROM t\n      - SELECT * FROM u AS t\n",
+            "{\"pos\":\"1\",\"changes\":[{\"op\":\"PUT\",\"table\":\"u\",\"id\":\"x\",\"row\":{\"v\":1}}]}\n{\"pos\":\"2\",\"changes\":[{\"op\":\"PUT\",\"table\":\"t\",\"id\":\"x\",\"row\":{\"v\":2}}]}\n",
+            "{\"token\":{\"sub\":\"ann\"}}",
+            "\"t\" \"x\" {\"id\":\"x\",\"v\":2}\n",
+        ),
+        (
+            "bucket_definitions:\n  a:\n    data:\n      - SELECT * FROM t\n      - SELECT * FROM u AS t\n",
+            "{\"pos\":\"1\",\"changes\":[{\"op\":\"PUT\",\"table\":\"t\",\"id\":\"x\",\"row\":{\"v\":2}}]}\n{\"pos\":\"2\",\"changes\":[{\"op\":\"PUT\",\"table\":\"u\",\"id\":\"x\",\"row\":{\"v\":1}}]}\n{\"pos\":\"3\",\"changes\":[{\"op\":\"PUT\",\"table\":\"t\",\"id\":\"x\",\"row\":{\"v\":2}}]}\n",
+            "{\"token\":{\"sub\":\"ann\"}}",
+            "\"t\" \"x\" {\"id\":\"x\",\"v\":2}\n",
+        ),
+        (
+            "bucket_definitions:\n  shared:\n    parameters: SELECT request.user_id() AS u\n    data: SELECT id FROM docs WHERE bucket.u IN members\n",
+            "{\"pos\":\"1\",\"changes\":[{\"op\":\"PUT\",\"table\":\"docs\",\"id\":\"d1\",\"row\":{\"members\":[\"ann\",\"ann\"]}}]}\n{\"pos\":\"2\",\"changes\":[{\"op\":\"PUT\",\"table\":\"docs\",\"id\":\"d2\",\"row\":{\"members\":\"ann\"}}]}\n{\"pos\":\"3\",\"changes\":[{\"op\":\"PUT\",\"table\":\"docs\",\"id\":\"d3\",\"row\":{\"members\":\"[\\\"ann\\\"]\"}}]}\n",
+            "{\"token\":{\"sub\":\"ann\"}}",
+            "\"docs\" \"d1\" {\"id\":\"d1\"}\n\"docs\" \"d3\" {\"id\":\"d3\"}\n",
+        ),
+        (
+            "bucket_definitions:\n  d:\n    parameters: SELECT request.parameters() ->> 'k' AS k\n    data: SELECT id FROM t WHERE k = bucket.k\n",
+            "{\"pos\":\"1\",\"changes\":[{\"op\":\"PUT\",\"table\":\"t\",\"id\":\"a\",\"row\":{\"k\":1}}]}\n{\"pos\":\"2\",\"changes\":[{\"op\":\"PUT\",\"table\":\"t\",\"id\":\"b\",\"row\":{\"k\":\"1\"}}]}\n{\"pos\":\"3\",\"changes\":[{\"op\":\"PUT\",\"table\":\"t\",\"id\":\"c\",\"row\":{\"k\":null}}]}\n{\"pos\":\"4\",\"changes\":[{\"op\":\"PUT\",\"table\":\"t\",\"id\":\"e\",\"row\":{\"k\":\"q\\\"z\"}}]}\n",
+            "{\"token\":{\"sub\":\"ann\"},\"parameters\":{\"k\":1}}",
+            "\"t\" \"a\" {\"id\":\"a\"}\n",
+        ),
+        (
+            "bucket_definitions:\n  d:\n    parameters: SELECT request.parameters() ->> 'k' AS k\n    data: SELECT id FROM t WHERE k = bucket.k\n",
+            "{\"pos\":\"1\",\"changes\":[{\"op\":\"PUT\",\"table\":\"t\",\"id\":\"a\",\"row\":{\"k\":1}}]}\n{\"pos\":\"2\",\"changes\":[{\"op\":\"PUT\",\"table\":\"t\",\"id\":\"b\",\"row\":{\"k\":\"1\"}}]}\n{\"pos\":\"3\",\"changes\":[{\"op\":\"PUT\",\"table\":\"t\",\"id\":\"c\",\"row\":{\"k\":null}}]}\n{\"pos\":\"4\",\"changes\":[{\"op\":\"PUT\",\"table\":\"t\",\"id\":\"e\",\"row\":{\"k\":\"q\\\"z\"}}]}\n",
+            "{\"token\":{\"sub\":\"ann\"},\"parameters\":{\"k\":\"1\"}}",
+            "\"t\" \"b\" {\"id\":\"b\"}\n",
+        ),
+        (
+            "bucket_definitions:\n  d:\n    parameters: SELECT request.parameters() ->> 'k' AS k\n    data: SELECT id FROM t WHERE k = bucket.k\n",
+            "{\"pos\":\"1\",\"changes\":[{\"op\":\"PUT\",\"table\":\"t\",\"id\":\"a\",\"row\":{\"k\":1}}]}\n{\"pos\":\"2\",\"changes\":[{\"op\":\"PUT\",\"table\":\"t\",\"id\":\"b\",\"row\":{\"k\":\"1\"}}]}\n{\"pos\":\"3\",\"changes\":[{\"op\":\"PUT\",\"table\":\"t\",\"id\":\"c\",\"row\":{\"k\":null}}]}\n{\"pos\":\"4\",\"changes\":[{\"op\":\"PUT\",\"table\":\"t\",\"id\":\"e\",\"row\":{\"k\":\"q\\\"z\"}}]}\n",
+            "{\"token\":{\"sub\":\"ann\"},\"parameters\":{\"k\":null}}",
+            "",
+        ),
+        (
+            "bucket_definitions:\n  d:\n    parameters: SELECT request.parameters() ->> 'k' AS k\n    data: SELECT id FROM t WHERE k = bucket.k\n",
+            "{\"pos\":\"1\",\"changes\":[{\"op\":\"PUT\",\"table\":\"t\",\"id\":\"a\",\"row\":{\"k\":1}}]}\n{\"pos\":\"2\",\"changes\":[{\"op\":\"PUT\",\"table\":\"t\",\"id\":\"b\",\"row\":{\"k\":\"1\"}}]}\n{\"pos\":\"3\",\"changes\":[{\"op\":\"PUT\",\"table\":\"t\",\"id\":\"c\",\"row\":{\"k\":null}}]}\n{\"pos\":\"4\",\"changes\":[{\"op\":\"PUT\",\"table\":\"t\",\"id\":\"e\",\"row\":{\"k\":\"q\\\"z\"}}]}\n",
+            "{\"token\":{\"sub\":\"ann\"},\"parameters\":{\"k\":\"q\\\"z\"}}",
+            "\"t\" \"e\" {\"id\":\"e\"}\n",
+        ),
+    ] {
+        let answer = rows(rt.alloc(), rules, changes, claims)?;
+        assert_eq!(rt; answer.status, 0);
+        assert_eq!(rt; answer.printed.as_slice(), due.as_bytes());
+    }
     Ok(())
 }

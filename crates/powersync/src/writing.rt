@@ -1,22 +1,24 @@
-ghost use Rattle.std.specs.Prelude.{◌≡◌, ℕ, List, ◌++◌, if◌then◌else◌, IfOk, OnOk, Some, None, option_map};
+ghost use Rattle.std.specs.Prelude.{◌≡◌, ℕ, List, [], ◌++◌, if◌then◌else◌, IfOk, OnOk, Some, None, option_map, unwrap_or};
+ghost use Rattle.ps_values.specs.declared.values.Value.TheVariants.{Null};
 ghost use Rattle.std.specs.BTreeMap.{get};
 ghost use Rattle.std.specs.Cmp.Lexicographic.{slice_cmp};
 ghost use Rattle.std.specs.Ordering.{nat_cmp, is_eq};
 ghost use Rattle.ps_values.specs.Documents.{document_of};
-ghost use Rattle.ps_changes.specs.Source.{Source, after_row, after_changes};
-ghost use Rattle.powersync.specs.Grants.{column_at as value_of_column};
+ghost use Rattle.ps_changes.specs.Source.{Source, after_row, after_changes, after_transactions};
+ghost use Rattle.ps_sql.specs.Meaning.{value_in};
 ghost use Rattle.powersync.specs.Operations.{unless_null as value_unless_null, bucket_of as bucket_of_row, names as names_bucket, removal, arrival, StandsFor, Writes};
 
+use crate::one_forms::Rule;
 use crate::replicas::{Operation, Replica};
-use crate::rules::Rule;
 use ps_changes::{Change, Column, Row, Transaction};
 use ps_values::{Memory, Text, Truth, Value, document, equal_sql};
 use std::alloc::Global;
+use std::collections::BTreeMap;
 
 // ---- buckets of rows
 
 fn column_at<'a>(name: &Text, columns: &'a [Column]) -> Option<&'a Value>
-    ensures { option_map (λ value. value.now) result ≡ value_of_column name.now columns.now }
+    ensures { unwrap_or (option_map (λ value. value.now) result) Null ≡ value_in columns.now name.now }
 {
     'columns: for column in columns {
         if column.name.equals(name) {
@@ -186,4 +188,22 @@ pub fn write_transaction(
         write_change(alloc, replica, rule, change)?;
     }
     Ok(())
+}
+
+/// Replicates transactions, in order: the replica of the source after them.
+pub fn replicate(
+    alloc: Global,
+    rule: &Rule,
+    transactions: Vec<Transaction>,
+) -> Result<Replica, Memory>
+    ensures { IfOk result (λ replica. StandsFor rule.now replica (after_transactions transactions.items [])) }
+{
+    let mut replica = Replica {
+        live: BTreeMap::new(alloc),
+        operations: Vec::new(alloc),
+    };
+    'transactions: for transaction in transactions {
+        write_transaction(alloc, &mut replica, rule, &transaction)?;
+    }
+    Ok(replica)
 }

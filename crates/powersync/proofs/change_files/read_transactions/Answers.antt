@@ -1,0 +1,11 @@
+use Rattle.std.proofs.Common.{sym, ◌∙◌}
+use Rattle.powersync.proofs.Reaching.{started_reading, read_more}
+use Rattle.powersync.proofs.change_files.read_transactions.Goals as goal
+
+pub lines-init : goal.lines-init
+lines-init c = started_reading c.args.changes
+
+pub lines-preserved : goal.lines-preserved
+lines-preserved c =
+    read_more c.args.changes.now c.lines.number c.lines.last c.in-Some.bytes c.split_line.result.0.now c.split_line.result.1 c.lines.transactions.items c.in_ok-transaction.transaction
+    (rw c.in-Some.is at c.lines.invariant) c.split_line.ensures (sym c.is_blank.ensures ∙ c.if-is_blank.false) c.in_ok-transaction.ensures
