@@ -5,3 +5,5 @@ pub mod Making
 pub mod Telling
 pub mod Listings
 pub mod Sound
+pub mod Latest
+pub mod Copies
