@@ -1,7 +1,7 @@
 -- The copies that are seen are those that are held.
 use Rattle.std.proofs.Common.{◌≡◌, ℕ, Bool, true, false, cond, ◌&&◌, ◌||◌, List, [], ◌∷◌, ◌++◌, map, Option, Some, None, Ordering, Less, Equal, Greater, refl, sym, ap, subst, ◌∙◌}
 use Rattle.std.specs.Prelude.{IfSome, IsSome, is_some, bytes_eq, option_map, option_and_then, unwrap_or}
-use Rattle.std.specs.BTreeMap.{is_at}
+use Rattle.std.specs.BTreeMap.{BTreeMap, get, is_at}
 use Rattle.std.specs.Cmp.{IsEquivalence}
 use Rattle.std.specs.Cmp.Lexicographic.{slice_cmp, nat_list_eq_equiv, texts_ties}
 use Rattle.std.specs.FinMap.Entries.{find, below_all, is_sorted}
@@ -16,6 +16,7 @@ use Rattle.ps_bucket_log.specs.declared.ops.Key.{Key}
 use Rattle.ps_bucket_log.specs.declared.ops.Op.{Op}
 use Rattle.ps_bucket_log.specs.Ops.{same_key}
 use Rattle.ps_bucket_log.specs.Buckets.{Bucket, fresh}
+use Rattle.ps_changes.specs.declared.shown.Shown.{Shown}
 use Rattle.ps_changes.specs.Source.{Key as Object, key_cmp}
 use Rattle.ps_changes.proofs.Sources.{keys_total, keys_exact}
 use Rattle.ps_client_log.specs.declared.buckets.Buckets.{Buckets}
@@ -27,7 +28,7 @@ use Rattle.ps_client_log.specs.declared.slots.Slot.{Slot}
 use Rattle.ps_client_log.specs.Images.{key_eq, put_at, image_of, slot_bucket, bucket_found}
 use Rattle.ps_client_log.specs.Kept.{Kept, bucket_at}
 use Rattle.ps_client_log.specs.Rooms.{kept_by}
-use Rattle.ps_client_log.specs.Rows.{HeldCopy, Holds, object_of, place_of, place_cmp, IsLatest, content_of, IsLatestContent}
+use Rattle.ps_client_log.specs.Rows.{HeldCopy, Holds, object_of, place_of, place_cmp, IsLatest, IsLatestContent, by_object, AreInOrder, row_at}
 use Rattle.ps_client_log.specs.Seeing.{copy_of, copies_in, copies_at, copies_of, HoldsKeysOnce, note_of, all_seen, is_there}
 use Rattle.ps_client_log.proofs.Keys.{key_eq-same, key_eq-same_key, same_key-true}
 use Rattle.ps_client_log.proofs.Latest.{Reaches, reaches_each, kept_all}
@@ -108,26 +109,28 @@ module _ (holdings : Holdings) where
 module _ (P : HeldCopy → Type 0) where
   in_pairs : (name : List ℕ) (pairs : List (Key × Entry)) (key : Key) (entry : Entry) → AllByRecursion P (copies_in name pairs) → lookup (key_eq key) pairs ≡ Some entry → P (copy_of name (key, entry))
   in_pairs name [] key entry all is = cc
-  in_pairs name (pair ∷ pairs) key entry all is = by (key_eq key pair.0) refl is
+  in_pairs name (pair ∷ pairs) key entry all is = by (key_eq key pair.0) refl (in_pairs name pairs key entry all.1) is
     where
-      by : (b : Bool) → key_eq key pair.0 ≡ b → cond b (Some pair.1) (lookup (key_eq key) pairs) ≡ Some entry → P (copy_of name (key, entry))
-      by true same here =
+      by : (b : Bool) → key_eq key pair.0 ≡ b → (lookup (key_eq key) pairs ≡ Some entry → P (copy_of name (key, entry)))
+          → cond b (Some pair.1) (lookup (key_eq key) pairs) ≡ Some entry → P (copy_of name (key, entry))
+      by true same behind here =
           let keys : pair.0 ≡ key = sym (same_key-true key pair.0 (sym (key_eq-same key pair.0) ∙ same)) in
           let entries : pair.1 ≡ entry = cc in
           subst (λ (e : Entry). P (copy_of name (key, e))) entries (subst (λ (k : Key). P (copy_of name (k, pair.1))) keys all.0)
-      by false apart later = in_pairs name pairs key entry all.1 later
+      by false apart behind later = behind later
 
   in_slots : (slots : List (List ℕ × Slot)) (name : List ℕ) (slot : Slot) → AllByRecursion P (copies_of slots) → lookup (bytes_eq name) slots ≡ Some slot → AllByRecursion P (copies_at name slot)
   in_slots [] name slot all is = cc
-  in_slots (pair ∷ slots) name slot all is = by (bytes_eq name pair.0) refl is
+  in_slots (pair ∷ slots) name slot all is = by (bytes_eq name pair.0) refl (in_slots slots name slot (back_all P (copies_at pair.0 pair.1) (copies_of slots) all)) is
     where
-      by : (b : Bool) → bytes_eq name pair.0 ≡ b → cond b (Some pair.1) (lookup (bytes_eq name) slots) ≡ Some slot → AllByRecursion P (copies_at name slot)
-      by true same here =
+      by : (b : Bool) → bytes_eq name pair.0 ≡ b → (lookup (bytes_eq name) slots ≡ Some slot → AllByRecursion P (copies_at name slot))
+          → cond b (Some pair.1) (lookup (bytes_eq name) slots) ≡ Some slot → AllByRecursion P (copies_at name slot)
+      by true same behind here =
           let names : pair.0 ≡ name = sym ((bytes_eq-Decides name pair.0).0 same) in
           let slots_same : pair.1 ≡ slot = cc in
           subst (λ (s : Slot). AllByRecursion P (copies_at name s)) slots_same
           (subst (λ (n : List ℕ). AllByRecursion P (copies_at n pair.1)) names (front_all P (copies_at pair.0 pair.1) (copies_of slots) all))
-      by false apart later = in_slots slots name slot (back_all P (copies_at pair.0 pair.1) (copies_of slots) all) later
+      by false apart behind later = behind later
 
   in_image : (copy : HeldCopy) (image : Image) → AllByRecursion P (copies_in copy.bucket image.held.entries) → (image_of image).held copy.key ≡ Some copy.put → P copy
   in_image copy image all is = by (lookup (key_eq copy.key) image.held.entries) refl is
@@ -216,11 +219,12 @@ row_of pair = (pair.0, pair.1.content)
 
 pub find_rows : (object : Object) (es : List (Object × Latest)) → find key_cmp object (map row_of es) ≡ option_map (λ (l : Latest). l.content) (lookup (is_at (key_cmp object)) es)
 find_rows object [] = refl
-find_rows object (e ∷ es) = by (eq_by_cmp key_cmp object e.0)
+find_rows object (e ∷ es) = by (eq_by_cmp key_cmp object e.0) (find_rows object es)
   where
-    by : (b : Bool) → cond b (Some e.1.content) (find key_cmp object (map row_of es)) ≡ option_map (λ (l : Latest). l.content) (cond b (Some e.1) (lookup (is_at (key_cmp object)) es))
-    by true = refl
-    by false = find_rows object es
+    by : (b : Bool) → find key_cmp object (map row_of es) ≡ option_map (λ (l : Latest). l.content) (lookup (is_at (key_cmp object)) es)
+        → cond b (Some e.1.content) (find key_cmp object (map row_of es)) ≡ option_map (λ (l : Latest). l.content) (cond b (Some e.1) (lookup (is_at (key_cmp object)) es))
+    by true behind = refl
+    by false behind = behind
 
 below_rows : (object : Object) (es : List (Object × Latest)) → AllByRecursion (λ k. key_cmp object k ≡ Less) (keys_of es) → below_all key_cmp object (map row_of es) ≡ true
 below_rows object [] below = refl
@@ -275,3 +279,20 @@ there_found name (pair ∷ slots) distinct =
 pub any_name : (name : List ℕ) (names : List (List ℕ)) → list_any (bytes_eq name) names ≡ list_any (is_at (slice_cmp nat_cmp name)) names
 any_name name [] = refl
 any_name name (one ∷ names) = λ i. texts_ties name one i || any_name name names i
+
+-- ---- the rows that are listed
+
+module _ (holdings : Holdings) (distinct : IsDistinct bytes_eq (keys_of holdings.buckets.slots.entries)) (once : AllByRecursion HoldsKeysOnce holdings.buckets.slots.entries)
+    (latest : BTreeMap Object Latest) (seen_all : (object : Object) → get key_cmp latest object ≡ all_seen object None (copies_of holdings.buckets.slots.entries))
+    (rows : List Shown) (listed : by_object rows ≡ map row_of latest.entries) where
+  row_noted : (object : Object) → row_at object rows ≡ option_map (λ (l : Latest). l.content) (all_seen object None (copies_of holdings.buckets.slots.entries))
+  row_noted object = ap (find key_cmp object) listed ∙ find_rows object latest.entries ∙ ap (option_map (λ (l : Latest). l.content)) (seen_all object)
+
+  pub rows_latest : (object : Object) → IfSome (row_at object rows) (IsLatestContent (kept_by holdings) object)
+  rows_latest object = subst (λ (o : Option (List ℕ)). IfSome o (IsLatestContent (kept_by holdings) object)) (sym (row_noted object)) (noted_latest holdings distinct once object)
+
+  pub rows_all : (copy : HeldCopy) → Holds (kept_by holdings) copy → IsSome (row_at (object_of copy) rows)
+  rows_all copy held = subst (λ (o : Option (List ℕ)). IsSome o) (sym (row_noted (object_of copy))) (noted_all holdings distinct once copy held)
+
+pub rows_in_order : (es : List (Object × Latest)) (rows : List Shown) → by_object rows ≡ map row_of es → IsStrictlySortedBy key_cmp (keys_of es) → AreInOrder rows
+rows_in_order es rows listed sorted = ap (is_sorted key_cmp) listed ∙ sorted_rows es sorted
