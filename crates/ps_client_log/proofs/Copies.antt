@@ -2,6 +2,7 @@
 use Rattle.std.proofs.Common.{◌≡◌, ℕ, Bool, true, false, cond, ◌&&◌, ◌||◌, List, [], ◌∷◌, ◌++◌, map, Option, Some, None, Ordering, Less, Equal, Greater, refl, sym, ap, subst, ◌∙◌}
 use Rattle.std.specs.Prelude.{IfSome, IsSome, is_some, bytes_eq, option_map, option_and_then, unwrap_or}
 use Rattle.std.specs.BTreeMap.{BTreeMap, get, is_at}
+use Rattle.std.specs.BTreeSet.{BTreeSet, contains}
 use Rattle.std.specs.Cmp.{IsEquivalence}
 use Rattle.std.specs.Cmp.Lexicographic.{slice_cmp, nat_list_eq_equiv, texts_ties}
 use Rattle.std.specs.FinMap.Entries.{find, below_all, is_sorted}
@@ -62,9 +63,10 @@ module _ {K X : Type 0} {eq : K → K → Bool} (laws : IsEquivalence eq) where
 
   found_each : (es : List (K × X)) → IsDistinct eq (keys_of es) → AllByRecursion (λ e. lookup (eq e.0) es ≡ Some e.1) es
   found_each [] distinct = tt
-  found_each (x ∷ es) distinct =
-      (ap (λ b. cond b (Some x.1) (lookup (eq x.0) es)) (laws.refl x.0),
-      found_behind x es es (IsDistinct-head eq x.0 (keys_of es) distinct) (found_each es (IsDistinct-tail eq x.0 (keys_of es) distinct)))
+  found_each (x ∷ es) distinct = (
+    ap (λ b. cond b (Some x.1) (lookup (eq x.0) es)) (laws.refl x.0),
+    found_behind x es es (IsDistinct-head eq x.0 (keys_of es) distinct) (found_each es (IsDistinct-tail eq x.0 (keys_of es) distinct)),
+  )
 
 key_laws : IsEquivalence key_eq
 key_laws = record {
@@ -296,3 +298,22 @@ module _ (holdings : Holdings) (distinct : IsDistinct bytes_eq (keys_of holdings
 
 pub rows_in_order : (es : List (Object × Latest)) (rows : List Shown) → by_object rows ≡ map row_of es → IsStrictlySortedBy key_cmp (keys_of es) → AreInOrder rows
 rows_in_order es rows listed sorted = ap (is_sorted key_cmp) listed ∙ sorted_rows es sorted
+
+-- a name is added
+pub name_added : (there : Bool) (name key other : List ℕ) (old : Bool) → there ≡ true → key ≡ name
+    → cond (is_eq (slice_cmp nat_cmp key other)) true old ≡ (there && bytes_eq other name || old)
+name_added there name key other old is same =
+    ap (λ b. cond b true old) (sym (texts_ties key other) ∙ nat_list_eq_equiv.symm key other ∙ ap (bytes_eq other) same)
+    ∙ by (bytes_eq other name)
+    ∙ ap (λ b. b && bytes_eq other name || old) (sym is)
+  where
+    by : (b : Bool) → cond b true old ≡ (b || old)
+    by true = refl
+    by false = refl
+
+-- what is listed in order are the names of the buckets that are there
+pub names_listed : (holdings : Holdings) (found : BTreeSet (List ℕ)) (names : List (List ℕ)) → IsDistinct bytes_eq (keys_of holdings.buckets.slots.entries)
+    → ((name : List ℕ) → contains (slice_cmp nat_cmp) found name ≡ is_there name holdings.buckets.slots.entries) → names ≡ found.keys
+    → (name : List ℕ) → list_any (bytes_eq name) names ≡ is_some ((kept_by holdings).bucket name)
+names_listed holdings found names distinct added listed name =
+    ap (λ (all : List (List ℕ)). list_any (bytes_eq name) all) listed ∙ any_name name found.keys ∙ added name ∙ there_found name holdings.buckets.slots.entries distinct

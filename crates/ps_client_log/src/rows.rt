@@ -121,10 +121,7 @@ fn see_slot(
 }
 
 // The latest copy of each object that some bucket holds.
-fn latest_copies(
-    alloc: Global,
-    buckets: &Buckets,
-) -> Result<BTreeMap<(Text, Text), Latest>, Memory>
+fn latest_copies(alloc: Global, buckets: &Buckets) -> Result<BTreeMap<(Text, Text), Latest>, Memory>
     ensures rows { IfOk result (λ rows. (object : Object) → get key_cmp rows object ≡ all_seen object None (copies_of buckets.now.slots.entries)) }
     ensures once { OnOk result (AllByRecursion HoldsKeysOnce buckets.now.slots.entries) }
     ensures names { IsDistinct bytes_eq (keys_of buckets.now.slots.entries) }
@@ -137,10 +134,7 @@ fn latest_copies(
 }
 
 // The rows of copies, in order.
-fn rows_of(
-    alloc: Global,
-    latest: BTreeMap<(Text, Text), Latest>,
-) -> Result<Vec<Shown>, Memory>
+fn rows_of(alloc: Global, latest: BTreeMap<(Text, Text), Latest>) -> Result<Vec<Shown>, Memory>
     ensures rows { IfOk result (λ rows. by_object rows.items ≡ map (λ pair. (pair.0, pair.1.content)) latest.entries) }
     ensures ordered { IsOrdered key_cmp latest }
 {
@@ -195,16 +189,24 @@ fn names_of(alloc: Global, buckets: &Buckets) -> Result<BTreeSet<Text>, Memory>
     Ok(names)
 }
 
-// The names of the buckets that are there, in order.
-pub fn bucket_names(alloc: Global, holdings: &Holdings) -> Result<Vec<Text>, Memory>
-    ensures in_order { IfOk result (λ names. IsStrictlySortedBy (slice_cmp nat_cmp) names.items) }
-    ensures held { IfOk result (λ names. (name : List ℕ) → list_any (bytes_eq name) names.items ≡ is_some ((kept_by holdings.now).bucket name)) }
+// Names in order, as a list.
+fn listed_names(alloc: Global, found: BTreeSet<Text>) -> Result<Vec<Text>, Memory>
+    ensures names { IfOk result (λ names. names.items ≡ found.keys) }
+    ensures ordered { IsStrictlySortedBy (slice_cmp nat_cmp) found.keys }
 {
-    let found = names_of(alloc, &holdings.buckets)?;
     let _count = found.len();
     let mut names = Vec::new(alloc);
     'names: for name in found {
         names.push(name)?;
     }
     Ok(names)
+}
+
+// The names of the buckets that are there, in order.
+pub fn bucket_names(alloc: Global, holdings: &Holdings) -> Result<Vec<Text>, Memory>
+    ensures in_order { IfOk result (λ names. IsStrictlySortedBy (slice_cmp nat_cmp) names.items) }
+    ensures held { IfOk result (λ names. (name : List ℕ) → list_any (bytes_eq name) names.items ≡ is_some ((kept_by holdings.now).bucket name)) }
+{
+    let found = names_of(alloc, &holdings.buckets)?;
+    listed_names(alloc, found)
 }

@@ -147,7 +147,11 @@ fn told_of_cut(alloc: Global, count: usize) -> Result<String, Fail> {
 #[test]
 fn operations_come_whole_or_in_two_parts(rt: HostRuntime) -> Result<(), Fail> {
     'cuts: for count in 0..9 {
-        assert_eq!(rt; told_of_cut(rt.alloc(), count)?.as_str(), "b 9 11140; y=5 z=9", "{count}");
+        assert_eq!(rt;
+            told_of_cut(rt.alloc(), count)?.as_str(),
+            "b 9 11140; y=5 z=9",
+            "{count}"
+        );
     }
     Ok(())
 }
@@ -234,9 +238,17 @@ fn a_failed_commit_changes_nothing(rt: HostRuntime) -> Result<(), Fail> {
         'steps: for number in 2..5 {
             step_or_fail(&rt, rt.alloc(), &mut log, number, number == call)?;
         }
-        assert_eq!(rt; told(&log, rt.alloc())?.as_str(), "b 2 10; x=of b", "{call}");
+        assert_eq!(rt;
+            told(&log, rt.alloc())?.as_str(),
+            "b 2 10; x=of b",
+            "{call}"
+        );
         let kept = opened(rt.alloc(), log.close())?;
-        assert_eq!(rt; told(&kept, rt.alloc())?.as_str(), "b 2 10; x=of b", "{call}");
+        assert_eq!(rt;
+            told(&kept, rt.alloc())?.as_str(),
+            "b 2 10; x=of b",
+            "{call}"
+        );
     }
     Ok(())
 }
@@ -249,7 +261,12 @@ fn hold<K: Keeper>(
     id: u64,
     content: &str,
 ) -> Result<(), Fail> {
-    Ok(take(log, alloc, bucket, vec![in alloc; put(alloc, id, "x", content)?]?)??)
+    Ok(take(
+        log,
+        alloc,
+        bucket,
+        vec![in alloc; put(alloc, id, "x", content)?]?,
+    )??)
 }
 
 #[test]

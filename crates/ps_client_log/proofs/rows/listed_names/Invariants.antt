@@ -1,5 +1,5 @@
 use Rattle.std.proofs.Common.{◌≡◌, ◌++◌}
-use Rattle.ps_client_log.proofs.rows.bucket_names.Given as goal
+use Rattle.ps_client_log.proofs.rows.listed_names.Given as goal
 
 -- those that are left come behind
 abbrev pub invariant-names : goal.invariant-names
