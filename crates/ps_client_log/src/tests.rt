@@ -58,6 +58,7 @@ fn clear(id: u64) -> Op {
 }
 
 // Whether a bucket at this position can take the operations.
+#[tactic(auto, using(crate::proofs::Rising::take_rising, crate::proofs::Rising::can_take))]
 fn can_take(position: OpId, ops: &[Op]) -> bool
     ensures { IsTrue result → CanTake position.0 ops.now }
 {
