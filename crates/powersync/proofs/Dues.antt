@@ -63,10 +63,10 @@ put_below k v (e ∷ es) h = ap (λ o. by_order o ((k, v) ∷ e ∷ es) ((e.0, v
 
 -- ---- copies in the order of their objects are all latest
 
-abbrev keyed : List Copy → Rows
+abbrev pub keyed : List Copy → Rows
 keyed copies = map (λ c. ((c.kind, c.id), c)) copies
 
-latest_keyed : (copies : List Copy) → T (is_sorted key_cmp (keyed copies)) → latest copies ≡ keyed copies
+pub latest_keyed : (copies : List Copy) → T (is_sorted key_cmp (keyed copies)) → latest copies ≡ keyed copies
 latest_keyed [] h = refl
 latest_keyed (c ∷ cs) h =
     let rest = latest_keyed cs (second _ _ h) in
@@ -91,7 +91,7 @@ module _ (rule : Rule) (user : List ℕ) where
       let rest = below_granted k es (second _ _ h) in
       elim (test e.0 e.1) as (λ b. T (below_all key_cmp k (keyed (after b e es)))) [ true ↦ both _ _ (first _ _ h) rest | false ↦ rest ]
 
-  sorted_granted : (source : Source) → T (is_sorted key_cmp source) → T (is_sorted key_cmp (keyed (granted rule user source)))
+  pub sorted_granted : (source : Source) → T (is_sorted key_cmp source) → T (is_sorted key_cmp (keyed (granted rule user source)))
   sorted_granted [] h = tt
   sorted_granted (e ∷ es) h =
       let rest = sorted_granted es (second _ _ h) in
@@ -105,7 +105,7 @@ module _ (rule : Rule) (user : List ℕ) where
       ]
 
   -- the copy at a key is that of the row there
-  find_granted : (q : Key) (source : Source) → T (is_sorted key_cmp source)
+  pub find_granted : (q : Key) (source : Source) → T (is_sorted key_cmp source)
       → find key_cmp q (keyed (granted rule user source)) ≡ option_and_then (λ v. copy_of rule (parameter_vectors user) (q, v)) (find key_cmp q source)
   find_granted q [] h = refl
   find_granted q (e ∷ es) h =
@@ -156,18 +156,18 @@ module _ (rule : Rule) where
 
 -- ---- both are one list
 
-abbrev contents : Rows → List (Key × List ℕ)
+abbrev pub contents : Rows → List (Key × List ℕ)
 contents rows = map (λ r. (r.0, r.1.content)) rows
 
 below_contents : (k : Key) (rows : Rows) → T (below_all key_cmp k rows) → T (below_all key_cmp k (contents rows))
 below_contents k [] h = tt
 below_contents k (r ∷ rs) h = both _ _ (first _ _ h) (below_contents k rs (second _ _ h))
 
-sorted_contents : (rows : Rows) → T (is_sorted key_cmp rows) → T (is_sorted key_cmp (contents rows))
+pub sorted_contents : (rows : Rows) → T (is_sorted key_cmp rows) → T (is_sorted key_cmp (contents rows))
 sorted_contents [] h = tt
 sorted_contents (r ∷ rs) h = both _ _ (below_contents r.0 rs (first _ _ h)) (sorted_contents rs (second _ _ h))
 
-find_contents : (q : Key) (rows : Rows) → find key_cmp q (contents rows) ≡ option_map (λ c. c.content) (find key_cmp q rows)
+pub find_contents : (q : Key) (rows : Rows) → find key_cmp q (contents rows) ≡ option_map (λ c. c.content) (find key_cmp q rows)
 find_contents q [] = refl
 find_contents q (r ∷ rs) =
     elim (eq_by_cmp key_cmp q r.0) as (λ b. cond b (Some r.1.content) (find key_cmp q (contents rs)) ≡ option_map (λ c. c.content) (cond b (Some r.1) (find key_cmp q rs))) [ true ↦ refl | false ↦ find_contents q rs ]
@@ -182,13 +182,13 @@ in_bucket Null user = refl
 in_bucket (Int n) user = or_false (names (Int n) (Text user))
 in_bucket (Text t) user = or_false (names (Text t) (Text user))
 
-abbrev by_copy : Key × Copy → Shown
+abbrev pub by_copy : Key × Copy → Shown
 by_copy row = record { kind = row.0.0; id = row.0.1; content = row.1.content }
 
-abbrev by_content : Key × List ℕ → Shown
+abbrev pub by_content : Key × List ℕ → Shown
 by_content row = record { kind = row.0.0; id = row.0.1; content = row.1 }
 
-shown_contents : (rows : Rows) → map by_copy rows ≡ map by_content (contents rows)
+pub shown_contents : (rows : Rows) → map by_copy rows ≡ map by_content (contents rows)
 shown_contents [] = refl
 shown_contents (r ∷ rs) = ap (λ rest. by_copy r ∷ rest) (shown_contents rs)
 
@@ -200,7 +200,7 @@ content_of_copy : (b : Bool) (c : Copy) → option_map (λ x. x.content) (cond b
 content_of_copy true c = refl
 content_of_copy false c = refl
 
-copied : (rule : Rule) (user kind id : List ℕ) → bytes_eq kind rule.table ≡ true → (found : Option Version)
+pub copied : (rule : Rule) (user kind id : List ℕ) → bytes_eq kind rule.table ≡ true → (found : Option Version)
     → option_map (λ c. c.content) (option_and_then (λ v. copy_of rule (parameter_vectors user) ((kind, id), v)) found)
     ≡ option_and_then (λ v. cond (is_in (bucket_of rule id v.columns) (Text user)) (Some (document_of id v.columns)) None) found
 copied rule user kind id e None = refl
@@ -209,7 +209,7 @@ copied rule user kind id e (Some v) =
     ∙ ap (λ b. cond b (Some (document_of id v.columns)) None)
     (ap (λ b. b && list_any (condition_holds rule id v.columns) (parameter_vectors user)) e ∙ in_bucket (value_at rule.column id v.columns) user)
 
-uncopied : (rule : Rule) (user kind id : List ℕ) → bytes_eq kind rule.table ≡ false → (found : Option Version)
+pub uncopied : (rule : Rule) (user kind id : List ℕ) → bytes_eq kind rule.table ≡ false → (found : Option Version)
     → option_map (λ c. c.content) (option_and_then (λ v. copy_of rule (parameter_vectors user) ((kind, id), v)) found) ≡ None
 uncopied rule user kind id e None = refl
 uncopied rule user kind id e (Some v) =

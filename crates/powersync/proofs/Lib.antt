@@ -8,6 +8,8 @@ pub mod Holdings
 pub mod LogLaws
 pub mod Reaching
 pub mod Sending
+pub mod ShownDues
+pub mod ShownRows
 pub mod Splitting
 pub mod Standing
 pub mod Streaming

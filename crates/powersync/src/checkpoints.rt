@@ -22,6 +22,7 @@ pub enum Event {
 }
 
 /// A client that takes the lines of one checkpoint.
+#[derive(Drop)]
 pub struct Client<K: Keeper> {
     /// What it keeps.
     pub log: ClientLog<K>,

@@ -3,13 +3,14 @@ ghost use Rattle.powersync.specs.Loading.{Loads, IsContent, RefusesNothing, Find
 
 use crate::change_files::replicate;
 use crate::claims::read_claims;
-use crate::clients::take_operations;
 use crate::faults::Fault;
+use crate::logs::{bucket_name, log_of};
 use crate::printing::print_rows;
 use crate::replicas::Replica;
 use crate::rules::{Rule, read_rule};
+use crate::sessions::{new_client, stream_surely};
 use ps_io::{FileFault, Files};
-use ps_values::{Text, Value};
+use ps_values::{OpId, Text, Value};
 use std::alloc::Global;
 
 /// The greatest number of bytes of a rules file.
@@ -60,7 +61,7 @@ pub fn load_user<F: Files>(alloc: Global, files: &mut F, name: &Text) -> Result<
     }
 }
 
-// The printed rows of a change file's bytes that are due to a user.
+// The printed rows of a change file's bytes that are due to a user: those that a new client has after one checkpoint.
 fn prepare(alloc: Global, rule: &Rule, user: &Text, changes: &[u8]) -> Result<Vec<u8>, Fault>
     requires { length changes.now < 2 ^ 63 }
     ensures { Prepares rule.now user.now changes.now result }
@@ -70,8 +71,13 @@ fn prepare(alloc: Global, rule: &Rule, user: &Text, changes: &[u8]) -> Result<Ve
         operations,
     } = replicate(alloc, rule, changes)?;
     let bucket = Value::Text(user.copy(alloc)?);
-    let rows = take_operations(alloc, operations, &bucket)?;
-    let text = print_rows(alloc, &rule.table, &rows)?;
+    let name = bucket_name(alloc, rule, user)?;
+    let last_op = OpId(operations.len() as u64);
+    let log = log_of(alloc, rule, &bucket, operations)?;
+    let mut client = new_client(alloc)?;
+    stream_surely(alloc, &mut client, &name, &log, last_op)?;
+    let rows = client.log.held_rows(alloc)?;
+    let text = print_rows(alloc, rows.as_slice())?;
     Ok(text)
 }
 

@@ -4,7 +4,6 @@
 mod change_files;
 mod checkpoints;
 mod claims;
-mod clients;
 mod faults;
 mod loading;
 mod logs;

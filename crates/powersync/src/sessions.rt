@@ -14,9 +14,9 @@ use ps_bucket_log::{
     BucketLog, Log, batches_are_the_log, batches_keep_readers_honest, honest_readers_stay_honest,
     readers_are_whole_at_the_newest, standing_logs_stay_standing, totals_are_sums,
 };
-use ps_client_log::{KeepFault, Keeper};
+use ps_client_log::{ClientLog, KeepFault, Keeper, SureKeeper};
 use ps_lines::Line;
-use ps_values::{OpId, Text};
+use ps_values::{Memory, OpId, Text};
 use std::alloc::Global;
 
 // A line goes to the client: it is written, read, and taken.
@@ -97,5 +97,36 @@ pub fn stream<K: Keeper>(
     match send(alloc, client, &complete_line(last_op))? {
         Event::Applied => Ok(()),
         Event::Nothing | Event::Refused | Event::OutOfOrder => unreachable!(),
+    }
+}
+
+/// A client that holds nothing.
+pub fn new_client(alloc: Global) -> Result<Client<SureKeeper>, Memory>
+    ensures { IfOk result (λ client. HoldsNothing (kept client.log)) }
+{
+    match ClientLog::open(alloc, SureKeeper::new(alloc)) {
+        Ok(log) => Ok(Client::new(alloc, log)),
+        Err((_keeper, KeepFault::Memory)) => Err(Memory),
+        Err((_keeper, KeepFault::Failed)) => unreachable!(),
+    }
+}
+
+/// Streams one checkpoint of one bucket, up to an id, to a client that holds nothing and whose keeper never fails.
+pub fn stream_surely(
+    alloc: Global,
+    client: &mut Client<SureKeeper>,
+    name: &Text,
+    log: &BucketLog,
+    last_op: OpId,
+) -> Result<(), Memory>
+    requires log { AreEntries 0 log.now.ops }
+    requires last { last_op.0 ≤ greatest }
+    requires fresh { HoldsNothing (kept client.old.log) }
+    ensures { OnOk result (HoldsLog (kept client.new.log) name.now log.now.ops last_op.0) }
+{
+    match stream(alloc, client, name, log, last_op) {
+        Ok(()) => Ok(()),
+        Err(KeepFault::Memory) => Err(Memory),
+        Err(KeepFault::Failed) => unreachable!(),
     }
 }

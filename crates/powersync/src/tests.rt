@@ -1,6 +1,16 @@
+ghost use Rattle.std.specs.Prelude.{◌≤◌, IfOk};
+ghost use Rattle.ps_values.specs.Numbers.{greatest};
+ghost use Rattle.ps_bucket_log.specs.Logs.{AreEntries};
+
+use crate::change_files::replicate;
+use crate::logs::{bucket_name, log_of};
 use crate::plain::run_plain;
+use crate::rules::Rule;
+use crate::streams::{checkpoint_line, complete_line, data_line};
+use ps_bucket_log::{BucketLog, Log, batches_are_the_log, standing_logs_stay_standing};
 use ps_io::{Files, MemoryFile, MemoryFiles, MemorySink, SureFiles};
-use ps_values::{Items, Text};
+use ps_lines::write_line;
+use ps_values::{Items, Memory, OpId, Text, Value};
 use std::alloc::Global;
 use std::test::Fail;
 
@@ -286,5 +296,101 @@ fn ten_thousand_changes(rt: HostRuntime) -> Result<(), Fail> {
     assert_eq!(rt; lines, 50);
     let first = "\"items\" \"r0\" {\"id\":\"r0\",\"owner\":\"ann\"}\n";
     assert!(rt; printed.printed.as_slice().starts_with(first.as_bytes()));
+    Ok(())
+}
+
+// The log of the user's bucket over a change file, with the bucket's name and the number of all operations.
+fn log_over(alloc: Global, changes: &str) -> Result<(Text, BucketLog, OpId), Memory>
+    ensures entries { IfOk result (λ made. AreEntries 0 made.1.ops) }
+    ensures last { IfOk result (λ made. made.2.0 ≤ greatest) }
+{
+    let rule = Rule {
+        name: Text::from_str(alloc, "mine")?,
+        parameter: Text::from_str(alloc, "u")?,
+        table: Text::from_str(alloc, "items")?,
+        column: Text::from_str(alloc, "owner")?,
+    };
+    let user = Text::from_str(alloc, "ann")?;
+    let name = bucket_name(alloc, &rule, &user)?;
+    let Ok(replica) = replicate(alloc, &rule, changes.as_bytes()) else {
+        return Err(Memory);
+    };
+    let last_op = OpId(replica.operations.len() as u64);
+    let log = log_of(alloc, &rule, &Value::Text(user), replica.operations)?;
+    Ok((name, log, last_op))
+}
+
+// The first data line of a log, as it is written.
+fn data_bytes(alloc: Global, name: &Text, log: &BucketLog, last_op: OpId) -> Result<Vec<u8>, Memory>
+    requires log { AreEntries 0 log.now.ops }
+    requires last { last_op.0 ≤ greatest }
+{
+    standing_logs_stay_standing();
+    batches_are_the_log();
+    if log.newest_upto(last_op).0 == 0 {
+        return Ok(Vec::new(alloc));
+    }
+    let batch = log.read(alloc, OpId(0), last_op)?;
+    let line = data_line(alloc, name, OpId(0), batch)?;
+    write_line(alloc, &line)
+}
+
+// The checkpoint's line, as it is written.
+fn checkpoint_bytes(
+    alloc: Global,
+    name: &Text,
+    log: &BucketLog,
+    last_op: OpId,
+) -> Result<Vec<u8>, Memory>
+    requires { last_op.0 ≤ greatest }
+{
+    let line = checkpoint_line(alloc, name, log, last_op)?;
+    write_line(alloc, &line)
+}
+
+// The sums are the first four bytes of SHA-256 of each operation's text, by another implementation.
+#[test]
+fn the_worked_changes_make_three_lines(rt: HostRuntime) -> Result<(), Fail> {
+    let (name, log, last_op) = log_over(rt.alloc(), CHANGES)?;
+    let checkpoint = checkpoint_bytes(rt.alloc(), &name, &log, last_op)?;
+    let first =
+        "{\"checkpoint\":{\"buckets\":[{\"bucket\":\"mine[\\\"ann\\\"]\",\"checksum\":4064033389,\"count\":3,\"priority\":3}],\"last_op_id\":\"4\"}}\n";
+    assert_eq!(rt; checkpoint.as_slice(), first.as_bytes());
+    let data = data_bytes(rt.alloc(), &name, &log, last_op)?;
+    let second =
+        "{\"data\":{\"after\":\"0\",\"bucket\":\"mine[\\\"ann\\\"]\",\"data\":[{\"checksum\":2616632941,\"data\":\"{\\\"id\\\":\\\"r1\\\",\\\"n\\\":1,\\\"owner\\\":\\\"ann\\\"}\",\"object_id\":\"r1\",\"object_type\":\"items\",\"op\":\"PUT\",\"op_id\":\"1\",\"subkey\":\"1/items/r1\"},{\"checksum\":269619152,\"data\":\"{\\\"id\\\":\\\"r3\\\",\\\"n\\\":2,\\\"owner\\\":\\\"ann\\\"}\",\"object_id\":\"r3\",\"object_type\":\"items\",\"op\":\"PUT\",\"op_id\":\"3\",\"subkey\":\"1/items/r3\"},{\"checksum\":1177781296,\"object_id\":\"r1\",\"object_type\":\"items\",\"op\":\"REMOVE\",\"op_id\":\"4\",\"subkey\":\"1/items/r1\"}],\"has_more\":false,\"next_after\":\"4\"}}\n";
+    assert_eq!(rt; data.as_slice(), second.as_bytes());
+    Ok(())
+}
+
+#[test]
+fn the_last_line_completes_the_checkpoint(rt: HostRuntime) -> Result<(), Fail> {
+    let complete = write_line(rt.alloc(), &complete_line(OpId(4)))?;
+    let third = "{\"checkpoint_complete\":{\"last_op_id\":\"4\"}}\n";
+    assert_eq!(rt; complete.as_slice(), third.as_bytes());
+    Ok(())
+}
+
+// A line has a thousand operations at most.
+#[test]
+fn more_than_a_thousand_operations_make_several_lines(rt: HostRuntime) -> Result<(), Fail> {
+    let mut changes = String::new(rt.alloc());
+    'changes: for position in 1..1002 {
+        let line = format!(in rt.alloc();
+            "{{\"pos\":\"{position}\",\"changes\":[{{\"op\":\"PUT\",\"table\":\"items\",\"id\":\"r{position}\",\"row\":{{\"owner\":\"ann\"}}}}]}}\n"
+        )?;
+        changes.push_str(line.as_str())?;
+    }
+    let (name, log, last_op) = log_over(rt.alloc(), changes.as_str())?;
+    let data = data_bytes(rt.alloc(), &name, &log, last_op)?;
+    let end = "\"has_more\":true,\"next_after\":\"1000\"}}\n";
+    assert!(rt; data.as_slice().ends_with(end.as_bytes()));
+    let printed = rows(rt.alloc(), RULES, changes.as_str(), CLAIMS)?;
+    let lines = printed
+        .printed
+        .iter()
+        .filter(|byte| **byte == b'\n')
+        .count();
+    assert_eq!(rt; lines, 1001);
     Ok(())
 }

@@ -1,0 +1,14 @@
+use Rattle.std.proofs.Common.{◌≡◌, ◌∙◌, sym, subst}
+use Rattle.ps_lines.specs.Writing.{IsWritable}
+use Rattle.powersync.specs.Streams.{data_line}
+use Rattle.powersync.proofs.Batches.{batch_leads_as}
+use Rattle.powersync.proofs.Streaming.{may_be_sent}
+use Rattle.powersync.proofs.tests.data_bytes.Goals as goal
+
+pub write_line-requires : goal.write_line-requires
+write_line-requires c =
+    let laws = c.standing_logs_stay_standing.ensures in
+    let read = c.batches_are_the_log.ensures in
+    let leads = batch_leads_as laws.untouched laws.log read.longest read.rising read.on c.args.log.now.ops 0 c.args.last_op.0 c.in_ok-batch.batch c.requires.log _ c.in_ok-batch.ensures in
+    subst IsWritable (sym {b = data_line c.args.name.now 0 c.in_ok-batch.batch} c.in_ok-line.ensures)
+    (may_be_sent c.args.name.now 0 c.args.last_op.0 c.args.log.now.ops c.in_ok-batch.batch leads c.requires.last)
