@@ -6,4 +6,6 @@ pub mod Rooms
 pub mod Keeping
 pub mod Saving
 pub mod Logs
+pub mod Rows
+pub mod Seeing
 pub mod Types

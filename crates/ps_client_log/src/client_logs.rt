@@ -1,5 +1,9 @@
-ghost use Rattle.std.specs.Prelude.{◌≡◌, ◌≤◌, List, ◌++◌, OnOk, OnErr, IfOk, IfErr, IfSome, None};
-ghost use Rattle.std.specs.List.{IsDistinct};
+ghost use Rattle.std.specs.Prelude.{◌≡◌, ℕ, ◌≤◌, List, ◌++◌, OnOk, OnErr, IfOk, IfErr, IfSome, IsSome, None, is_some, bytes_eq};
+ghost use Rattle.std.specs.Cmp.Lexicographic.{slice_cmp};
+ghost use Rattle.std.specs.List.{IsDistinct, list_any};
+ghost use Rattle.std.specs.List.Sorted.{IsStrictlySortedBy};
+ghost use Rattle.std.specs.Ordering.{nat_cmp};
+ghost use Rattle.ps_changes.specs.Source.{Key as Object};
 ghost use Rattle.ps_bucket_log.specs.declared.ops.Op.{Op as Operation};
 ghost use Rattle.ps_bucket_log.specs.Buckets.{bucket_of};
 ghost use Rattle.ps_client_log.specs.Kept.{bucket_at, shown_in};
@@ -7,8 +11,10 @@ ghost use Rattle.ps_client_log.specs.Soundness.{IsSound, same_row};
 ghost use Rattle.ps_client_log.specs.Edits.{CanTake, CanMakeAll, with_bucket, with_taken, with_edits};
 ghost use Rattle.ps_client_log.specs.Keeping.{RoseAt, RoseWhereFailed, Tells};
 ghost use Rattle.ps_client_log.specs.Logs.{keeper_of, kept};
+ghost use Rattle.ps_client_log.specs.Rows.{HeldCopy, Holds, object_of, IsLatestContent, AreInOrder, row_at};
 
 use crate::holdings::Holdings;
+use crate::rows::{bucket_names, held_rows};
 use crate::{Edit, KeepFault, Keeper, Shown, Target};
 use ps_bucket_log::Op;
 use ps_changes::Change;
@@ -170,5 +176,23 @@ impl<K: Keeper> ClientLog<K> {
         ensures distinct { IsDistinct same_row result.now }
     {
         self.holdings.shown.as_slice()
+    }
+
+    /// The names of the buckets that are there, in order.
+    pub fn names(&self, alloc: Global) -> Result<Vec<Text>, Memory>
+        ensures in_order { IfOk result (λ names. IsStrictlySortedBy (slice_cmp nat_cmp) names.items) }
+        ensures held { IfOk result (λ names. (name : List ℕ) → list_any (bytes_eq name) names.items ≡ is_some ((kept self.now).bucket name)) }
+    {
+        bucket_names(alloc, &self.holdings)
+    }
+
+    /// The rows that the buckets hold, in the order of type and id: for each object the data of its latest copy, which is the one with the greatest
+    /// id of an operation, and among those with the same id the one of the last bucket by name, and there of the last subkey.
+    pub fn held_rows(&self, alloc: Global) -> Result<Vec<Shown>, Memory>
+        ensures in_order { IfOk result (λ rows. AreInOrder rows.items) }
+        ensures latest { IfOk result (λ rows. (object : Object) → IfSome (row_at object rows.items) (IsLatestContent (kept self.now) object)) }
+        ensures all { IfOk result (λ rows. (copy : HeldCopy) → Holds (kept self.now) copy → IsSome (row_at (object_of copy) rows.items)) }
+    {
+        held_rows(alloc, &self.holdings)
     }
 }

@@ -10,9 +10,12 @@ mod images;
 mod keepers;
 mod memory;
 mod rooms;
+mod rows;
 mod saving;
 mod slots;
 mod states;
+#[cfg(test)]
+mod tests;
 
 pub use client_logs::ClientLog;
 pub use edits::Edit;
