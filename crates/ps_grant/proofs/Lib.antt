@@ -1,0 +1,5 @@
+pub mod BranchLaws
+pub mod EntryLaws
+pub mod GainLaws
+pub mod GrantLaws
+pub mod SolveLaws
