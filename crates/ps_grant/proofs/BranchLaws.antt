@@ -65,8 +65,8 @@ crossed_free : (xs ys : List Branch) → some_unfree xs ≡ false → some_unfre
 crossed_free xs [] h g = refl
 crossed_free xs (y ∷ ys) h g = any_append unfree (map (λ (x : Branch). joined x y) xs) (crossed xs ys)
     ∙ either_false (some_unfree (map (λ (x : Branch). joined x y) xs)) (some_unfree (crossed xs ys))
-      (join_free xs y h (left_false (unfree y) (some_unfree ys) g))
-      (crossed_free xs ys h (right_false (unfree y) (some_unfree ys) g))
+    (join_free xs y h (left_false (unfree y) (some_unfree ys) g))
+    (crossed_free xs ys h (right_false (unfree y) (some_unfree ys) g))
 
 -- a match that is found has no parameter on its other side
 found_free : (leaf : Expr) (found : Option Match) → ((m : Match) → found ≡ Some m → has_parameter m.other ≡ false) → unfree (branch_with leaf found) ≡ false
@@ -193,18 +193,19 @@ module _ (either : EitherSide) (both : BothSides) (alone : LeafAlone) where
   unbound_all : (names : List (List ℕ)) (branches : List Branch) → some_unfree branches ≡ false → list_all (is_bound names) branches ≡ true → AllByRecursion IsUnbound branches
   unbound_all names [] free bound = tt
   unbound_all names (b ∷ bs) free bound = (
-      record {
-        matches = left_false (unfree b) (some_unfree bs) free;
-        rest = not_true (list_any has_parameter b.rest) (first_true (not (list_any has_parameter b.rest)) (list_all (λ name. list_any (λ other. bytes_eq other name) (map (λ (m : Match). m.name) b.matches)) names)
+    record {
+      matches = left_false (unfree b) (some_unfree bs) free;
+      rest = not_true (list_any has_parameter b.rest) (first_true (not (list_any has_parameter b.rest)) (list_all (λ name. list_any (λ other. bytes_eq other name) (map (λ (m : Match). m.name) b.matches)) names)
           (first_true (is_bound names b) (list_all (is_bound names) bs) bound));
-      },
-      unbound_all names bs (right_false (unfree b) (some_unfree bs) free) (second_true (is_bound names b) (list_all (is_bound names) bs) bound))
+    },
+    unbound_all names bs (right_false (unfree b) (some_unfree bs) free) (second_true (is_bound names b) (list_all (is_bound names) bs) bound),
+  )
 
   -- the branches of a data query of rules need no parameter but in their matches
   pub unbound : (names : List (List ℕ)) (planned : Planned) (branches : List Branch) → IsSoundQuery names planned → branches ≡ planned.branches → AllByRecursion IsUnbound branches
   unbound names planned branches sound is = subst (λ (bs : List Branch). AllByRecursion IsUnbound bs) (sym (is ∙ sound.branches))
       (unbound_all names (branches_of planned.query.condition) (condition_free planned.query.condition)
-        (second_true (not (list_any (λ o. has_parameter o.expr) planned.query.outputs)) (list_all (is_bound names) (branches_of planned.query.condition)) sound.matched))
+      (second_true (not (list_any (λ o. has_parameter o.expr) planned.query.outputs)) (list_all (is_bound names) (branches_of planned.query.condition)) sound.matched))
 
 -- ---- a branch, for all vectors at once
 
@@ -263,6 +264,7 @@ module _ (law : IsEqualWherePresent) (free : VectorDoesNotMatter) (given : Given
   match_same m h = by m.listed where
     x : Value
     x = vector_at names vector m.name
+
     by : (b : Bool) → (if b then is_among (vector_at names vector m.name) (array_of (value_of at m.other)) else is_true (equal_sql (vector_at names vector m.name) (value_of at m.other)))
         ≡ list_any (is_equal_to (vector_at names vector m.name)) (if b then values_in (array_of (value_of given m.other)) else value_of given m.other ∷ [])
     by true = ap (λ (v : Value). is_among (vector_at names vector m.name) (array_of v)) (value_same m.other h) ∙ among_values law (vector_at names vector m.name) (array_of (value_of given m.other))
@@ -288,12 +290,12 @@ module _ (law : IsEqualWherePresent) (free : VectorDoesNotMatter) (given : Given
   pub met_where_allowed : list_all (λ (e : Expr). holds given (Some e)) b.rest ≡ true → list_any (all_allow names (map (allowed_by given) b.matches)) vectors ≡ list_any meets_by vectors
   met_where_allowed h = any_alike (all_allow names (map (allowed_by given) b.matches)) meets_by
       (λ vector. sym (branch_same law free given names vector b unbound ∙ ap (λ t. all_allow names (map (allowed_by given) b.matches) vector && t) h
-        ∙ and_true (all_allow names (map (allowed_by given) b.matches) vector))) vectors
+      ∙ and_true (all_allow names (map (allowed_by given) b.matches) vector))) vectors
 
   pub met_nowhere : list_all (λ (e : Expr). holds given (Some e)) b.rest ≡ false → false ≡ list_any meets_by vectors
   met_nowhere h = sym (any_alike meets_by (λ vector. false)
       (λ vector. branch_same law free given names vector b unbound ∙ ap (λ t. all_allow names (map (allowed_by given) b.matches) vector && t) h
-        ∙ and_false (all_allow names (map (allowed_by given) b.matches) vector)) vectors ∙ none_of vectors)
+      ∙ and_false (all_allow names (map (allowed_by given) b.matches) vector)) vectors ∙ none_of vectors)
 
 -- one branch more
 pub some_branch : {A : Type 0} (given : A → Given) (b : Branch) (bs : List Branch) (xs : List A) → list_any (λ x. meets_some (given x) (b ∷ bs)) xs ≡ (list_any (λ x. meets (given x) b) xs || list_any (λ x. meets_some (given x) bs) xs)

@@ -148,7 +148,7 @@ module _ (law : IsEqualWherePresent) (all : List Allowed) where
   behind fronts front values value among one test passes =
       any_flat test (λ (f : List Value). map (λ (v : Value). f ++ v ∷ []) values) fronts
       ∙ among (λ (f : List Value). list_any test (map (λ (v : Value). f ++ v ∷ []) values))
-        (any_map test (λ (v : Value). front ++ v ∷ []) values ∙ one (λ (v : Value). test (front ++ v ∷ [])) passes)
+      (any_map test (λ (v : Value). front ++ v ∷ []) values ∙ one (λ (v : Value). test (front ++ v ∷ [])) passes)
 
   -- a vector that fits behind a front is among those that are solved
   reached : (fronts : List (List Value)) (names : List (List ℕ)) (front vector : List Value) → IsIn front fronts → Fits all names vector → IsIn (front ++ vector) (solved all fronts names)
@@ -157,7 +157,7 @@ module _ (law : IsEqualWherePresent) (all : List Allowed) where
   reached fronts (name ∷ names) front (value ∷ values) among fits =
       let allowed : List Value = unwrap_or (values_for name all) [] in
       subst (λ (v : List Value). IsIn v (solved all (extended fronts allowed) names)) (append_assoc front (value ∷ []) values)
-        (reached (extended fronts allowed) names (front ++ value ∷ []) values (behind fronts front allowed value among (one_of law value allowed fits.0)) fits.1)
+      (reached (extended fronts allowed) names (front ++ value ∷ []) values (behind fronts front allowed value among (one_of law value allowed fits.0)) fits.1)
 
 -- the first match of a parameter allows its value in a vector that all matches allow
 first_allows : (names : List (List ℕ)) (vector : List Value) (all : List Allowed) (name : List ℕ) → all_allow names all vector ≡ true → is_some (values_for name all) ≡ true
@@ -165,7 +165,7 @@ first_allows : (names : List (List ℕ)) (vector : List Value) (all : List Allow
 first_allows names vector [] name h m = absurd (cc)
 first_allows names vector (a ∷ all) name h m =
     elim (bytes_eq a.name name) as (λ b. bytes_eq a.name name ≡ b → is_some (cond b (Some a.values) (values_for name all)) ≡ true
-      → list_any (is_equal_to (vector_at names vector name)) (unwrap_or (cond b (Some a.values) (values_for name all)) []) ≡ true) [
+    → list_any (is_equal_to (vector_at names vector name)) (unwrap_or (cond b (Some a.values) (values_for name all)) []) ≡ true) [
       | true ↦ λ e _. subst (λ (n : List ℕ). list_any (is_equal_to (vector_at names vector n)) a.values ≡ true) (same_bytes a.name name e) (left_true (allows_vector names vector a) (all_allow names all vector) h)
       | false ↦ λ e k. first_allows names vector all name (right_true (allows_vector names vector a) (all_allow names all vector) h) k
     ] refl m
@@ -177,16 +177,17 @@ placed : (all : List Allowed) (names : List (List ℕ)) (vector : List Value) �
 placed all [] [] differ long h = refl
 placed all [] (value ∷ values) differ long h = absurd (omega arith)
 placed all (name ∷ names) [] differ long h = absurd (omega arith)
-placed all (name ∷ names) (value ∷ values) differ long h =
-    (ap (λ b. list_any (is_equal_to (cond b value (vector_at names values name))) (unwrap_or (values_for name all) [])) (sym (nat_list_eq_equiv.refl name))
+placed all (name ∷ names) (value ∷ values) differ long h = (
+  ap (λ b. list_any (is_equal_to (cond b value (vector_at names values name))) (unwrap_or (values_for name all) [])) (sym (nat_list_eq_equiv.refl name))
       ∙ h name (ap (λ b. b || is_in name names) (nat_list_eq_equiv.refl name)),
-    placed all names values (or_false_right (is_in name names) (has_repeated names) differ) (omega arith)
+  placed all names values (or_false_right (is_in name names) (has_repeated names) differ) (omega arith)
       (λ n among. ap (λ b. list_any (is_equal_to (cond b value (vector_at names values n))) (unwrap_or (values_for n all) [])) (sym (another n among (bytes_eq name n) refl))
-        ∙ h n (or_right (bytes_eq name n) (is_in n names) among)))
+      ∙ h n (or_right (bytes_eq name n) (is_in n names) among)),
+)
   where
     another : (n : List ℕ) → is_in n names ≡ true → (b : Bool) → bytes_eq name n ≡ b → bytes_eq name n ≡ false
     another n among true e = absurd (let here = or_false (is_in name names) (has_repeated names) differ in let same : name ≡ n = same_bytes name n e in
-      let there : is_in name names ≡ true = ap (λ (m : List ℕ). is_in m names) same ∙ among in cc)
+        let there : is_in name names ≡ true = ap (λ (m : List ℕ). is_in m names) same ∙ among in cc)
     another n among false e = e
 
 -- each parameter of a list has a match
@@ -219,7 +220,7 @@ module _ (law : IsEqualWherePresent) (ties : TiesTheSame) (names : List (List �
       let fits : Fits all names v.item = placed all names v.item differ size (λ name among. first_allows names v.item all name v.passes (matched_in all names name matched among)) in
       let start : IsIn [] ([] ∷ []) = λ test passes. ap (λ b. b || false) passes in
       reached law all ([] ∷ []) names [] v.item start fits known
-        (ap (λ b. b && all_allow names all v.item) (v.among (is_same v.item) (same_itself ties v.item)) ∙ v.passes)
+      (ap (λ b. b && all_allow names all v.item) (v.among (is_same v.item) (same_itself ties v.item)) ∙ v.passes)
 
   -- of the vectors that are solved some is known and allowed exactly where some vector is allowed
   pub known_same : has_repeated names ≡ false → AreAsLong names vectors → AreMatched all names → list_any known (solved all ([] ∷ []) names) ≡ list_any (all_allow names all) vectors

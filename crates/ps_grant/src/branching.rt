@@ -16,11 +16,14 @@ use crate::solving::{Allowed, all_allow as allow, allowed_by_all, solve};
 use crate::vectors::VectorSet;
 use ps_changes::Row;
 use ps_rules::{
-    Branch, Planned, conditions_hold_where_a_branch_is_met, spread_as_written, vectors_do_not_matter,
+    Branch, Planned, conditions_hold_where_a_branch_is_met, spread_as_written,
+    vectors_do_not_matter,
 };
 use ps_sql::Expr;
 use ps_sql_eval::Asker;
-use ps_values::{Items, Memory, Text, Value, equal_where_both_are_present};
+use ps_values::{
+    Items, Memory, Text, Value, compare_is_a_total_order, equal_where_both_are_present,
+};
 use std::alloc::Global;
 
 // Whether all expressions hold on a row, with no parameter in them.
@@ -42,12 +45,7 @@ fn all_hold(
 }
 
 // Whether one of the listed vectors is allowed by all matches, and known.
-fn any_known(
-    vectors: &VectorSet,
-    names: &[Text],
-    all: &[Allowed],
-    listed: &[Items<Value>],
-) -> bool
+fn any_known(vectors: &VectorSet, names: &[Text], all: &[Allowed], listed: &[Items<Value>]) -> bool
     ensures { result ≡ list_any (λ v. list_any (is_same v) vectors.now && all_allow names.now all.now v) listed.now }
 {
     'listed: for vector in listed {
@@ -71,6 +69,7 @@ fn some_allowed(
     ensures { IfOk result (λ found. found ≡ list_any (all_allow names.now all.now) vectors.now) }
 {
     equal_where_both_are_present();
+    compare_is_a_total_order();
     match solve(alloc, names, all, vectors.len())? {
         Some(listed) => Ok(any_known(vectors, names, all, listed.as_slice())),
         None => Ok(vectors.any_allowed(names, all)),
@@ -92,6 +91,7 @@ fn branch_is_met(
     requires unbound { IsUnbound branch.now }
     ensures { IfOk result (λ met. met ≡ list_any (λ vector. meets (given_for (asker_of asker.now) names.now (at_row id.now row.now) vector) branch.now) vectors.now) }
 {
+    equal_where_both_are_present();
     vectors_do_not_matter();
     if !all_hold(alloc, branch.rest.as_slice(), asker, id, row)? {
         return Ok(false);
@@ -140,5 +140,13 @@ pub(crate) fn holds_for_a_vector(
 {
     conditions_hold_where_a_branch_is_met();
     spread_as_written();
-    some_branch_is_met(alloc, planned.branches.as_slice(), vectors, names, asker, id, row)
+    some_branch_is_met(
+        alloc,
+        planned.branches.as_slice(),
+        vectors,
+        names,
+        asker,
+        id,
+        row,
+    )
 }

@@ -48,7 +48,13 @@ fn asker(alloc: Global, user: &str, parameters: &str) -> Result<Asker, Memory> {
 fn show(alloc: Global, rows: &[Shown]) -> Result<String, Fail> {
     let mut out = String::new(alloc);
     for row in rows {
-        write!(out, "{} {} {}\n", row.kind.as_str(), row.id.as_str(), row.content.as_str())?;
+        write!(
+            out,
+            "{} {} {}\n",
+            row.kind.as_str(),
+            row.id.as_str(),
+            row.content.as_str()
+        )?;
     }
     Ok(out)
 }
@@ -56,7 +62,15 @@ fn show(alloc: Global, rows: &[Shown]) -> Result<String, Fail> {
 fn show_copies(alloc: Global, copies: &[Granted]) -> Result<String, Fail> {
     let mut out = String::new(alloc);
     for copy in copies {
-        write!(out, "{} {} {} {} {}\n", copy.kind.as_str(), copy.id.as_str(), copy.position.0, copy.index, copy.number)?;
+        write!(
+            out,
+            "{} {} {} {} {}\n",
+            copy.kind.as_str(),
+            copy.id.as_str(),
+            copy.position.0,
+            copy.index,
+            copy.number
+        )?;
     }
     Ok(out)
 }
@@ -192,7 +206,9 @@ fn a_deleted_row_is_no_row(rt: HostRuntime) -> Result<(), Fail> {
     let rows = due(
         rt.alloc(),
         TWO_TABLES,
-        &[r#"{"pos":"1","changes":[{"op":"PUT","table":"t","id":"a","row":{}},{"op":"PUT","table":"t","id":"a","row":{}},{"op":"DELETE","table":"t","id":"a"}]}"#],
+        &[
+            r#"{"pos":"1","changes":[{"op":"PUT","table":"t","id":"a","row":{}},{"op":"PUT","table":"t","id":"a","row":{}},{"op":"DELETE","table":"t","id":"a"}]}"#,
+        ],
         &ann,
         1,
     )?;
@@ -215,7 +231,10 @@ fn a_member_of_a_list_has_the_row(rt: HostRuntime) -> Result<(), Fail> {
         &ann,
         1,
     )?;
-    assert_eq!(rt; rows.as_str(), "docs d1 {\"id\":\"d1\"}\ndocs d3 {\"id\":\"d3\"}\n");
+    assert_eq!(rt;
+        rows.as_str(),
+        "docs d1 {\"id\":\"d1\"}\ndocs d3 {\"id\":\"d3\"}\n"
+    );
     Ok(())
 }
 
@@ -269,6 +288,9 @@ fn two_parameters_are_of_one_vector(rt: HostRuntime) -> Result<(), Fail> {
         &ann,
         2,
     )?;
-    assert_eq!(rt; rows.as_str(), "docs d1 {\"id\":\"d1\"}\ndocs d3 {\"id\":\"d3\"}\n");
+    assert_eq!(rt;
+        rows.as_str(),
+        "docs d1 {\"id\":\"d1\"}\ndocs d3 {\"id\":\"d3\"}\n"
+    );
     Ok(())
 }
