@@ -5,3 +5,4 @@ pub mod GrantLaws
 pub mod KeptLaws
 pub mod SolveLaws
 pub mod StepLaws
+pub mod VectorLaws

@@ -112,7 +112,7 @@ then_second Less p h = absurd (cc)
 then_second Equal p h = h
 then_second Greater p h = absurd (cc)
 
-same_is : TiesTheSame → (a b : List Value) → is_same a b ≡ true → a ≡ b
+pub same_is : TiesTheSame → (a b : List Value) → is_same a b ≡ true → a ≡ b
 same_is ties [] [] h = refl
 same_is ties [] (y ∷ ys) h = cc
 same_is ties (x ∷ xs) [] h = cc

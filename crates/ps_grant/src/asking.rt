@@ -133,9 +133,10 @@ fn add_from(
         (flat_map (vector_on names.now (asker_of asker.now) query.now) (filter (λ (r : SourceRow). bytes_eq r.table table.now) (rows_in (entries_of rows.now))))) }
 {
     'rows: for live in rows {
-        if live.table.equals(table) {
-            add_on(alloc, vectors, names, query, asker, &live.id, &live.row)?;
+        if !live.table.equals(table) {
+            continue;
         }
+        add_on(alloc, vectors, names, query, asker, &live.id, &live.row)?;
     }
     Ok(())
 }

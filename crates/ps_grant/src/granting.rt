@@ -172,9 +172,10 @@ fn grant_query(
     ensures { OnOk result (copies.new ≡ copies.old ++ granted_by_query (asker_of asker.now) names.now vectors.now (entries_of rows.now) planned.now) }
 {
     'rows: for live in rows {
-        if let Some(copy) = grant_on(alloc, planned, vectors, names, asker, live)? {
-            copies.push(copy)?;
-        }
+        let Some(copy) = grant_on(alloc, planned, vectors, names, asker, live)? else {
+            continue;
+        };
+        copies.push(copy)?;
     }
     Ok(())
 }

@@ -34,9 +34,10 @@ pub fn source_at(
 {
     let mut live = BTreeMap::new(alloc);
     'transactions: for transaction in transactions {
-        if transaction.position.0 <= position.0 {
-            take_changes(alloc, &mut live, transaction)?;
+        if position.0 < transaction.position.0 {
+            continue;
         }
+        take_changes(alloc, &mut live, transaction)?;
     }
     Ok(SourceRows::of_rows(in_order(alloc, live)?))
 }
@@ -78,11 +79,13 @@ fn take_change(
                     position,
                     index,
                 },
-            )?;
+            )
         }
-        None => take_out(live, &key),
+        None => {
+            take_out(live, &key);
+            Ok(())
+        }
     }
-    Ok(())
 }
 
 // Takes out the row of a key, if it lives.

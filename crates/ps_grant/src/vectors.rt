@@ -5,7 +5,7 @@ ghost use Rattle.std.specs.List.{list_any};
 ghost use Rattle.ps_grant.specs.Solving.{all_allow, is_same, Gains};
 
 use crate::solving::{Allowed, all_allow as allow};
-use ps_values::{Memory, Text, Value};
+use ps_values::{Memory, Text, Value, compare_is_a_total_order};
 use std::alloc::Global;
 use std::collections::BTreeSet;
 use std::marker::Model;
@@ -39,6 +39,7 @@ impl VectorSet {
     pub(crate) fn insert(&mut self, vector: Vec<Value>) -> Result<(), Memory>
         ensures { OnOk result (Gains self.old self.new (vector.items ∷ [])) }
     {
+        compare_is_a_total_order();
         self.known.insert(vector)?;
         Ok(())
     }
