@@ -14,7 +14,7 @@ use Rattle.ps_sql.specs.declared.expressions.Expr.TheOpen as layers
 use Rattle.ps_sql.specs.declared.expressions.Expr.TheVariants as exprs
 use Rattle.ps_sql.specs.declared.expressions.Operator.{Operator}
 use Rattle.ps_sql.specs.declared.expressions.Operator.TheVariants as operators
-use Rattle.ps_sql.specs.declared.queries.DataQuery.{DataQuery}
+use Rattle.ps_sql.specs.declared.queries.Output.{Output}
 use Rattle.ps_sql.specs.Meaning.{Asker, Given, value_of, is_true, any_equals, array_of}
 use Rattle.ps_sql_eval.specs.Evaluated.{values_in, values_of_items}
 use Rattle.ps_rules.specs.declared.matches.Match.{Match}
@@ -205,9 +205,13 @@ module _ (either : EitherSide) (both : BothSides) (alone : LeafAlone) where
   pub unbound : (names : List (List ℕ)) (planned : Planned) (branches : List Branch) → IsSoundQuery names planned → branches ≡ planned.branches → AllByRecursion IsUnbound branches
   unbound names planned branches sound is = subst (λ (bs : List Branch). AllByRecursion IsUnbound bs) (sym (is ∙ sound.branches))
       (unbound_all names (branches_of planned.query.condition) (condition_free planned.query.condition)
-      (second_true (not (list_any (λ o. has_parameter o.expr) planned.query.outputs)) (list_all (is_bound names) (branches_of planned.query.condition)) sound.matched))
+      (second_true (not (list_any (λ (o : Output). has_parameter o.expr) planned.query.outputs)) (list_all (is_bound names) (branches_of planned.query.condition)) sound.matched))
 
 -- ---- a branch, for all vectors at once
+
+or_nothing : (b : Bool) → (b || false) ≡ b
+or_nothing true = refl
+or_nothing false = refl
 
 and_true : (b : Bool) → (b && true) ≡ b
 and_true true = refl
@@ -217,7 +221,7 @@ and_false : (b : Bool) → (b && false) ≡ false
 and_false true = refl
 and_false false = refl
 
-none_of : {A : Type 0} (xs : List A) → list_any (λ x. false) xs ≡ false
+pub none_of : {A : Type 0} (xs : List A) → list_any (λ x. false) xs ≡ false
 none_of [] = refl
 none_of (x ∷ xs) = none_of xs
 
@@ -262,17 +266,11 @@ module _ (law : IsEqualWherePresent) (free : VectorDoesNotMatter) (given : Given
 
   match_same : (m : Match) → has_parameter m.other ≡ false → allows at m ≡ allows_vector names vector (allowed_by given m)
   match_same m h = by m.listed where
-    x : Value
-    x = vector_at names vector m.name
 
     by : (b : Bool) → (if b then is_among (vector_at names vector m.name) (array_of (value_of at m.other)) else is_true (equal_sql (vector_at names vector m.name) (value_of at m.other)))
         ≡ list_any (is_equal_to (vector_at names vector m.name)) (if b then values_in (array_of (value_of given m.other)) else value_of given m.other ∷ [])
     by true = ap (λ (v : Value). is_among (vector_at names vector m.name) (array_of v)) (value_same m.other h) ∙ among_values law (vector_at names vector m.name) (array_of (value_of given m.other))
     by false = ap (λ (v : Value). is_true (equal_sql (vector_at names vector m.name) v)) (value_same m.other h) ∙ sym (or_nothing (is_true (equal_sql (vector_at names vector m.name) (value_of given m.other))))
-      where
-        or_nothing : (b : Bool) → (b || false) ≡ b
-        or_nothing true = refl
-        or_nothing false = refl
 
   matches_same : (ms : List Match) → list_any (λ (m : Match). has_parameter m.other) ms ≡ false → list_all (allows at) ms ≡ all_allow names (map (allowed_by given) ms) vector
   matches_same [] h = refl

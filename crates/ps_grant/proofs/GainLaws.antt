@@ -48,22 +48,9 @@ module _ {K A : Type 0} (R : K → K → Ordering) (view : K → A) (exact : (x 
         | Greater ↦ λ t. ap (λ b. test (view x) || b) (key_gained k xs test) ∙ sym (or_regrouped (test (view x)) (list_any test (map view xs)) (test (view k) || false))
       ] refl
 
--- a loop that gains items: what is gained so far, and what is left to gain
-module _ {A : Type 0} where
-  pub gain_step : (old new more whole rest : List A) (total : (A → Bool) → Bool) → Gains old new more → whole ≡ more ++ rest
-      → ((test : A → Bool) → (list_any test old || list_any test whole) ≡ total test) → (test : A → Bool) → (list_any test new || list_any test rest) ≡ total test
-  gain_step old new more whole rest total gains is h test =
-      ap (λ b. b || list_any test rest) (gains test)
-      ∙ or_regrouped (list_any test old) (list_any test more) (list_any test rest)
-      ∙ ap (λ b. list_any test old || b) (sym (ap (list_any test) is ∙ any_append test more rest))
-      ∙ h test
-
-  pub gain_end : (old new all : List A) (left : List A) → left ≡ [] → ((test : A → Bool) → (list_any test new || list_any test left) ≡ (list_any test old || list_any test all)) → Gains old new all
-  gain_end old new all left is h test = sym (ap (λ xs. list_any test new || list_any test xs) is ∙ or_false (list_any test new)) ∙ h test
-
-  -- what nothing gains is what it gained
-  pub gain_all : (new all : List A) → Gains [] new all → (test : A → Bool) → list_any test new ≡ list_any test all
-  gain_all new all gains test = gains test
-
-  pub gain_none : (old : List A) → Gains old old []
-  gain_none old test = sym (or_false (list_any test old))
+-- what is gained in one step, of what is left to gain
+pub gain_step : {A : Type 0} (old new more whole rest : List A) → Gains old new more → whole ≡ more ++ rest → (test : A → Bool) → (list_any test new || list_any test rest) ≡ (list_any test old || list_any test whole)
+gain_step old new more whole rest gains is test =
+    ap (λ b. b || list_any test rest) (gains test)
+    ∙ or_regrouped (list_any test old) (list_any test more) (list_any test rest)
+    ∙ ap (λ b. list_any test old || b) (sym (ap (list_any test) is ∙ any_append test more rest))

@@ -1,5 +1,6 @@
 -- The vectors of a definition, and what it grants for vectors that are the same but for their order.
-use Rattle.std.proofs.Common.{◌≡◌, ℕ, Bool, true, false, not, cond, List, [], ◌∷◌, ◌++◌, Option, None, length, map, filter_map, flat_map, refl, sym, ap, ◌∙◌, subst, length-map, eq-eqb}
+use Rattle.std.proofs.Common.{◌≡◌, ℕ, Bool, true, false, not, cond, List, [], ◌∷◌, ◌++◌, Option, None, length, map, filter_map, flat_map, refl, sym, ap, ◌∙◌, subst, eq-eqb}
+use Rattle.std.proofs.lemmas.List.{length-map}
 use Rattle.std.specs.Prelude.{◌||◌, ◌&&◌, ◌==◌, bytes_eq}
 use Rattle.std.specs.List.{list_any, list_all, AllByRecursion}
 use Rattle.ps_values.specs.declared.values.Value.{Value}

@@ -1,5 +1,7 @@
+pub mod AskLaws
 pub mod BranchLaws
 pub mod EntryLaws
+pub mod ExtendLaws
 pub mod GainLaws
 pub mod GrantLaws
 pub mod KeptLaws

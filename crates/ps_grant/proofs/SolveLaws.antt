@@ -1,10 +1,11 @@
 -- Some vector is allowed exactly where one that the matches solve to is allowed and known.
 use Rattle.std.proofs.Common.{◌≡◌, ℕ, suc, Bool, true, false, not, cond, List, [], ◌∷◌, ◌++◌, length, Option, Some, None, Ordering, Less, Equal, Greater, map, flat_map, refl, sym, ap, ◌∙◌, subst, append_assoc, append-nil, bytes_eq, eqb, arith}
-use Rattle.std.specs.Prelude.{◌||◌, ◌&&◌, ◌==◌, unwrap_or, is_some}
+use Rattle.std.specs.Prelude.{◌||◌, ◌&&◌, ◌==◌, unwrap_or, is_some, IfSome}
 use Rattle.std.specs.List.{list_any, list_all}
 use Rattle.std.specs.Cmp.Lexicographic.{slice_cmp, texts_ties, nat_list_eq_equiv}
 use Rattle.std.specs.Ordering.{nat_cmp, is_eq, ordering_then}
 use Rattle.std.proofs.lemmas.Map.Lookups.{exact_bytes}
+use Rattle.std.proofs.lemmas.Bool.{eqb-true}
 use Rattle.ps_values.specs.declared.values.Value.{Value}
 use Rattle.ps_values.specs.declared.values.Truth.{Truth}
 use Rattle.ps_values.specs.declared.values.Truth.TheVariants.{True, False, Unknown}
@@ -14,7 +15,7 @@ use Rattle.ps_sql.specs.Meaning.{is_true}
 use Rattle.ps_rules.specs.Names.{is_in, has_repeated}
 use Rattle.ps_rules.specs.Vectors.{vector_at}
 use Rattle.ps_grant.specs.declared.solving.Allowed.{Allowed}
-use Rattle.ps_grant.specs.Solving.{is_same, is_equal_to, allows_vector, all_allow, values_for, extended, solved, AreAsLong, AreMatched}
+use Rattle.ps_grant.specs.Solving.{is_same, is_equal_to, allows_vector, all_allow, values_for, extended, solved, AreAsLong, AreMatched, AreSolved}
 use Rattle.ps_grant.proofs.GainLaws.{any_append}
 
 -- ---- tests
@@ -86,7 +87,7 @@ any_flat test f (x ∷ xs) = any_append test (f x) (flat_map f xs) ∙ ap (λ b.
 
 -- ---- equal values
 
-true_is : (t : Truth) → is_true t ≡ true → t ≡ True
+pub true_is : (t : Truth) → is_true t ≡ true → t ≡ True
 true_is True h = refl
 true_is False h = cc
 true_is Unknown h = cc
@@ -199,9 +200,6 @@ matched_in all (n ∷ names) name h among =
       | false ↦ λ e k. matched_in all names name (right_true (is_some (values_for n all)) (list_all (λ m. is_some (values_for m all)) names) h) k
     ] refl among
 
-eqb-same : (m n : ℕ) → (m == n) ≡ true → m ≡ n
-eqb-same m n h = grind arith
-
 module _ (law : IsEqualWherePresent) (ties : TiesTheSame) (names : List (List ℕ)) (all : List Allowed) (vectors : List (List Value)) where
   abbrev known : List Value → Bool
   known v = list_any (is_same v) vectors && all_allow names all v
@@ -216,7 +214,7 @@ module _ (law : IsEqualWherePresent) (ties : TiesTheSame) (names : List (List �
   allowed_known : has_repeated names ≡ false → AreAsLong names vectors → AreMatched all names → list_any (all_allow names all) vectors ≡ true → list_any known (solved all ([] ∷ []) names) ≡ true
   allowed_known differ long matched h =
       let v : Passing (all_allow names all) vectors = passing (all_allow names all) vectors h in
-      let size : length v.item ≡ length names = eqb-same (length v.item) (length names) (all_in (λ (x : List Value). length x == length names) v.item vectors long v.among) in
+      let size : length v.item ≡ length names = eqb-true (length v.item) (length names) (all_in (λ (x : List Value). length x == length names) v.item vectors long v.among) in
       let fits : Fits all names v.item = placed all names v.item differ size (λ name among. first_allows names v.item all name v.passes (matched_in all names name matched among)) in
       let start : IsIn [] ([] ∷ []) = λ test passes. ap (λ b. b || false) passes in
       reached law all ([] ∷ []) names [] v.item start fits known
@@ -226,3 +224,7 @@ module _ (law : IsEqualWherePresent) (ties : TiesTheSame) (names : List (List �
   pub known_same : has_repeated names ≡ false → AreAsLong names vectors → AreMatched all names → list_any known (solved all ([] ∷ []) names) ≡ list_any (all_allow names all) vectors
   known_same differ long matched =
       same_bools (list_any known (solved all ([] ∷ []) names)) (list_any (all_allow names all) vectors) (known_allowed (solved all ([] ∷ []) names)) (allowed_known differ long matched)
+
+-- what is solved, where something was found
+pub solved_some : (all : List Allowed) (names : List (List ℕ)) (found : Option (List (List Value))) (listed : List (List Value)) → found ≡ Some listed → IfSome found (AreSolved all names) → AreSolved all names listed
+solved_some all names found listed is h = subst (λ (o : Option (List (List Value))). IfSome o (AreSolved all names)) is h

@@ -2,6 +2,8 @@
 
 ghost use Rattle.std.specs.Prelude.{◌≡◌, [], ◌∷◌, OnOk, length};
 ghost use Rattle.std.specs.List.{list_any};
+ghost use Rattle.ps_values.specs.declared.values.Value.{Value as ValueData};
+ghost use Rattle.ps_values.specs.Values.{compare_values};
 ghost use Rattle.ps_grant.specs.Solving.{all_allow, is_same, Gains};
 
 use crate::solving::{Allowed, all_allow as allow};
@@ -9,6 +11,11 @@ use ps_values::{Memory, Text, Value, compare_is_a_total_order};
 use std::alloc::Global;
 use std::collections::BTreeSet;
 use std::marker::Model;
+
+// A law: values are in the order that their comparison says.
+fn values_are_in_order()
+    ensures { (a b : ValueData) → ⟦<Value as Ord>⟧.cmp a b ≡ compare_values a b }
+{}
 
 /// Vectors of values, each once. Contracts see the list of them.
 #[derive(Drop)]
@@ -40,6 +47,7 @@ impl VectorSet {
         ensures { OnOk result (Gains self.old self.new (vector.items ∷ [])) }
     {
         compare_is_a_total_order();
+        values_are_in_order();
         self.known.insert(vector)?;
         Ok(())
     }
@@ -55,6 +63,7 @@ impl VectorSet {
     pub(crate) fn has(&self, vector: &[Value]) -> bool
         ensures { result ≡ list_any (is_same vector.now) self.now }
     {
+        values_are_in_order();
         self.known.contains(vector)
     }
 

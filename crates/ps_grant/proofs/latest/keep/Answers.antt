@@ -9,8 +9,8 @@ pub returns-then-has_later : goal.returns-then-has_later
 returns-then-has_later c =
     kept_as_is c.args.rows.now.entries (c.in_ok-copy.field-0, c.in_ok-copy-2.field-0) c.args.copy.now (λ i. (c.in_ok-copy.ensures i, c.in_ok-copy-2.ensures i)) (sym c.has_later.ensures ∙ c.if-has_later.true)
 
-pub returns-in_ok-insert : goal.returns-in_ok-insert
-returns-in_ok-insert c =
+pub returns : goal.returns
+returns c =
     let object : Key = (c.in_ok-copy.field-0, c.in_ok-copy-2.field-0) in
     kept_put c.args.rows.now.entries c.insert.new.self.entries object c.args.copy.now (λ i. (c.in_ok-copy.ensures i, c.in_ok-copy-2.ensures i))
     (c.in_ok-insert.ensures.entries ∙ ap (λ (v : Granted). insert_entry key_cmp c.args.rows.now.entries object v) c.in_ok-copy-3.ensures)

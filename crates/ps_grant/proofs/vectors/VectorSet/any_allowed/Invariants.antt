@@ -8,4 +8,4 @@ abbrev pub invariant-known : goal.invariant-known
 invariant-known l =
     (goal.iterator-known).can_next l.vector-iterator ×
     (goal.iterator-known).is_finite l.vector-iterator ×
-    (list_any (all_allow l.names l.all) (map (λ v. v.items) l.self-inside.known.keys) ≡ list_any (all_allow l.names l.all) (map (λ v. v.items) l.vector-iterator))
+    (list_any (all_allow l.names l.all) l.self ≡ list_any (all_allow l.names l.all) (map (λ v. v.items) l.vector-iterator))
