@@ -38,7 +38,7 @@ pub row_taken : {A : Type 0} (f : SourceRow → List A) (table : List ℕ) (rows
 row_taken f table rows i live within is here =
     ap (λ (xs : List LiveRow). flat_map f (filter (λ (r : SourceRow). bytes_eq r.table table) (rows_in (entries_of xs)))) (next_is rows i live within is)
     ∙ ap (λ b. flat_map f (cond b (row_of (entry_of live) ∷ filter (λ (r : SourceRow). bytes_eq r.table table) (rows_in (entries_of (drop (i + 1) rows))))
-      (filter (λ (r : SourceRow). bytes_eq r.table table) (rows_in (entries_of (drop (i + 1) rows)))))) here
+    (filter (λ (r : SourceRow). bytes_eq r.table table) (rows_in (entries_of (drop (i + 1) rows)))))) here
 
 -- a vector that has ended, or names that have
 pub no_names : (names : List (List ℕ)) (vector : List Value) (name : List ℕ) → length names < 1 → Null ≡ vector_at names vector name

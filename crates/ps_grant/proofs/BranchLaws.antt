@@ -266,7 +266,6 @@ module _ (law : IsEqualWherePresent) (free : VectorDoesNotMatter) (given : Given
 
   match_same : (m : Match) → has_parameter m.other ≡ false → allows at m ≡ allows_vector names vector (allowed_by given m)
   match_same m h = by m.listed where
-
     by : (b : Bool) → (if b then is_among (vector_at names vector m.name) (array_of (value_of at m.other)) else is_true (equal_sql (vector_at names vector m.name) (value_of at m.other)))
         ≡ list_any (is_equal_to (vector_at names vector m.name)) (if b then values_in (array_of (value_of given m.other)) else value_of given m.other ∷ [])
     by true = ap (λ (v : Value). is_among (vector_at names vector m.name) (array_of v)) (value_same m.other h) ∙ among_values law (vector_at names vector m.name) (array_of (value_of given m.other))

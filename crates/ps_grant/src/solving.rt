@@ -75,16 +75,16 @@ fn is_one_of(value: &Value, allowed: &[Value]) -> bool
 fn value_at<'a>(names: &[Text], vector: &'a [Value], name: &Text) -> Option<&'a Value>
     ensures { unwrap_or (option_map (λ value. value.now) result) Null ≡ vector_at names.now vector.now name.now }
 {
-    match (names, vector) {
-        ([first, others @ ..], [value, values @ ..]) => {
-            if first.equals(name) {
-                Some(value)
-            } else {
-                value_at(others, values, name)
-            }
-        }
-        _ => None,
+    let [first, others @ ..] = names else {
+        return None;
+    };
+    let [value, values @ ..] = vector else {
+        return None;
+    };
+    if first.equals(name) {
+        return Some(value);
     }
+    value_at(others, values, name)
 }
 
 // Whether a match allows a vector.

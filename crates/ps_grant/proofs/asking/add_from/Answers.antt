@@ -14,6 +14,6 @@ rows-preserved c =
     let left : List (List Value) = flat_map f (filter (λ (r : SourceRow). bytes_eq r.table c.args.table.now) (rows_in (entries_of (drop (c.rows.live-index + 1) c.args.rows.now)))) in
     let whole : List (List Value) = flat_map f (filter (λ (r : SourceRow). bytes_eq r.table c.args.table.now) (rows_in (entries_of (drop c.rows.live-index c.args.rows.now)))) in
     λ (test : List Value → Bool).
-      gain_step c.rows.vectors c.add_on.new.vectors (f (row_of (entry_of c.live-item.result))) whole left c.in_ok-add_on.ensures
-        (row_taken f c.args.table.now c.args.rows.now c.rows.live-index c.live-item.result c.rows-test.true c.live-item.is (sym c.equals.ensures.value ∙ c.if-not-equals.false)) test
-      ∙ c.rows.invariant test
+    gain_step c.rows.vectors c.add_on.new.vectors (f (row_of (entry_of c.live-item.result))) whole left c.in_ok-add_on.ensures
+    (row_taken f c.args.table.now c.args.rows.now c.rows.live-index c.live-item.result c.rows-test.true c.live-item.is (sym c.equals.ensures.value ∙ c.if-not-equals.false)) test
+    ∙ c.rows.invariant test

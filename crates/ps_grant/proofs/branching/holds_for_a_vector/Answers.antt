@@ -12,8 +12,8 @@ pub returns : goal.returns
 returns c =
     let given : List Value → Given = λ v. given_for (asker_of c.args.asker.now) c.args.names.now (at_row c.args.id.now c.args.row.now) v in
     subst (λ b. IfOk c.some_branch_is_met.result (λ held. held ≡ b))
-      (condition_by_branches c.conditions_hold_where_a_branch_is_met.ensures.same given c.args.planned.now.query.condition c.as_slice.result.now c.args.vectors.now (c.as_slice.ensures ∙ c.requires.sound.branches))
-      c.some_branch_is_met.ensures
+    (condition_by_branches c.conditions_hold_where_a_branch_is_met.ensures.same given c.args.planned.now.query.condition c.as_slice.result.now c.args.vectors.now (c.as_slice.ensures ∙ c.requires.sound.branches))
+    c.some_branch_is_met.ensures
 
 pub some_branch_is_met-requires-clause-unbound : goal.some_branch_is_met-requires-clause-unbound
 some_branch_is_met-requires-clause-unbound c =

@@ -18,9 +18,9 @@ returns-then-branch c =
     let given : List Value → Given = λ v. given_for (asker_of c.args.asker.now) c.args.names.now (at_row c.args.id.now c.args.row.now) v in
     let left : List Branch = drop (c.branches.branch-index + 1) c.args.branches.now in
     sym (c.branches.invariant.met
-      ∙ ap (λ (bs : List Branch). list_any (λ v. meets_some (given v) bs) c.args.vectors.now) (next_is c.args.branches.now c.branches.branch-index c.branch-item.result c.branches-test.true c.branch-item.is)
-      ∙ some_branch given c.branch-item.result left c.args.vectors.now
-      ∙ ap (λ b. b || list_any (λ v. meets_some (given v) left) c.args.vectors.now) (sym c.in_ok-branch_is_met.ensures ∙ c.if-branch.true))
+    ∙ ap (λ (bs : List Branch). list_any (λ v. meets_some (given v) bs) c.args.vectors.now) (next_is c.args.branches.now c.branches.branch-index c.branch-item.result c.branches-test.true c.branch-item.is)
+    ∙ some_branch given c.branch-item.result left c.args.vectors.now
+    ∙ ap (λ b. b || list_any (λ v. meets_some (given v) left) c.args.vectors.now) (sym c.in_ok-branch_is_met.ensures ∙ c.if-branch.true))
 
 pub branches-preserved : goal.branches-preserved
 branches-preserved c =
@@ -28,9 +28,9 @@ branches-preserved c =
     let left : List Branch = drop (c.branches.branch-index + 1) c.args.branches.now in
     record {
       met = c.branches.invariant.met
-        ∙ ap (λ (bs : List Branch). list_any (λ v. meets_some (given v) bs) c.args.vectors.now) (next_is c.args.branches.now c.branches.branch-index c.branch-item.result c.branches-test.true c.branch-item.is)
-        ∙ some_branch given c.branch-item.result left c.args.vectors.now
-        ∙ ap (λ b. b || list_any (λ v. meets_some (given v) left) c.args.vectors.now) (sym c.in_ok-branch_is_met.ensures ∙ c.if-branch.false);
+          ∙ ap (λ (bs : List Branch). list_any (λ v. meets_some (given v) bs) c.args.vectors.now) (next_is c.args.branches.now c.branches.branch-index c.branch-item.result c.branches-test.true c.branch-item.is)
+          ∙ some_branch given c.branch-item.result left c.args.vectors.now
+          ∙ ap (λ b. b || list_any (λ v. meets_some (given v) left) c.args.vectors.now) (sym c.in_ok-branch_is_met.ensures ∙ c.if-branch.false);
       unbound = holds_later c.args.branches.now c.branches.branch-index c.branch-item.result c.branches-test.true c.branch-item.is IsUnbound c.branches.invariant.unbound;
     }
 
@@ -38,5 +38,5 @@ pub returns : goal.returns
 returns c =
     let given : List Value → Given = λ v. given_for (asker_of c.args.asker.now) c.args.names.now (at_row c.args.id.now c.args.row.now) v in
     sym (c.branches.invariant.met
-      ∙ ap (λ (bs : List Branch). list_any (λ v. meets_some (given v) bs) c.args.vectors.now) (nothing_left c.args.branches.now c.branches.branch-index c.branches-test.false)
-      ∙ none_of c.args.vectors.now)
+    ∙ ap (λ (bs : List Branch). list_any (λ v. meets_some (given v) bs) c.args.vectors.now) (nothing_left c.args.branches.now c.branches.branch-index c.branches-test.false)
+    ∙ none_of c.args.vectors.now)
