@@ -38,7 +38,7 @@ use Rattle.powersync.specs.declared.replicas.Replica.{Replica}
 use Rattle.powersync.specs.ChangeFiles.{last_position, Rises}
 use Rattle.powersync.specs.Dues.{due}
 use Rattle.powersync.specs.OneForm.{user_query, is_owner, planned, definition_of, HasForm}
-use Rattle.powersync.specs.Operations.{unless_null, bucket_of, names, is_in, held_after, content_in, StandsFor}
+use Rattle.powersync.specs.Operations.{unless_null, bucket_of, names, is_in, content_in, StandsFor, AreHeld}
 use Rattle.powersync.proofs.Standing.{same_bytes}
 
 both : (a b : Bool) → T a → T b → T (a && b)
@@ -309,14 +309,17 @@ all_upto last top (t ∷ ts) h le =
 source_at_last : (ts : List Transaction) → Rises 0 ts → source_at ts (last_position 0 ts) ≡ after_transactions ts []
 source_at_last ts h = ap (λ xs. after_transactions xs []) (all_upto 0 (last_position 0 ts) ts h (omega arith))
 
--- rows in the order of type and id, of which there is one for each row that a client of the user's bucket holds, with its data, and no other, are those that are due
+as_test : (b : Bool) → b ≡ true → T b
+as_test true h = tt
+as_test false h = cc
+
+-- the rows that a client of the user's bucket holds are those that are due
 pub due_shown : (rules : RuleSet) (rule : Rule) (asker : Asker) (ts : List Transaction) (replica : Replica) (rows : List Shown) → HasForm rules rule → Rises 0 ts
-    → StandsFor rule replica (after_transactions ts []) → T (is_sorted key_cmp (by_object rows))
-    → ((kind id : List ℕ) → find key_cmp (kind, id) (by_object rows) ≡ cond (bytes_eq kind rule.table) (held_after (Text asker.user) id None replica.operations.items) None)
+    → StandsFor rule replica (after_transactions ts []) → AreHeld rule (Text asker.user) replica.operations.items rows
     → due rules asker ts (last_position 0 ts) ≡ rows
-due_shown rules rule asker ts replica rows has rises stands ordered found =
+due_shown rules rule asker ts replica rows has rises stands held =
     ap (λ source. rows_of (granted rules.definitions asker source)) (source_at_last ts rises)
     ∙ ap (λ definitions. rows_of (granted definitions asker (after_transactions ts []))) (has.alone ∙ ap (λ d. d ∷ []) has.form.is)
     ∙ ap rows_of (granted_are rule has.form.parameter has.form.number has.form.branches asker (after_transactions ts []))
-    ∙ shown_is_due rule asker.user has.form.number (after_transactions ts []) rows (sorted-after_transactions ts [] tt) ordered
-    (λ kind id. found kind id ∙ ap (λ held. cond (bytes_eq kind rule.table) held None) (stands.held (Text asker.user) id))
+    ∙ shown_is_due rule asker.user has.form.number (after_transactions ts []) rows (sorted-after_transactions ts [] tt) (as_test (is_sorted key_cmp (by_object rows)) held.in_order)
+    (λ kind id. held.found kind id ∙ ap (λ content. cond (bytes_eq kind rule.table) content None) (stands.held (Text asker.user) id))

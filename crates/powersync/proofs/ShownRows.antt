@@ -9,23 +9,15 @@ use Rattle.ps_bucket_log.specs.declared.ops.Op.TheVariants.{Put, Remove, Move, C
 use Rattle.ps_bucket_log.specs.Ops.{same_key, upto}
 use Rattle.ps_bucket_log.specs.Buckets.{Bucket, after, fresh, bucket_of}
 use Rattle.ps_changes.specs.declared.shown.Shown.{Shown}
-use Rattle.ps_changes.specs.declared.changes.Transaction.{Transaction}
-use Rattle.ps_changes.specs.Source.{Key as Object, after_transactions}
+use Rattle.ps_changes.specs.Source.{Key as Object}
 use Rattle.ps_client_log.specs.Kept.{Kept, bucket_at}
-use Rattle.ps_client_log.specs.Rows.{HeldCopy, Holds, object_of, IsLatestContent, AreInOrder, row_at}
+use Rattle.ps_client_log.specs.Rows.{HeldCopy, Holds, object_of, IsLatestContent, row_at}
 use Rattle.ps_client_log.specs.Rows as copies
 use Rattle.powersync.specs.declared.one_forms.Rule.{Rule}
 use Rattle.powersync.specs.declared.replicas.Operation.{Operation}
-use Rattle.powersync.specs.declared.replicas.Replica.{Replica}
-use Rattle.powersync.specs.ChangeFiles.{last_position, Rises}
-use Rattle.ps_rules.specs.RuleSets.{RuleSet}
-use Rattle.ps_sql.specs.Meaning.{Asker}
-use Rattle.powersync.specs.Dues.{due}
-use Rattle.powersync.specs.OneForm.{HasForm}
-use Rattle.powersync.specs.Operations.{held_after, StandsFor}
+use Rattle.powersync.specs.Operations.{held_after}
 use Rattle.powersync.specs.Logs.{key_of, content_of}
 use Rattle.powersync.specs.Sessions.{HoldsLog}
-use Rattle.powersync.proofs.Dues.{due_shown}
 use Rattle.powersync.proofs.Standing.{same_bytes}
 
 -- ---- what is held is a PUT
@@ -37,8 +29,8 @@ HasContent op = content_of (Some op) ≡ Some (copies.content_of op)
 abbrev AreContents : Bucket → Type 0
 AreContents state = (key : Key) (op : Op) → state.held key ≡ Some op → HasContent op
 
-same_op : {P : Op → Type 0} (a b : Op) → Some a ≡ Some b → P a → P b
-same_op a b h p = let e : a ≡ b = cc in subst P e p
+same_op : (a b : Op) → Some a ≡ Some b → HasContent a → HasContent b
+same_op a b h p = let e : a ≡ b = cc in subst HasContent e p
 
 put_or : (state : Bucket) (key : Key) (put op : Op) (t : Bool) → AreContents state → HasContent put → cond t (Some put) (state.held key) ≡ Some op → HasContent op
 put_or state key put op true are is h = same_op put op h is
@@ -60,12 +52,16 @@ contents_of (op ∷ ops) state are = contents_of ops (after state op) (contents_
 
 -- ---- one bucket's rows
 
+not_some : (o : Option (List ℕ)) → o ≡ None → IsSome o → ⊥
+not_some None none some = let wrong : false ≡ true = some in cc
+not_some (Some x) none some = let wrong : Some x ≡ None = none in cc
+
 held_nowhere : (kept : Kept) (name : List ℕ) (key : Key) → kept.bucket name ≡ None → (bucket_at kept name).held key ≡ None
 held_nowhere kept name key none = rw none refl
 
-module _ (rules : RuleSet) (rule : Rule) (asker : Asker) (name : List ℕ) (has : HasForm rules rule) (operations : List Operation) (log : List Op) (last : ℕ) (kept : Kept) (rows : List Shown)
+module _ (rule : Rule) (user name : List ℕ) (operations : List Operation) (log : List Op) (last : ℕ) (kept : Kept) (rows : List Shown)
     (holds : HoldsLog kept name log last) (within : upto last log ≡ log)
-    (data : (id : List ℕ) → content_of ((bucket_of log).held (key_of rule id)) ≡ held_after (Text asker.user) id None operations)
+    (leaves : (id : List ℕ) → content_of ((bucket_of log).held (key_of rule id)) ≡ held_after (Text user) id None operations)
     (alone : (key : Key) → (bucket_of log).held key ≢ None → key ≡ key_of rule key.id)
     (latest : (object : Object) → IfSome (row_at object rows) (IsLatestContent kept object))
     (all : (copy : HeldCopy) → Holds kept copy → IsSome (row_at (object_of copy) rows)) where
@@ -82,20 +78,20 @@ module _ (rules : RuleSet) (rule : Rule) (asker : Asker) (name : List ℕ) (has 
 
   -- a copy of an object is the row of the rule's table with its id
   copied : (copy : HeldCopy) (kind id : List ℕ) → Holds kept copy → object_of copy ≡ (kind, id)
-      → cond (bytes_eq kind rule.table) (held_after (Text asker.user) id None operations) None ≡ Some (copies.content_of copy.put)
+      → cond (bytes_eq kind rule.table) (held_after (Text user) id None operations) None ≡ Some (copies.content_of copy.put)
   copied copy kind id h object =
       let here = in_bucket copy (bytes_eq name copy.bucket) refl h in
       let key = of_rule copy.key copy.put here in
       let table : rule.table ≡ kind = sym (ap (λ k. k.kind) key) ∙ ap (λ o. o.0) object in
       let row : copy.key.id ≡ id = ap (λ o. o.1) object in
-      ap (λ t. cond t (held_after (Text asker.user) id None operations) None) (subst (λ k. bytes_eq k rule.table ≡ true) table (nat_list_eq_equiv.refl rule.table))
-      ∙ sym (data id)
+      ap (λ t. cond t (held_after (Text user) id None operations) None) (subst (λ k. bytes_eq k rule.table ≡ true) table (nat_list_eq_equiv.refl rule.table))
+      ∙ sym (leaves id)
       ∙ ap (λ i. content_of ((bucket_of log).held (key_of rule i))) (sym row)
       ∙ ap (λ k. content_of ((bucket_of log).held k)) (sym key)
       ∙ ap content_of here
       ∙ contents_of log fresh (λ key op none. cc) copy.key copy.put here
 
-  row_there : (kind id : List ℕ) (content : List ℕ) → IsLatestContent kept (kind, id) content → Some content ≡ cond (bytes_eq kind rule.table) (held_after (Text asker.user) id None operations) None
+  row_there : (kind id : List ℕ) (content : List ℕ) → IsLatestContent kept (kind, id) content → Some content ≡ cond (bytes_eq kind rule.table) (held_after (Text user) id None operations) None
   row_there kind id content is = ap Some (sym is.3) ∙ sym (copied is.0 kind id is.1.held is.2)
 
   -- where there is no row, nothing is held
@@ -104,20 +100,12 @@ module _ (rules : RuleSet) (rule : Rule) (asker : Asker) (name : List ℕ) (has 
   nothing_held kind id (Some put) none e h =
       let copy : HeldCopy = record { bucket = name; key = key_of rule id; put = put } in
       let there : IsSome (row_at (rule.table, id) rows) = all copy (left (key_of rule id) ∙ h) in
-      let wrong : IsSome {A = List ℕ} None = subst IsSome none (subst (λ k. IsSome (row_at (k, id) rows)) (sym (same_bytes kind rule.table e)) there) in
-      absurd wrong
+      absurd (not_some (row_at (kind, id) rows) none (subst (λ k. IsSome (row_at (k, id) rows)) (sym (same_bytes kind rule.table e)) there))
 
-  no_row : (kind id : List ℕ) (t : Bool) → bytes_eq kind rule.table ≡ t → row_at (kind, id) rows ≡ None → None ≡ cond t (held_after (Text asker.user) id None operations) None
-  no_row kind id true e none = sym (nothing_held kind id ((bucket_of log).held (key_of rule id)) none e refl) ∙ data id
+  no_row : (kind id : List ℕ) (t : Bool) → bytes_eq kind rule.table ≡ t → row_at (kind, id) rows ≡ None → None ≡ cond t (held_after (Text user) id None operations) None
+  no_row kind id true e none = sym (nothing_held kind id ((bucket_of log).held (key_of rule id)) none e refl) ∙ leaves id
   no_row kind id false e none = refl
 
-  row_is : (kind id : List ℕ) (o : Option (List ℕ)) → row_at (kind, id) rows ≡ o → o ≡ cond (bytes_eq kind rule.table) (held_after (Text asker.user) id None operations) None
+  pub row_is : (kind id : List ℕ) (o : Option (List ℕ)) → row_at (kind, id) rows ≡ o → o ≡ cond (bytes_eq kind rule.table) (held_after (Text user) id None operations) None
   row_is kind id (Some content) h = row_there kind id content (subst (λ o. IfSome o (IsLatestContent kept (kind, id))) h (latest (kind, id)))
   row_is kind id None h = no_row kind id (bytes_eq kind rule.table) refl h
-
-  -- so the rows in order are those that are due
-  pub rows_due : (ts : List Transaction) (replica : Replica) → Rises 0 ts → StandsFor rule replica (after_transactions ts [])
-      → replica.operations.items ≡ operations → AreInOrder rows → due rules asker ts (last_position 0 ts) ≡ rows
-  rows_due ts replica rises stands same ordered =
-      due_shown rules rule asker ts replica rows has rises stands ordered
-      (λ kind id. row_is kind id (row_at (kind, id) rows) refl ∙ ap (λ ops. cond (bytes_eq kind rule.table) (held_after (Text asker.user) id None ops) None) (sym same))

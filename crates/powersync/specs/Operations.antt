@@ -9,7 +9,9 @@ use Rattle.ps_values.specs.declared.values.Value.{Value}
 use Rattle.ps_values.specs.declared.values.Value.TheVariants.{Null, Int, Text}
 use Rattle.ps_values.specs.Values.{equal_sql}
 use Rattle.ps_values.specs.Documents.{document_of}
+use Rattle.ps_changes.specs.declared.shown.Shown.{Shown}
 use Rattle.ps_changes.specs.Source.{key_cmp, Source}
+use Rattle.ps_client_log.specs.Rows.{AreInOrder, row_at}
 use Rattle.powersync.specs.declared.one_forms.Rule.{Rule}
 use Rattle.powersync.specs.declared.replicas.Operation.{Operation}
 use Rattle.powersync.specs.declared.replicas.Operation.TheVariants.{Put, Remove}
@@ -80,3 +82,10 @@ row_content id (Some columns) = document_of id columns
 pub record Writes (rule : Rule) (id : List ℕ) (row : Option (List Column)) (old new : Replica) : Type 0 where
   pub logged : new.operations.items ≡ (old.operations.items ++ removal (get (slice_cmp nat_cmp) old.live id) (row_bucket rule id row) id) ++ arrival (row_bucket rule id row) id (row_content id row)
   pub lives : (q : List ℕ) → get (slice_cmp nat_cmp) new.live q ≡ (if is_eq (slice_cmp nat_cmp id q) then row_bucket rule id row else get (slice_cmp nat_cmp) old.live q)
+
+-- ---- rows of a bucket
+
+-- rows in the order of type and id: of the rule's table the one of each id that a client of the bucket holds after the operations, and no others
+pub record AreHeld (rule : Rule) (bucket : Value) (operations : List Operation) (rows : List Shown) : Type 0 where
+  pub in_order : AreInOrder rows
+  pub found : (kind id : List ℕ) → row_at (kind, id) rows ≡ (if bytes_eq kind rule.table then held_after bucket id None operations else None)

@@ -1,4 +1,5 @@
 ghost use Rattle.std.specs.Prelude.{◌≡◌, IfOk, option_map, option_and_then, codes};
+ghost use Rattle.serde_json.specs.Find.{get};
 ghost use Rattle.serde_json.specs.View.{view};
 ghost use Rattle.ps_sql_eval.specs.Evaluated.{asker_of};
 ghost use Rattle.powersync.specs.Claims.{plain_text as plain_text_of, parameters_text as parameters_text_of, client_id as client_id_of, asker_in as asker_in_json, asker_of_claims};
@@ -17,10 +18,10 @@ fn plain_text(alloc: Global, json: &Json) -> Result<Text, Memory>
 }
 
 // The parameters' text, `{}` where they are missing; None where they are no object.
-fn parameters_text(alloc: Global, parameters: Option<&Json>) -> Result<Option<Text>, Memory>
-    ensures { IfOk result (λ text. text ≡ parameters_text_of (option_map (λ json. view json.now) parameters)) }
+fn parameters_text(alloc: Global, claims: &Json) -> Result<Option<Text>, Memory>
+    ensures { IfOk result (λ text. text ≡ parameters_text_of (get (codes "parameters") (view claims.now))) }
 {
-    match parameters {
+    match claims.get("parameters") {
         None => Ok(Some(Text::from_str(alloc, "{}")?)),
         Some(json) if json.is_object() => Ok(Some(plain_text(alloc, json)?)),
         Some(_) => Ok(None),
@@ -28,10 +29,10 @@ fn parameters_text(alloc: Global, parameters: Option<&Json>) -> Result<Option<Te
 }
 
 // The client's id, if it has one; None where it is no text.
-fn client_id(alloc: Global, id: Option<&Json>) -> Result<Option<Option<Text>>, Memory>
-    ensures { IfOk result (λ client. client ≡ client_id_of (option_map (λ json. view json.now) id)) }
+fn client_id(alloc: Global, claims: &Json) -> Result<Option<Option<Text>>, Memory>
+    ensures { IfOk result (λ client. client ≡ client_id_of (get (codes "client_id") (view claims.now))) }
 {
-    let Some(id) = id else {
+    let Some(id) = claims.get("client_id") else {
         return Ok(Some(None));
     };
     let Some(id) = id.as_str() else {
@@ -49,10 +50,10 @@ fn asker_in(alloc: Global, json: &Json) -> Result<Option<Asker>, Memory>
     let Some(user) = token.get("sub").and_then(Json::as_str) else {
         return Ok(None);
     };
-    let Some(parameters) = parameters_text(alloc, json.get("parameters"))? else {
+    let Some(parameters) = parameters_text(alloc, json)? else {
         return Ok(None);
     };
-    let Some(client) = client_id(alloc, json.get("client_id"))? else {
+    let Some(client) = client_id(alloc, json)? else {
         return Ok(None);
     };
     Ok(Some(Asker {

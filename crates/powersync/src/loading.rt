@@ -1,9 +1,9 @@
 ghost use Rattle.std.specs.Prelude.{◌≡◌, ◌≤◌, ◌<◌, ◌^◌, length};
 ghost use Rattle.powersync.specs.Loading.{Loads, IsContent, RefusesNothing, FindsRules, IsRulesFault, FindsAsker, IsClaimsFault, FindsRows, RefusesLine, Prepares};
 
+use crate::answering::due_rows;
 use crate::change_files::read_transactions;
 use crate::claims::read_claims;
-use crate::dues::due_rows;
 use crate::faults::Fault;
 use crate::printing::print_rows;
 use crate::rules_faults::read_rules_file;

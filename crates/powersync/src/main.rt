@@ -1,11 +1,11 @@
 //! The program `powersync`: docs/FORMATS.md has its commands, and docs/CLAIMS.md what is proved of them.
 #![tactic(auto)]
 
+mod answering;
 mod change_files;
 mod checking;
 mod checkpoints;
 mod claims;
-mod dues;
 mod faults;
 mod loading;
 mod logs;

@@ -1,4 +1,4 @@
-ghost use Rattle.std.specs.Prelude.{◌≡◌, IfSome, IfOk};
+ghost use Rattle.std.specs.Prelude.{◌≡◌, ◌∷◌, [], IfSome, IfOk};
 ghost use Rattle.powersync.specs.OneForm.{user_query, is_owner, owned_rows, IsRule, HasForm};
 
 use ps_rules::{Definition, Rules};
@@ -60,29 +60,41 @@ fn owner_column<'a>(query: &'a DataQuery, parameter: &Text) -> Option<&'a Text>
     compared_column(query.condition.as_ref()?, parameter)
 }
 
+// The one item of a list.
+fn only<T>(items: &[T]) -> Option<&T>
+    ensures { IfSome result (λ item. items.now ≡ item.now ∷ []) }
+{
+    match items {
+        [item] => Some(item),
+        _ => None,
+    }
+}
+
 // The rule that a definition is, if it has the form.
 fn rule_of(alloc: Global, definition: &Definition) -> Result<Option<Rule>, Memory>
     ensures { IfOk result (λ found. IfSome found (λ rule. IsRule definition.now rule)) }
 {
-    let ([name], [parameters], [query]) = (
-        definition.names.as_slice(),
-        definition.parameters.as_slice(),
-        definition.queries.as_slice(),
-    ) else {
+    let Some(name) = only(definition.names.as_slice()) else {
         return Ok(None);
     };
-    let Some(parameter) = user_parameter(parameters) else {
+    let Some(asked) = only(definition.parameters.as_slice()) else {
+        return Ok(None);
+    };
+    let Some(planned) = only(definition.queries.as_slice()) else {
+        return Ok(None);
+    };
+    let Some(parameter) = user_parameter(asked) else {
         return Ok(None);
     };
     if !name.equals(parameter) {
         return Ok(None);
     }
-    let Some(column) = owner_column(&query.query, parameter) else {
+    let Some(column) = owner_column(&planned.query, parameter) else {
         return Ok(None);
     };
     Ok(Some(Rule {
         name: definition.name.copy(alloc)?,
-        table: query.query.table.copy(alloc)?,
+        table: planned.query.table.copy(alloc)?,
         column: column.copy(alloc)?,
     }))
 }

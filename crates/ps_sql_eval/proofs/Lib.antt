@@ -1,5 +1,5 @@
 mod Calls
-mod Elements
+mod ArrayItems
 mod Floats
 mod Parts
 mod Searches

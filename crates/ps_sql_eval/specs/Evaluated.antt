@@ -1,6 +1,7 @@
 -- The value of an expression that is computed, by the meaning of queries.
-use Rattle.std.specs.Prelude.{◌≡◌, ℕ, List, Option, None}
-use Rattle.serde_json.specs.Data.{Data}
+use Rattle.std.specs.Prelude.{◌≡◌, ℕ, List, [], ◌∷◌, Option, Some, None}
+use Rattle.serde_json.specs.Data.{Data, Items, no_items, item}
+use Rattle.ps_values.specs.Conversions.{value_of as json_value}
 use Rattle.ps_sql.specs.Json.{plain_json}
 use Rattle.ps_values.specs.declared.columns.Column.{Column}
 use Rattle.ps_values.specs.declared.values.Value.{Value}
@@ -35,3 +36,13 @@ abbrev pub json_in : Value → Option Data
 json_in Null = None
 json_in (Int n) = None
 json_in (Text t) = plain_json t
+
+-- the values of JSON, one by one
+abbrev pub values_of_items : Items → List Value
+values_of_items no_items = []
+values_of_items (item d ds) = json_value d ∷ values_of_items ds
+
+-- the values of an array's elements; none where there is no array
+abbrev pub values_in : Option Items → List Value
+values_in None = []
+values_in (Some ds) = values_of_items ds

@@ -46,6 +46,20 @@ pub fn eval_request(
     eval(alloc, expr, asker, id, row)
 }
 
+/// The value of any expression for an asker, on a row, where every parameter of a bucket is Null. That is its value for
+/// every bucket where no parameter stands in it.
+pub fn eval_without_bucket(
+    alloc: Global,
+    expr: &Expr,
+    asker: &Asker,
+    id: &Text,
+    row: &Row,
+) -> Result<Value, Memory>
+    ensures { IfOk result (λ value. value ≡ value_of (without_bucket asker.now id.now row.now) expr.now) }
+{
+    eval(alloc, expr, asker, id, row)
+}
+
 /// The value of an expression, with Null for each parameter of a bucket.
 #[cycle(evaluating)]
 fn eval(alloc: Global, expr: &Expr, asker: &Asker, id: &Text, row: &Row) -> Result<Value, Memory>

@@ -1,6 +1,7 @@
 //! The value of an expression, on a row or for a query's asker: docs/FORMATS.md, "Queries".
 #![tactic(auto)]
 
+mod arrays;
 mod askers;
 mod columns;
 mod evaluations;
@@ -8,5 +9,6 @@ mod members;
 mod texts;
 mod truths;
 
+pub use arrays::elements;
 pub use askers::Asker;
-pub use evaluations::{eval_request, eval_row};
+pub use evaluations::{eval_request, eval_row, eval_without_bucket};

@@ -12,7 +12,7 @@ use serde_json::Value as Json;
 use std::alloc::Global;
 
 /// The value that plain JSON is.
-fn value_of_plain(alloc: Global, json: &Json) -> Result<Value, Memory>
+pub(crate) fn value_of_plain(alloc: Global, json: &Json) -> Result<Value, Memory>
     requires { has_float (view json.now) ≡ false }
     ensures { IfOk result (λ value. value ≡ value_of_data (view json.now)) }
 {
@@ -43,7 +43,7 @@ fn any_equals(alloc: Global, x: &Value, items: &Vec<Json>) -> Result<bool, Memor
 
 /// The JSON that a text holds; none where the value is no text, or its text no JSON.
 #[tactic(auto, unfolding(ps_sql::specs::Json::plain_json))]
-fn json_of(alloc: Global, value: &Value) -> Result<Option<Json>, Memory>
+pub(crate) fn json_of(alloc: Global, value: &Value) -> Result<Option<Json>, Memory>
     ensures json { IfOk result (λ json. option_map view json ≡ json_in value.now) }
     ensures floatless { IfOk result (λ json. IfSome json (λ json. has_float (view json) ≡ false)) }
 {

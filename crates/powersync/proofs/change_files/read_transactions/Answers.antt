@@ -1,11 +1,17 @@
-use Rattle.std.proofs.Common.{sym, ◌∙◌}
+use Rattle.std.proofs.Common.{sym, ◌∙◌, ◌+◌, subst, List}
+use Rattle.ps_changes.specs.declared.changes.Transaction.{Transaction}
+use Rattle.powersync.specs.ReadingChanges.{HasRead}
 use Rattle.powersync.proofs.Reaching.{started_reading, read_more}
 use Rattle.powersync.proofs.change_files.read_transactions.Goals as goal
 
 pub lines-init : goal.lines-init
-lines-init c = started_reading c.args.changes
+lines-init c = rw c.new-transactions.ensures.items (started_reading c.args.changes)
 
 pub lines-preserved : goal.lines-preserved
 lines-preserved c =
-    read_more c.args.changes.now c.lines.number c.lines.last c.in-Some.bytes c.split_line.result.0.now c.split_line.result.1 c.lines.transactions.items c.in_ok-transaction.transaction
-    (rw c.in-Some.is at c.lines.invariant) c.split_line.ensures (sym c.is_blank.ensures ∙ c.if-is_blank.false) c.in_ok-transaction.ensures
+    subst (λ (ts : List Transaction). HasRead c.args.changes.now (c.lines.number + 1) c.in_ok-transaction.transaction.position.0 c.split_line.result.1 ts) (sym c.in_ok-push.ensures)
+    (read_more c.args.changes.now c.lines.number c.lines.last c.in-Some.bytes c.split_line.result.0.now c.split_line.result.1 c.lines.transactions.items c.in_ok-transaction.transaction
+    (rw c.in-Some.is at c.lines.invariant) c.split_line.ensures (sym c.is_blank.ensures ∙ c.if-is_blank.false) c.in_ok-transaction.ensures)
+
+pub returns-clause-rising : goal.returns-clause-rising
+returns-clause-rising c = ?

@@ -4,7 +4,7 @@ use Rattle.powersync.proofs.checking.print_check.Given as goal
 
 -- what is printed so far, and then the lines that are left
 abbrev pub invariant-definitions : goal.invariant-definitions
-invariant-definitions l = l.out.items ++ flat_map definition_line (drop l.definition-index l.definitions.result.now) ≡ flat_map definition_line l.rules.definitions
+invariant-definitions l = l.out.items ++ flat_map definition_line (drop l.definition-index l.definition-items) ≡ flat_map definition_line l.rules.definitions
 
 abbrev pub invariant-warnings : goal.invariant-warnings
-invariant-warnings l = l.out.items ++ flat_map warning_line (drop l.warning-index l.warnings.result.now) ≡ check_text l.rules
+invariant-warnings l = l.out.items ++ flat_map warning_line (drop l.warning-index l.warning-items) ≡ check_text l.rules

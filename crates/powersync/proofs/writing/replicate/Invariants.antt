@@ -1,4 +1,4 @@
-use Rattle.std.proofs.Common.{[]}
+use Rattle.std.proofs.Common.{◌≡◌, []}
 use Rattle.ps_changes.specs.Source.{Source, after_transactions}
 use Rattle.powersync.specs.Operations.{StandsFor}
 use Rattle.powersync.proofs.writing.replicate.Given as goal

@@ -1,5 +1,5 @@
 use Rattle.std.proofs.Common.{drop}
-use Rattle.ps_sql_eval.proofs.Elements.{LeavesItems}
+use Rattle.ps_sql_eval.proofs.ArrayItems.{LeavesItems}
 use Rattle.ps_sql_eval.proofs.members.any_equals.Given as goal
 
 abbrev pub invariant-items : goal.invariant-items

@@ -1,0 +1,10 @@
+pub mod AskLaws
+pub mod BranchLaws
+pub mod EntryLaws
+pub mod ExtendLaws
+pub mod GainLaws
+pub mod GrantLaws
+pub mod KeptLaws
+pub mod SolveLaws
+pub mod StepLaws
+pub mod VectorLaws

@@ -1,0 +1,7 @@
+pub mod Grants
+pub mod Latest
+pub mod Mapped
+pub mod Objects
+pub mod Solving
+pub mod Sources
+pub mod Types

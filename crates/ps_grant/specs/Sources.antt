@@ -1,0 +1,24 @@
+-- The rows of a source.
+use Rattle.std.specs.Prelude.{ℕ, List, [], map}
+use Rattle.ps_values.specs.declared.columns.Column.{Column}
+use Rattle.ps_changes.specs.Source.{Key, Version, Source}
+use Rattle.ps_rules.specs.Vectors.{SourceRow}
+use Rattle.ps_grant.specs.declared.live_rows.LiveRow.{LiveRow}
+
+-- a live row as an entry of the source: its table and id, and how its last change left it
+abbrev pub entry_of : LiveRow → Key × Version
+entry_of live = ((live.table, live.id), record { columns = live.row; position = live.position.0; index = live.index })
+
+abbrev pub entries_of : List LiveRow → Source
+entries_of rows = map entry_of rows
+
+-- an entry of the source as queries read it
+abbrev pub row_of : Key × Version → SourceRow
+row_of entry = record { table = entry.0.0; id = entry.0.1; row = entry.1.columns }
+
+abbrev pub rows_in : Source → List SourceRow
+rows_in source = map row_of source
+
+-- a row of no table
+abbrev pub at_row : List ℕ → List Column → SourceRow
+at_row id row = record { table = []; id = id; row = row }

@@ -1,0 +1,243 @@
+//! The copies that rules grant to an asker.
+
+ghost use Rattle.std.specs.Prelude.{◌≡◌, ◌++◌, [], IfOk, OnOk, flat_map, unwrap_or, false, if◌then◌else◌};
+ghost use Rattle.std.specs.List.{AllByRecursion};
+ghost use Rattle.ps_values.specs.declared.values.Value.{Value as ValueData};
+ghost use Rattle.ps_sql.specs.Meaning.{text_of};
+ghost use Rattle.ps_rules.specs.Names.{has_repeated};
+ghost use Rattle.ps_rules.specs.RuleSets.{IsSound, IsSoundQuery};
+ghost use Rattle.ps_sql_eval.specs.Evaluated.{asker_of, without_bucket};
+ghost use Rattle.ps_grant.specs.Grants.{copy_of, grant_of, granted_by_query, granted_by, granted};
+ghost use Rattle.ps_grant.specs.Objects.{written_id, object_id, output_columns};
+ghost use Rattle.ps_grant.specs.Solving.{AreAsLong};
+ghost use Rattle.ps_grant.specs.Sources.{entries_of, entry_of};
+
+use crate::asking::vectors_of;
+use crate::branching::holds_for_a_vector;
+use crate::vectors::VectorSet;
+use crate::{Granted, LiveRow, SourceRows};
+use ps_changes::Row;
+use ps_rules::{Definition, Planned, Rules};
+use ps_sql::{DataQuery, Output};
+use ps_sql_eval::{Asker, eval_without_bucket};
+use ps_values::{Column, Items, Memory, Text, Value, decimal, document};
+use std::alloc::Global;
+
+// The value of the output `id` as it is written; none where it is not.
+fn written_id_value(
+    alloc: Global,
+    outputs: &[Output],
+    asker: &Asker,
+    id: &Text,
+    row: &Row,
+) -> Result<Option<Value>, Memory>
+    ensures { IfOk result (λ value. (other : ValueData) → unwrap_or value other ≡ written_id (without_bucket asker.now id.now row.now) outputs.now other) }
+{
+    'outputs: for output in outputs {
+        if output.name.as_str() == "id" {
+            return Ok(Some(eval_without_bucket(alloc, &output.expr, asker, id, row)?));
+        }
+    }
+    Ok(None)
+}
+
+// The text of a value; none where it is Null.
+fn text_of_value(alloc: Global, value: Value) -> Result<Option<Text>, Memory>
+    ensures { IfOk result (λ text. text ≡ text_of value) }
+{
+    match value {
+        Value::Null => Ok(None),
+        Value::Int(number) => Ok(Some(decimal(alloc, number)?)),
+        Value::Text(text) => Ok(Some(text)),
+    }
+}
+
+// The id of the object that a data query makes of a row.
+fn id_of_object(
+    alloc: Global,
+    query: &DataQuery,
+    asker: &Asker,
+    id: &Text,
+    row: &Row,
+) -> Result<Option<Text>, Memory>
+    ensures { IfOk result (λ found. found ≡ object_id (without_bucket asker.now id.now row.now) query.now) }
+{
+    match written_id_value(alloc, query.outputs.as_slice(), asker, id, row)? {
+        Some(value) => text_of_value(alloc, value),
+        None => {
+            if query.star {
+                Ok(Some(id.copy(alloc)?))
+            } else {
+                Ok(None)
+            }
+        }
+    }
+}
+
+// The columns that `*` gives.
+fn columns_of_star(alloc: Global, query: &DataQuery, row: &Row) -> Result<Items<Column>, Memory>
+    ensures { IfOk result (λ columns. columns ≡ (if query.now.star then row.now else [])) }
+{
+    let mut columns = Items::new(alloc);
+    if !query.star {
+        return Ok(columns);
+    }
+    'columns: for column in row.columns() {
+        let name = column.name.copy(alloc)?;
+        let value = column.value.copy(alloc)?;
+        columns.push(Column { name, value })?;
+    }
+    Ok(columns)
+}
+
+// All columns of the object that a data query makes of a row.
+fn columns_of_object(
+    alloc: Global,
+    query: &DataQuery,
+    asker: &Asker,
+    id: &Text,
+    row: &Row,
+) -> Result<Items<Column>, Memory>
+    ensures { IfOk result (λ columns. columns ≡ output_columns (without_bucket asker.now id.now row.now) query.now) }
+{
+    let mut columns = columns_of_star(alloc, query, row)?;
+    'outputs: for output in query.outputs.as_slice() {
+        let name = output.name.copy(alloc)?;
+        let value = eval_without_bucket(alloc, &output.expr, asker, id, row)?;
+        columns.push(Column { name, value })?;
+    }
+    Ok(columns)
+}
+
+// The copy that a data query makes of a row; none where the object has no id.
+fn copy_on(
+    alloc: Global,
+    planned: &Planned,
+    asker: &Asker,
+    live: &LiveRow,
+) -> Result<Option<Granted>, Memory>
+    ensures { IfOk result (λ copy. copy ≡ copy_of (asker_of asker.now) planned.now (entry_of live.now)) }
+{
+    let Some(id) = id_of_object(alloc, &planned.query, asker, &live.id, &live.row)? else {
+        return Ok(None);
+    };
+    let columns = columns_of_object(alloc, &planned.query, asker, &live.id, &live.row)?;
+    let content = document(alloc, &id, columns.as_slice())?;
+    Ok(Some(Granted {
+        kind: planned.query.kind.copy(alloc)?,
+        id,
+        content,
+        position: live.position,
+        index: live.index,
+        number: planned.number,
+    }))
+}
+
+// The copy of a row that is granted by a data query, if there is one.
+fn grant_on(
+    alloc: Global,
+    planned: &Planned,
+    vectors: &VectorSet,
+    names: &[Text],
+    asker: &Asker,
+    live: &LiveRow,
+) -> Result<Option<Granted>, Memory>
+    requires long { AreAsLong names.now vectors.now }
+    requires differ { has_repeated names.now ≡ false }
+    requires sound { IsSoundQuery names.now planned.now }
+    ensures { IfOk result (λ copy. copy ≡ grant_of (asker_of asker.now) names.now vectors.now planned.now (entry_of live.now)) }
+{
+    if !live.table.equals(&planned.query.table) {
+        return Ok(None);
+    }
+    if !holds_for_a_vector(alloc, planned, vectors, names, asker, &live.id, &live.row)? {
+        return Ok(None);
+    }
+    copy_on(alloc, planned, asker, live)
+}
+
+// Puts the copies of a data query behind others.
+fn grant_query(
+    alloc: Global,
+    copies: &mut Items<Granted>,
+    planned: &Planned,
+    vectors: &VectorSet,
+    names: &[Text],
+    asker: &Asker,
+    rows: &[LiveRow],
+) -> Result<(), Memory>
+    requires long { AreAsLong names.now vectors.now }
+    requires differ { has_repeated names.now ≡ false }
+    requires sound { IsSoundQuery names.now planned.now }
+    ensures { OnOk result (copies.new ≡ copies.old ++ granted_by_query (asker_of asker.now) names.now vectors.now (entries_of rows.now) planned.now) }
+{
+    'rows: for live in rows {
+        let Some(copy) = grant_on(alloc, planned, vectors, names, asker, live)? else {
+            continue;
+        };
+        copies.push(copy)?;
+    }
+    Ok(())
+}
+
+// Puts the copies of data queries behind others.
+fn grant_queries(
+    alloc: Global,
+    copies: &mut Items<Granted>,
+    queries: &[Planned],
+    vectors: &VectorSet,
+    names: &[Text],
+    asker: &Asker,
+    rows: &[LiveRow],
+) -> Result<(), Memory>
+    requires long { AreAsLong names.now vectors.now }
+    requires differ { has_repeated names.now ≡ false }
+    requires sound { AllByRecursion (IsSoundQuery names.now) queries.now }
+    ensures { OnOk result (copies.new ≡ copies.old ++ flat_map (granted_by_query (asker_of asker.now) names.now vectors.now (entries_of rows.now)) queries.now) }
+{
+    'queries: for planned in queries {
+        grant_query(alloc, copies, planned, vectors, names, asker, rows)?;
+    }
+    Ok(())
+}
+
+// Puts the copies of a definition behind others.
+fn grant_definition(
+    alloc: Global,
+    copies: &mut Items<Granted>,
+    definition: &Definition,
+    asker: &Asker,
+    rows: &[LiveRow],
+) -> Result<(), Memory>
+    requires { IsSound definition.now }
+    ensures { OnOk result (copies.new ≡ copies.old ++ granted_by (asker_of asker.now) (entries_of rows.now) definition.now) }
+{
+    let vectors = vectors_of(alloc, definition, asker, rows)?;
+    grant_queries(
+        alloc,
+        copies,
+        definition.queries.as_slice(),
+        &vectors,
+        definition.names.as_slice(),
+        asker,
+        rows,
+    )
+}
+
+/// All copies of the rows of a source that rules grant to an asker, by definition and query in the order of the rules and
+/// then in the order of the source: one for each row and data query of its table whose condition holds for some vector of
+/// the definition's parameters that the asker has, and whose output `id` is not Null there.
+pub fn grants_of(
+    alloc: Global,
+    rules: &Rules,
+    asker: &Asker,
+    source: &SourceRows,
+) -> Result<Items<Granted>, Memory>
+    ensures { IfOk result (λ copies. copies ≡ granted rules.now.definitions (asker_of asker.now) source.now) }
+{
+    let mut copies = Items::new(alloc);
+    'definitions: for definition in rules.definitions() {
+        grant_definition(alloc, &mut copies, definition, asker, source.rows())?;
+    }
+    Ok(copies)
+}
