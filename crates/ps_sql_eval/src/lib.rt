@@ -10,3 +10,6 @@ mod truths;
 
 pub use askers::Asker;
 pub use evaluations::{eval_request, eval_row};
+
+#[cfg(test)]
+mod tests;
