@@ -6,6 +6,8 @@ mod askers;
 mod columns;
 mod evaluations;
 mod members;
+#[cfg(test)]
+mod tests;
 mod texts;
 mod truths;
 

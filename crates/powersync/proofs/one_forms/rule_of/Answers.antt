@@ -16,10 +16,10 @@ queried query number branches = record { query = query; number = number; branche
 pub returns : goal.returns
 returns c =
     let d : Definition = c.args.definition.now in
-    let q : Planned = c.in-Some-only-3.planned.now in
-    let names : d.names ≡ c.in-Some-user_parameter.parameter.now ∷ [] = ? in
-    let parameters : d.parameters ≡ c.in-Some-only-2.asked.now ∷ [] = ? in
-    let queries : d.queries ≡ c.in-Some-only-3.planned.now ∷ [] = ? in
+    let q : Planned = c.in-Some-only-2.planned.now in
+    let names : d.names ≡ c.in-Some-user_parameter.parameter.now ∷ [] = sym c.as_slice.ensures ∙ c.in-Some.ensures ∙ ap (λ n. n ∷ []) (c.equals.ensures.same.0 (search rules)) in
+    let parameters : d.parameters ≡ c.in-Some-only.asked.now ∷ [] = sym c.as_slice-2.ensures ∙ c.in-Some-only.ensures in
+    let queries : d.queries ≡ c.in-Some-only-2.planned.now ∷ [] = sym c.as_slice-3.ensures ∙ c.in-Some-only-2.ensures in
     record {
       parameter = c.in-Some-user_parameter.parameter.now;
       number = q.number;
