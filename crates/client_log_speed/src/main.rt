@@ -51,7 +51,12 @@ fn puts(alloc: Global, after: u64, first: u64) -> Result<Vec<Op>, Memory>
 }
 
 // Takes so many thousand PUTs of different rows.
-fn take_rows(log: &mut ClientLog<SureKeeper>, alloc: Global, bucket: &Text, count: u64) -> Option<()> {
+fn take_rows(
+    log: &mut ClientLog<SureKeeper>,
+    alloc: Global,
+    bucket: &Text,
+    count: u64,
+) -> Option<()> {
     'lists: for list in 0..count {
         let after = log.position(bucket).0;
         if after > 9223372036854774807 {
