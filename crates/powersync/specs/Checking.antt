@@ -7,7 +7,7 @@ use Rattle.ps_rules.specs.declared.warnings.WarningKind.TheVariants.{ClientParam
 use Rattle.ps_rules.specs.RuleSets.{RuleSet}
 
 -- a definition, with how many parameter queries and data queries it has
-abbrev pub definition_line : Definition → List ℕ
+unfoldable pub definition_line : Definition → List ℕ
 definition_line definition =
     codes "definition " ++ (definition.name
     ++ (codes " parameters " ++ (decimal (length definition.parameters)
@@ -17,7 +17,7 @@ abbrev pub kind_text : WarningKind → List ℕ
 kind_text ClientParameters = codes "client-parameters"
 kind_text NoData = codes "no-data"
 
-abbrev pub warning_line : Warning → List ℕ
+unfoldable pub warning_line : Warning → List ℕ
 warning_line warning =
     codes "warning " ++ (decimal warning.line
     ++ (codes ":" ++ (decimal warning.column

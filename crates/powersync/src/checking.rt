@@ -15,6 +15,7 @@ fn push_number(alloc: Global, out: &mut Vec<u8>, number: u64) -> Result<(), Memo
 }
 
 // Prints a definition, with how many parameter queries and data queries it has.
+#[tactic(auto, unfolding(crate::specs::Checking::definition_line))]
 fn push_definition(alloc: Global, out: &mut Vec<u8>, definition: &Definition) -> Result<(), Memory>
     ensures { OnOk result (out.new.items ≡ out.old.items ++ definition_line definition.now) }
 {
@@ -38,6 +39,7 @@ fn kind_text(kind: WarningKind) -> &'static str
 }
 
 // Prints a warning.
+#[tactic(auto, unfolding(crate::specs::Checking::warning_line))]
 fn push_warning(alloc: Global, out: &mut Vec<u8>, warning: Warning) -> Result<(), Memory>
     ensures { OnOk result (out.new.items ≡ out.old.items ++ warning_line warning) }
 {
