@@ -4,8 +4,8 @@ ghost use Rattle.ps_bucket_log.specs.Logs.{AreEntries};
 
 use crate::change_files::read_transactions;
 use crate::logs::{bucket_name, log_of};
-use crate::plain::run_plain;
 use crate::one_forms::Rule;
+use crate::plain::run_plain;
 use crate::streams::{checkpoint_line, complete_line, data_line};
 use crate::writing::replicate;
 use ps_bucket_log::{BucketLog, Log, batches_are_the_log, standing_logs_stay_standing};
@@ -345,12 +345,7 @@ fn log_over(alloc: Global, changes: &str) -> Result<(Text, BucketLog, OpId), Mem
 }
 
 // The first data line of a log, as it is written.
-fn data_bytes(
-    alloc: Global,
-    name: &Text,
-    log: &BucketLog,
-    last_op: OpId,
-) -> Result<Vec<u8>, Memory>
+fn data_bytes(alloc: Global, name: &Text, log: &BucketLog, last_op: OpId) -> Result<Vec<u8>, Memory>
     requires log { AreEntries 0 log.now.ops }
     requires last { last_op.0 ≤ greatest }
 {
@@ -467,7 +462,7 @@ fn refused_rules_have_their_place(rt: HostRuntime) -> Result<(), Fail> {
             "powersync: rules 4:9 no-id\n",
         ),
         (
-            "bucket_definitions:\n	a:\n",
+            "bucket_definitions:\n\ta:\n",
             "powersync: rules 2:1 yaml-indent\n",
         ),
         (
