@@ -14,6 +14,7 @@ use ps_lines::write_line;
 use ps_values::{Items, Memory, OpId, Text, Value};
 use std::alloc::Global;
 use std::test::Fail;
+use std::thread;
 
 const RULES: &str =
     "bucket_definitions:\n  mine:\n    parameters: SELECT request.user_id() AS u\n    data:\n      - SELECT * FROM items WHERE owner = bucket.u\n";
@@ -563,6 +564,48 @@ fn prints_the_rows_of_other_rules(rt: HostRuntime) -> Result<(), Fail> {
         let answer = rows(rt.alloc(), rules, changes, claims)?;
         assert_eq!(rt; answer.status, 0);
         assert_eq!(rt; answer.printed.as_slice(), due.as_bytes());
+    }
+    Ok(())
+}
+
+// The status of `check` for rules whose one condition has so many NOTs.
+fn status_of_deep_rules(alloc: Global, depth: u32) -> Option<u8> {
+    let mut rules = String::from_str(
+        alloc,
+        "bucket_definitions:\n  a:\n    data: SELECT * FROM t WHERE ",
+    )
+    .ok()?;
+    'parts: for _ in 0..depth {
+        rules.push_str("NOT ").ok()?;
+    }
+    rules.push_str("1\n").ok()?;
+    let content = Vec::from_slice(alloc, rules.as_str().as_bytes()).ok()?;
+    let mut files = Vec::new(alloc);
+    files
+        .push(MemoryFile {
+            name: Text::from_str(alloc, "r").ok()?,
+            content: Items::from_vec(content),
+        })
+        .ok()?;
+    let mut files = SureFiles::new(Items::from_vec(files));
+    let mut words = Vec::new(alloc);
+    words.push(Text::from_str(alloc, "check").ok()?).ok()?;
+    words.push(Text::from_str(alloc, "r").ok()?).ok()?;
+    let mut out = MemorySink::new(alloc, 4096, Items::new(alloc)).ok()?;
+    let mut err = MemorySink::new(alloc, 4096, Items::new(alloc)).ok()?;
+    let status = run_plain(alloc, words.as_slice(), &mut files, &mut out, &mut err);
+    Some(status)
+}
+
+// Nearly as deep as a rules file can be, on the program's stack.
+#[test]
+fn the_deepest_rules_are_checked(rt: HostRuntime) -> Result<(), Fail> {
+    let alloc = rt.alloc();
+    if let Ok(handle) = thread::Builder::new()
+        .stack_size(1073741824)
+        .spawn(&rt, move || status_of_deep_rules(alloc, 250000))
+    {
+        assert_eq!(rt; handle.join(&rt), Some(0));
     }
     Ok(())
 }
