@@ -1,6 +1,7 @@
 ghost use Rattle.std.specs.Prelude.{◌≡◌, ◌≤◌, IsTrue, IfOk};
+ghost use Rattle.std.specs.List.{IsDistinct};
 ghost use Rattle.ps_client_log.specs.Kept.{Kept};
-ghost use Rattle.ps_client_log.specs.Soundness.{IsSound};
+ghost use Rattle.ps_client_log.specs.Soundness.{IsSound, same_row};
 ghost use Rattle.ps_client_log.specs.Edits.{CanTake, CanMakeAll};
 
 use crate::{ClientLog, Edit, KeepFault, Keeper, MemoryKeeper, Shown, SureKeeper, Target};
@@ -336,7 +337,10 @@ fn the_latest_copy_of_two_buckets_is_shown(rt: HostRuntime) -> Result<(), Fail> 
 }
 
 // The one row that is shown.
-fn row(alloc: Global) -> Result<Items<Shown>, Memory> {
+#[tactic(auto, using(crate::proofs::Together::one_row))]
+fn row(alloc: Global) -> Result<Items<Shown>, Memory>
+    ensures { IfOk result (IsDistinct same_row) }
+{
     let mut rows = Items::new(alloc);
     rows.push(Shown {
         kind: Text::from_str(alloc, "t")?,
