@@ -8,3 +8,4 @@ pub mod Sound
 pub mod Rising
 pub mod Latest
 pub mod Copies
+pub mod Together

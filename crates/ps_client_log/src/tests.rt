@@ -1,39 +1,35 @@
 ghost use Rattle.std.specs.Prelude.{◌≡◌, ◌≤◌, IsTrue, IfOk};
+ghost use Rattle.std.specs.List.{IsDistinct};
 ghost use Rattle.ps_client_log.specs.Kept.{Kept};
-ghost use Rattle.ps_client_log.specs.Soundness.{IsSound};
+ghost use Rattle.ps_client_log.specs.Soundness.{IsSound, same_row};
 ghost use Rattle.ps_client_log.specs.Edits.{CanTake, CanMakeAll};
 
 use crate::{ClientLog, Edit, KeepFault, Keeper, MemoryKeeper, Shown, SureKeeper, Target};
 use ps_bucket_log::{Key, Op};
 use ps_checksum::Sum;
-use ps_values::{Items, OpId, Text};
+use ps_values::{Items, Memory, OpId, Text};
 use std::alloc::Global;
-use std::process::Abort;
 use std::test::Fail;
 
-fn text(alloc: Global, text: &str) -> Result<Text, Fail> {
-    Ok(Text::from_str(alloc, text)?)
-}
-
-fn key(alloc: Global, id: &str) -> Result<Key, Fail> {
+fn key(alloc: Global, id: &str) -> Result<Key, Memory> {
     Ok(Key {
-        kind: text(alloc, "t")?,
-        id: text(alloc, id)?,
-        subkey: text(alloc, "s")?,
+        kind: Text::from_str(alloc, "t")?,
+        id: Text::from_str(alloc, id)?,
+        subkey: Text::from_str(alloc, "s")?,
     })
 }
 
 // A PUT of an object with this data.
-fn put(alloc: Global, id: u64, object: &str, content: &str) -> Result<Op, Fail> {
+fn put(alloc: Global, id: u64, object: &str, content: &str) -> Result<Op, Memory> {
     Ok(Op::Put {
         id: OpId(id),
         key: key(alloc, object)?,
-        content: text(alloc, content)?,
+        content: Text::from_str(alloc, content)?,
         sum: Sum(10),
     })
 }
 
-fn remove(alloc: Global, id: u64, object: &str) -> Result<Op, Fail> {
+fn remove(alloc: Global, id: u64, object: &str) -> Result<Op, Memory> {
     Ok(Op::Remove {
         id: OpId(id),
         key: key(alloc, object)?,
@@ -57,6 +53,29 @@ fn clear(id: u64) -> Op {
     }
 }
 
+// The operation of the history with this id.
+fn op_at(alloc: Global, id: u64) -> Result<Op, Memory> {
+    match id {
+        1 => put(alloc, id, "x", "1"),
+        2 => Ok(clear(id)),
+        3 => put(alloc, id, "x", "3"),
+        4 => put(alloc, id, "y", "4"),
+        5 => put(alloc, id, "y", "5"),
+        6 => remove(alloc, id, "x"),
+        7 => Ok(move_op(id)),
+        _ => put(alloc, id, "z", "8"),
+    }
+}
+
+// The operations of the history from one id on up to another. The whole has each kind, before a CLEAR and after it.
+fn history(alloc: Global, first: u64, past: u64) -> Result<Vec<Op>, Memory> {
+    let mut ops = Vec::new(alloc);
+    'ids: for id in first..past {
+        ops.push(op_at(alloc, id)?)?;
+    }
+    Ok(ops)
+}
+
 // Whether a bucket at this position can take the operations.
 #[tactic(auto, using(crate::proofs::Rising::take_rising, crate::proofs::Rising::can_take))]
 fn can_take(position: OpId, ops: &[Op]) -> bool
@@ -72,255 +91,294 @@ fn can_take(position: OpId, ops: &[Op]) -> bool
     last <= 9223372036854775807
 }
 
+// Takes operations. Those whose ids do not rise are refused.
 fn take<K: Keeper>(
     log: &mut ClientLog<K>,
     alloc: Global,
     bucket: &Text,
     ops: Vec<Op>,
-) -> Result<Result<(), KeepFault>, Fail> {
+) -> Result<(), KeepFault> {
     if !can_take(log.position(bucket), ops.as_slice()) {
-        return Err("the ids do not rise".into());
+        return Err(KeepFault::Failed);
     }
-    Ok(log.take_ops(alloc, bucket, ops))
+    log.take_ops(alloc, bucket, ops)
 }
 
-// The operation of the history with this id.
-fn op_at(alloc: Global, id: u64) -> Result<Op, Fail> {
-    match id {
-        1 => put(alloc, id, "x", "1"),
-        2 => Ok(clear(id)),
-        3 => put(alloc, id, "x", "3"),
-        4 => put(alloc, id, "y", "4"),
-        5 => put(alloc, id, "y", "5"),
-        6 => remove(alloc, id, "x"),
-        7 => Ok(move_op(id)),
-        _ => put(alloc, id, "z", "8"),
-    }
+// Takes operations of the history.
+fn take_history<K: Keeper>(
+    log: &mut ClientLog<K>,
+    alloc: Global,
+    first: u64,
+    past: u64,
+) -> Result<(), KeepFault> {
+    let bucket = Text::from_str(alloc, "b")?;
+    take(log, alloc, &bucket, history(alloc, first, past)?)
 }
 
-// Each kind of operation, before a CLEAR and after it.
-fn history(alloc: Global) -> Result<Vec<Op>, Fail> {
-    let mut ops = Vec::new(alloc);
-    'ids: for id in 1..9 {
-        ops.push(op_at(alloc, id)?)?;
-    }
-    Ok(ops)
-}
-
-fn opened<K: Keeper + Drop>(alloc: Global, keeper: K) -> Result<ClientLog<K>, Fail> {
+fn opened<K: Keeper + Drop>(alloc: Global, keeper: K) -> Result<ClientLog<K>, KeepFault> {
     match ClientLog::open(alloc, keeper) {
         Ok(log) => Ok(log),
-        Err(_) => Err("the keeper refused".into()),
+        Err((_keeper, fault)) => Err(fault),
     }
 }
 
-fn add_row(out: &mut String, row: &Shown) -> Result<(), Fail> {
-    out.push_str(" ")?;
-    out.push_str(row.id.as_str())?;
-    out.push_str("=")?;
-    out.push_str(row.content.as_str())?;
+fn add_row(out: &mut String, row: &Shown) -> Result<(), Memory> {
+    Ok(write!(out, " {}={}", row.id.as_str(), row.content.as_str())?)
+}
+
+fn add_rows(out: &mut String, rows: &[Shown]) -> Result<(), Memory> {
+    'rows: for row in rows {
+        add_row(out, row)?;
+    }
     Ok(())
 }
 
-// The position and the total of each bucket, and then the rows.
-fn told<K: Keeper>(log: &ClientLog<K>, alloc: Global) -> Result<String, Fail> {
+fn add_bucket(out: &mut String, name: &str, position: u64, total: u32) -> Result<(), Memory> {
+    Ok(write!(out, "{name} {position} {total};")?)
+}
+
+fn add_buckets<K: Keeper>(
+    out: &mut String,
+    log: &ClientLog<K>,
+    names: &[Text],
+) -> Result<(), Memory> {
+    'names: for name in names {
+        add_bucket(out, name.as_str(), log.position(name).0, log.total(name).0)?;
+    }
+    Ok(())
+}
+
+// Adds the position and the total of each bucket, and then the rows.
+fn add_told<K: Keeper>(out: &mut String, log: &ClientLog<K>, alloc: Global) -> Result<(), Memory> {
+    let names = log.names(alloc)?;
+    add_buckets(out, log, names.as_slice())?;
+    let rows = log.held_rows(alloc)?;
+    add_rows(out, rows.as_slice())?;
+    Ok(out.push_str("|")?)
+}
+
+// What a log tells, and then what another tells that is opened with its keeper.
+fn told_twice<K: Keeper + Drop>(log: ClientLog<K>, alloc: Global) -> Result<String, KeepFault> {
     let mut out = String::new(alloc);
-    'names: for name in log.names(alloc)?.as_slice() {
-        let (position, total) = (log.position(name).0, log.total(name).0);
-        out.push_str(name.as_str())?;
-        write!(out, " {position} {total};")?;
-    }
-    'rows: for row in log.held_rows(alloc)?.as_slice() {
-        add_row(&mut out, row)?;
-    }
+    add_told(&mut out, &log, alloc)?;
+    let again = opened(alloc, log.close())?;
+    add_told(&mut out, &again, alloc)?;
     Ok(out)
 }
 
-// What is told where the history comes in two parts, of which the first has so many operations.
-fn told_of_cut(alloc: Global, count: usize) -> Result<String, Fail> {
-    let bucket = text(alloc, "b")?;
+// The history in two parts, of which the second begins with an id.
+fn told_of_parts(alloc: Global, middle: u64) -> Result<String, KeepFault> {
     let mut log = opened(alloc, SureKeeper::new(alloc))?;
-    let mut front = Vec::new(alloc);
-    let mut back = Vec::new(alloc);
-    'ops: for (index, op) in history(alloc)?.into_iter().enumerate() {
-        if index < count {
-            front.push(op)?;
-        } else {
-            back.push(op)?;
-        }
-    }
-    take(&mut log, alloc, &bucket, front)??;
-    take(&mut log, alloc, &bucket, back)??;
-    told(&log, alloc)
+    take_history(&mut log, alloc, 1, middle)?;
+    take_history(&mut log, alloc, middle, 9)?;
+    told_twice(log, alloc)
 }
 
 #[test]
 fn operations_come_whole_or_in_two_parts(rt: HostRuntime) -> Result<(), Fail> {
-    'cuts: for count in 0..9 {
+    'parts: for middle in 1..10 {
+        let told = told_of_parts(rt.alloc(), middle)?;
         assert_eq!(rt;
-            told_of_cut(rt.alloc(), count)?.as_str(),
-            "b 8 11140; y=5 z=8",
-            "{count}"
+            told.as_str(),
+            "b 8 11140; y=5 z=8|b 8 11140; y=5 z=8|",
+            "{middle}"
         );
     }
     Ok(())
 }
 
+fn told_of_singles(alloc: Global) -> Result<String, KeepFault> {
+    let mut log = opened(alloc, SureKeeper::new(alloc))?;
+    'ids: for id in 1..9 {
+        take_history(&mut log, alloc, id, id + 1)?;
+    }
+    told_twice(log, alloc)
+}
+
 #[test]
 fn operations_come_one_at_a_time(rt: HostRuntime) -> Result<(), Fail> {
-    let bucket = text(rt.alloc(), "b")?;
-    let mut log = opened(rt.alloc(), SureKeeper::new(rt.alloc()))?;
-    'ops: for op in history(rt.alloc())? {
-        take(&mut log, rt.alloc(), &bucket, vec![in rt.alloc(); op]?)??;
-    }
-    assert_eq!(rt; told(&log, rt.alloc())?.as_str(), "b 8 11140; y=5 z=8");
-    let again = opened(rt.alloc(), log.close())?;
-    assert_eq!(rt; told(&again, rt.alloc())?.as_str(), "b 8 11140; y=5 z=8");
+    let told = told_of_singles(rt.alloc())?;
+    assert_eq!(rt; told.as_str(), "b 8 11140; y=5 z=8|b 8 11140; y=5 z=8|");
     Ok(())
+}
+
+fn told_of_none(alloc: Global) -> Result<String, KeepFault> {
+    let mut log = opened(alloc, SureKeeper::new(alloc))?;
+    take_history(&mut log, alloc, 1, 1)?;
+    told_twice(log, alloc)
 }
 
 #[test]
 fn no_operations_make_no_bucket(rt: HostRuntime) -> Result<(), Fail> {
-    let bucket = text(rt.alloc(), "b")?;
-    let mut log = opened(rt.alloc(), SureKeeper::new(rt.alloc()))?;
-    take(&mut log, rt.alloc(), &bucket, Vec::new(rt.alloc()))??;
-    assert_eq!(rt; log.names(rt.alloc())?.len(), 0);
-    assert_eq!(rt; log.held_rows(rt.alloc())?.len(), 0);
+    let told = told_of_none(rt.alloc())?;
+    assert_eq!(rt; told.as_str(), "||");
     Ok(())
 }
 
 // A keeper of which the call with this number fails.
-fn failing(alloc: Global, call: u64) -> Result<MemoryKeeper, Fail> {
+fn failing(alloc: Global, call: u64) -> Result<MemoryKeeper, Memory> {
     let mut calls = Items::new(alloc);
     calls.push(call)?;
     Ok(MemoryKeeper::new(alloc, calls))
 }
 
+// A keeper of which the load has failed.
+fn failed(alloc: Global) -> Result<MemoryKeeper, KeepFault> {
+    match ClientLog::open(alloc, failing(alloc, 1)?) {
+        Ok(_) => Err(KeepFault::Failed),
+        Err((keeper, _)) => Ok(keeper),
+    }
+}
+
 #[test]
 fn a_failed_load_gives_the_keeper_back(rt: HostRuntime) -> Result<(), Fail> {
-    match ClientLog::open(rt.alloc(), failing(rt.alloc(), 1)?) {
-        Ok(_) => Err("opened".into()),
-        Err((keeper, fault)) => {
-            assert_eq!(rt; fault, KeepFault::Failed);
-            assert_eq!(rt; keeper.keep_faults(), 1);
-            let log = opened(rt.alloc(), keeper)?;
-            assert_eq!(rt; told(&log, rt.alloc())?.as_str(), "");
-            Ok(())
-        }
-    }
+    let keeper = failed(rt.alloc())?;
+    assert_eq!(rt; keeper.keep_faults(), 1);
+    let log = opened(rt.alloc(), keeper)?;
+    assert_eq!(rt; told_twice(log, rt.alloc())?.as_str(), "||");
+    Ok(())
+}
+
+// A bucket takes a PUT of the one object.
+fn hold<K: Keeper>(
+    log: &mut ClientLog<K>,
+    alloc: Global,
+    bucket: &str,
+    id: u64,
+    content: &str,
+) -> Result<(), KeepFault> {
+    let bucket = Text::from_str(alloc, bucket)?;
+    let op = put(alloc, id, "x", content)?;
+    take(log, alloc, &bucket, vec![in alloc; op]?)
+}
+
+fn delete<K: Keeper>(log: &mut ClientLog<K>, alloc: Global, bucket: &str) -> Result<(), KeepFault> {
+    let bucket = Text::from_str(alloc, bucket)?;
+    log.delete_bucket(alloc, &bucket)
 }
 
 // Three steps, each of one commit: two buckets take an object, and the first goes.
-fn step<K: Keeper>(
-    log: &mut ClientLog<K>,
-    alloc: Global,
-    number: u64,
-) -> Result<Result<(), KeepFault>, Fail> {
-    let (a, b) = (text(alloc, "a")?, text(alloc, "b")?);
-    match number {
-        2 => take(log, alloc, &a, vec![in alloc; put(alloc, 1, "x", "of a")?]?),
-        3 => take(log, alloc, &b, vec![in alloc; put(alloc, 2, "x", "of b")?]?),
-        _ => Ok(log.delete_bucket(alloc, &a)),
+fn step<K: Keeper>(log: &mut ClientLog<K>, alloc: Global, call: u64) -> Result<(), KeepFault> {
+    match call {
+        2 => hold(log, alloc, "a", 1, "of a"),
+        3 => hold(log, alloc, "b", 2, "of b"),
+        _ => delete(log, alloc, "a"),
     }
 }
 
-// Takes a step. Where it is to fail, nothing changes, and then it is taken again.
-fn step_or_fail(
-    rt: &impl Abort,
+// Takes a step. Where it fails, adds what is told then, and takes it again.
+fn step_on<K: Keeper>(
+    out: &mut String,
+    log: &mut ClientLog<K>,
     alloc: Global,
-    log: &mut ClientLog<MemoryKeeper>,
-    number: u64,
-    fails: bool,
-) -> Result<(), Fail> {
-    if fails {
-        let before = told(log, alloc)?;
-        assert_eq!(rt; step(log, alloc, number)?, Err(KeepFault::Failed));
-        assert_eq!(rt; told(log, alloc)?.as_str(), before.as_str());
+    call: u64,
+) -> Result<(), KeepFault> {
+    if step(log, alloc, call).is_ok() {
+        return Ok(());
     }
-    assert_eq!(rt; step(log, alloc, number)?, Ok(()));
-    Ok(())
+    add_told(out, log, alloc)?;
+    step(log, alloc, call)
+}
+
+// What is told after the call that fails, and after all steps.
+fn told_of_failing(alloc: Global, call: u64) -> Result<String, KeepFault> {
+    let mut out = String::new(alloc);
+    let mut log = opened(alloc, failing(alloc, call)?)?;
+    'steps: for step in 2..5 {
+        step_on(&mut out, &mut log, alloc, step)?;
+    }
+    let last = told_twice(log, alloc)?;
+    out.push_str(last.as_str())?;
+    Ok(out)
 }
 
 #[test]
 fn a_failed_commit_changes_nothing(rt: HostRuntime) -> Result<(), Fail> {
-    'calls: for call in 2..5 {
-        let mut log = opened(rt.alloc(), failing(rt.alloc(), call)?)?;
-        'steps: for number in 2..5 {
-            step_or_fail(&rt, rt.alloc(), &mut log, number, number == call)?;
-        }
-        assert_eq!(rt;
-            told(&log, rt.alloc())?.as_str(),
-            "b 2 10; x=of b",
-            "{call}"
-        );
-        let kept = opened(rt.alloc(), log.close())?;
-        assert_eq!(rt;
-            told(&kept, rt.alloc())?.as_str(),
-            "b 2 10; x=of b",
-            "{call}"
-        );
+    let cases = [
+        (2, "|b 2 10; x=of b|b 2 10; x=of b|"),
+        (3, "a 1 10; x=of a|b 2 10; x=of b|b 2 10; x=of b|"),
+        (4, "a 1 10;b 2 10; x=of b|b 2 10; x=of b|b 2 10; x=of b|"),
+    ];
+    'calls: for (call, want) in cases {
+        let told = told_of_failing(rt.alloc(), call)?;
+        assert_eq!(rt; told.as_str(), want, "{call}");
     }
     Ok(())
 }
 
-// A PUT of the one object in a bucket.
-fn hold<K: Keeper>(
-    log: &mut ClientLog<K>,
-    alloc: Global,
-    bucket: &Text,
-    id: u64,
-    content: &str,
-) -> Result<(), Fail> {
-    Ok(take(
-        log,
-        alloc,
-        bucket,
-        vec![in alloc; put(alloc, id, "x", content)?]?,
-    )??)
+// Two buckets hold one object: a copy with the greater id, one with the same id, and then one bucket goes.
+fn share<K: Keeper>(log: &mut ClientLog<K>, alloc: Global, step: u64) -> Result<(), KeepFault> {
+    match step {
+        0 => hold(log, alloc, "a", 5, "of a"),
+        1 => hold(log, alloc, "b", 3, "of b"),
+        2 => hold(log, alloc, "b", 5, "last"),
+        _ => delete(log, alloc, "b"),
+    }
+}
+
+fn told_of_shared(alloc: Global) -> Result<String, KeepFault> {
+    let mut out = String::new(alloc);
+    let mut log = opened(alloc, SureKeeper::new(alloc))?;
+    'steps: for step in 0..4 {
+        share(&mut log, alloc, step)?;
+        add_told(&mut out, &log, alloc)?;
+    }
+    Ok(out)
 }
 
 #[test]
 fn the_latest_copy_of_two_buckets_is_shown(rt: HostRuntime) -> Result<(), Fail> {
-    let (a, b) = (text(rt.alloc(), "a")?, text(rt.alloc(), "b")?);
-    let mut log = opened(rt.alloc(), SureKeeper::new(rt.alloc()))?;
-    hold(&mut log, rt.alloc(), &a, 5, "of a")?;
-    hold(&mut log, rt.alloc(), &b, 3, "of b")?;
-    assert_eq!(rt; told(&log, rt.alloc())?.as_str(), "a 5 10;b 3 10; x=of a");
-    hold(&mut log, rt.alloc(), &b, 5, "last")?;
-    assert_eq!(rt; told(&log, rt.alloc())?.as_str(), "a 5 10;b 5 20; x=last");
-    log.delete_bucket(rt.alloc(), &b)?;
-    assert_eq!(rt; told(&log, rt.alloc())?.as_str(), "a 5 10; x=of a");
+    let told = told_of_shared(rt.alloc())?;
+    assert_eq!(rt;
+        told.as_str(),
+        "a 5 10; x=of a|a 5 10;b 3 10; x=of a|a 5 10;b 5 20; x=last|a 5 10; x=of a|"
+    );
     Ok(())
 }
 
-// A number is aimed at, the bucket goes, and a row is shown.
-fn edits(alloc: Global, bucket: Text) -> Result<Vec<Edit>, Fail>
-    ensures { IfOk result (λ edits. (kept : Kept) → IsSound kept → CanMakeAll kept edits.items) }
+// The one row that is shown.
+#[tactic(auto, using(crate::proofs::Together::one_row))]
+fn row(alloc: Global) -> Result<Items<Shown>, Memory>
+    ensures { IfOk result (IsDistinct same_row) }
 {
     let mut rows = Items::new(alloc);
     rows.push(Shown {
-        kind: text(alloc, "t")?,
-        id: text(alloc, "x")?,
-        content: text(alloc, "1")?,
+        kind: Text::from_str(alloc, "t")?,
+        id: Text::from_str(alloc, "x")?,
+        content: Text::from_str(alloc, "1")?,
     })?;
-    let mut edits = Vec::new(alloc);
-    edits.push(Edit::Aim {
-        target: Target::Number(7),
-    })?;
-    edits.push(Edit::Delete { bucket })?;
-    edits.push(Edit::Show { rows })?;
-    Ok(edits)
+    Ok(rows)
+}
+
+// A number is aimed at, the bucket goes, and a row is shown.
+fn edits(alloc: Global) -> Result<Vec<Edit>, Memory>
+    ensures { IfOk result (λ edits. (kept : Kept) → IsSound kept → CanMakeAll kept edits.items) }
+{
+    let bucket = Text::from_str(alloc, "b")?;
+    let rows = row(alloc)?;
+    let target = Target::Number(7);
+    Ok(vec![in alloc;
+        Edit::Aim { target },
+        Edit::Delete { bucket },
+        Edit::Show { rows },
+    ]?)
+}
+
+// A log with a bucket, where those edits are made.
+fn edited(alloc: Global) -> Result<ClientLog<SureKeeper>, KeepFault> {
+    let mut log = opened(alloc, SureKeeper::new(alloc))?;
+    hold(&mut log, alloc, "b", 5, "of b")?;
+    let edits = edits(alloc)?;
+    let _target = log.target();
+    log.apply(alloc, edits)?;
+    Ok(log)
 }
 
 #[test]
 fn edits_are_made_together(rt: HostRuntime) -> Result<(), Fail> {
-    let bucket = text(rt.alloc(), "b")?;
-    let mut log = opened(rt.alloc(), SureKeeper::new(rt.alloc()))?;
-    hold(&mut log, rt.alloc(), &bucket, 5, "of b")?;
-    assert_eq!(rt; *log.target(), Target::Free);
-    log.apply(rt.alloc(), edits(rt.alloc(), bucket)?)?;
+    let log = edited(rt.alloc())?;
     assert_eq!(rt; *log.target(), Target::Number(7));
     assert_eq!(rt; log.shown().len(), 1);
-    assert_eq!(rt; told(&log, rt.alloc())?.as_str(), "");
+    assert_eq!(rt; told_twice(log, rt.alloc())?.as_str(), "||");
     Ok(())
 }
