@@ -1,0 +1,17 @@
+mod Adding
+mod Allowing
+mod Arrays
+mod Choosing
+mod Definitions
+mod Fitting
+mod Members
+mod Placements
+mod Plainness
+mod Ranks
+mod Reading
+mod Sets
+mod Sides
+mod Solutions
+mod Solved
+mod Steps
+mod Taking

@@ -1,0 +1,14 @@
+use Rattle.std.proofs.Common.{ap, ◌∙◌, ℕ, List}
+use Rattle.ps_values.specs.declared.values.Value.TheVariants.{Null}
+use Rattle.ps_sql.specs.Meaning.{Asker, value_of}
+use Rattle.ps_sql_eval.specs.Evaluated.{given_of}
+use Rattle.ps_bucket_eval.proofs.Sides.{speaks_not}
+use Rattle.ps_bucket_eval.proofs.evaluating.value_on.Goals as goal
+
+pub eval_request-requires : goal.eval_request-requires
+eval_request-requires c = speaks_not c.args.expr.now c.requires
+
+pub returns : goal.returns
+returns c =
+    c.in_ok-value.ensures (λ (name : List ℕ). Null)
+    ∙ ap (λ (asker : Asker). value_of (given_of asker c.args.id.now c.args.row.now (λ (name : List ℕ). Null)) c.args.expr.now) c.nobody-asker.ensures

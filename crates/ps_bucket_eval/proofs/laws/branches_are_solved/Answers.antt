@@ -1,0 +1,18 @@
+use Rattle.ps_bucket_eval.proofs.Allowing.{ValueLaws}
+use Rattle.ps_bucket_eval.proofs.Sides.{SpreadLaws}
+use Rattle.ps_bucket_eval.proofs.Solutions.{BranchLaws}
+use Rattle.ps_bucket_eval.proofs.Solved.{solves, plain_sides}
+use Rattle.ps_bucket_eval.proofs.laws.branches_are_solved.Goals as goal
+
+pub returns : goal.returns
+returns c =
+    let values : ValueLaws = record { ties = c.compare_is_a_total_order.ensures.ties; equal = c.equal_where_both_are_present.ensures } in
+    let spread : SpreadLaws = record { either = c.spread_as_written.ensures.either; both = c.spread_as_written.ensures.both; leaf = c.spread_as_written.ensures.leaf } in
+    let laws : BranchLaws = record {
+      values = values;
+      spread = spread;
+      same_test = c.conditions_hold_where_a_branch_is_met.ensures.same;
+      where_met = c.conditions_hold_where_a_branch_is_met.ensures.holds;
+      vector = c.vectors_do_not_matter.ensures;
+    } in
+    record { solved = solves laws; plain = plain_sides laws }

@@ -1,0 +1,7 @@
+pub mod Buckets
+pub mod Shown
+pub mod Vectors
+pub mod Entries
+pub mod Laws
+pub mod Solving
+pub mod Types

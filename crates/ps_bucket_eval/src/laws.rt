@@ -1,0 +1,41 @@
+//! The laws of entries and of buckets' names. Each is the contract of a function that does nothing.
+
+ghost use Rattle.std.specs.Prelude.{ℕ, List};
+ghost use Rattle.ps_rules.specs.RuleSets.{RuleSet, AreRules};
+ghost use Rattle.ps_bucket_eval.specs.Entries.{RowOf, entries_of};
+ghost use Rattle.ps_bucket_eval.specs.Laws.{NamesDiffer, PlacedWhereItHolds, EntriesRise};
+ghost use Rattle.ps_bucket_eval.specs.Solving.{SolvesBuckets, HasPlainSides};
+
+use ps_rules::{conditions_hold_where_a_branch_is_met, spread_as_written, vectors_do_not_matter};
+use ps_values::{compare_is_a_total_order, equal_where_both_are_present};
+
+/// A law: different pairs of a definition's name and a vector give different names of buckets.
+pub fn names_are_distinct()
+    ensures { NamesDiffer }
+{}
+
+/// A law: for every vector at all, a data query's condition holds on a row for which it shows an object exactly where the
+/// vector's entry is among the row's entries. And these rise by number and bucket.
+pub fn entries_stand_where_conditions_hold()
+    ensures placed { (rules : RuleSet) (source : RowOf) → AreRules rules → PlacedWhereItHolds rules source (entries_of rules.definitions source) }
+    ensures order { (rules : RuleSet) (source : RowOf) → AreRules rules → EntriesRise (entries_of rules.definitions source) }
+{
+    conditions_hold_where_a_branch_is_met();
+    spread_as_written();
+    vectors_do_not_matter();
+    compare_is_a_total_order();
+    equal_where_both_are_present();
+}
+
+/// A law: the names that are found from a query's branches are its buckets, and what they are found from has no parameter
+/// in it.
+pub(crate) fn branches_are_solved()
+    ensures solved { SolvesBuckets }
+    ensures plain { HasPlainSides }
+{
+    conditions_hold_where_a_branch_is_met();
+    spread_as_written();
+    vectors_do_not_matter();
+    compare_is_a_total_order();
+    equal_where_both_are_present();
+}

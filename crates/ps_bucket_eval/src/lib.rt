@@ -1,0 +1,17 @@
+//! The buckets that a row lies in: the entries of a row, from the branches of data queries.
+#![tactic(auto)]
+
+mod evaluating;
+mod faults;
+mod laws;
+mod naming;
+mod objects;
+mod placed;
+mod placing;
+mod solving;
+
+pub use faults::PlaceFault;
+pub use laws::{entries_stand_where_conditions_hold, names_are_distinct};
+pub use naming::bucket_name;
+pub use placed::Placed;
+pub use placing::entries_of_row;

@@ -1,0 +1,291 @@
+ghost use Rattle.std.specs.Prelude.{◌≡◌, ◌≤◌, ◌++◌, drop, [], ◌∷◌, false, IfOk, OnOk, length, map, flat_map, codes, string_bytes};
+ghost use Rattle.std.specs.List.{list_any};
+ghost use Rattle.ps_rules.specs.declared.branches.Branch.{Branch as BranchData};
+ghost use Rattle.ps_rules.specs.Names.{has_repeated};
+ghost use Rattle.ps_rules.specs.RuleSets.{IsSound, IsSoundQuery, AreRules};
+ghost use Rattle.ps_bucket_eval.specs.Shown.{alone};
+ghost use Rattle.ps_bucket_eval.specs.Entries.{RowOf, subkey_of, placed_in, query_entries, definition_entries, entries_of, buckets_of, IsPlaced};
+ghost use Rattle.ps_bucket_eval.specs.Laws.{PlacedWhereItHolds, EntriesRise};
+ghost use Rattle.ps_bucket_eval.specs.Solving.{sides_have_parameter, names_from, branch_names, Fits, FitsWith, AddsEntries, row_of, made_in, outputs_have_parameter};
+
+use crate::evaluating::all_hold;
+use crate::laws::{branches_are_solved, entries_stand_where_conditions_hold};
+use crate::naming::bucket_name;
+use crate::objects::{content, object_id};
+use crate::solving::allowed_each;
+use crate::{PlaceFault, Placed};
+use ps_bucket_log::Key;
+use ps_changes::Row;
+use ps_rules::{Branch, Definition, Planned, Rules};
+use ps_values::{Items, Memory, Text, Value};
+use std::alloc::Global;
+use std::collections::BTreeSet;
+
+/// The entries of a row: for each data query of its table that shows an object for it, and for each vector of parameter
+/// values for which the query's condition holds, the bucket of that vector and the object. They stand in the order of the
+/// queries' numbers, and of the buckets' names in the order of their bytes; no two have one number and one bucket.
+/// Fails with `TooWide` exactly where there are more than `top`, and counts no further than one past it. No vector is
+/// tried: those that can hold are solved from the branches of the condition.
+pub fn entries_of_row(
+    alloc: Global,
+    rules: &Rules,
+    table: &Text,
+    id: &Text,
+    row: &Row,
+    top: u32,
+) -> Result<Items<Placed>, PlaceFault>
+    requires { top ≤ 1000000 }
+    ensures placed { IsPlaced (entries_of rules.now.definitions (row_of table.now id.now row.now)) top result }
+    ensures every_vector { IfOk result (PlacedWhereItHolds rules.now (row_of table.now id.now row.now)) }
+    ensures order { IfOk result EntriesRise }
+{
+    entries_stand_where_conditions_hold();
+    let mut placed = Items::new(alloc);
+    'definitions: for definition in rules.definitions() {
+        let added = place_definition(alloc, definition, table, id, row, top, &mut placed);
+        if let Err(fault) = added {
+            return Err(fault);
+        }
+    }
+    Ok(placed)
+}
+
+// Adds the entries of a definition.
+fn place_definition(
+    alloc: Global,
+    definition: &Definition,
+    table: &Text,
+    id: &Text,
+    row: &Row,
+    top: u32,
+    placed: &mut Items<Placed>,
+) -> Result<(), PlaceFault>
+    requires sound { IsSound definition.now }
+    requires within { length placed.old ≤ top }
+    requires top { top ≤ 1000000 }
+    ensures { AddsEntries top placed.old placed.new (definition_entries (row_of table.now id.now row.now) definition.now) result }
+{
+    'queries: for planned in definition.queries.as_slice() {
+        let added = place_query(alloc, definition, planned, table, id, row, top, placed);
+        if let Err(fault) = added {
+            return Err(fault);
+        }
+    }
+    Ok(())
+}
+
+// Adds the entries of a query; one of another table has none.
+fn place_query(
+    alloc: Global,
+    definition: &Definition,
+    planned: &Planned,
+    table: &Text,
+    id: &Text,
+    row: &Row,
+    top: u32,
+    placed: &mut Items<Placed>,
+) -> Result<(), PlaceFault>
+    requires differ { has_repeated definition.now.names ≡ false }
+    requires sound { IsSoundQuery definition.now.names planned.now }
+    requires within { length placed.old ≤ top }
+    requires top { top ≤ 1000000 }
+    ensures { AddsEntries top placed.old placed.new (query_entries definition.now (row_of table.now id.now row.now) planned.now) result }
+{
+    if !planned.query.table.equals(table) {
+        return Ok(());
+    }
+    let Some(object) = object_id(alloc, &planned.query, id, row)? else {
+        return Ok(());
+    };
+    let room = top as usize - placed.len();
+    let Some(buckets) = buckets(alloc, definition, planned, id, row, room)? else {
+        return Err(PlaceFault::TooWide { count: top + 1 });
+    };
+    place_in(alloc, planned, &object, table, id, row, buckets, placed)?;
+    Ok(())
+}
+
+// Adds an entry for each bucket.
+fn place_in(
+    alloc: Global,
+    planned: &Planned,
+    object: &Text,
+    table: &Text,
+    id: &Text,
+    row: &Row,
+    buckets: BTreeSet<Text>,
+    placed: &mut Items<Placed>,
+) -> Result<(), Memory>
+    requires { outputs_have_parameter planned.now.query.outputs ≡ false }
+    ensures { OnOk result (placed.new ≡ placed.old ++ map (placed_in planned.now (row_of table.now id.now row.now) object.now) buckets.keys) }
+{
+    if buckets.is_empty() {
+        return Ok(());
+    }
+    let content = content(alloc, &planned.query, object, id, row)?;
+    let subkey = subkey(alloc, planned.number, table, id)?;
+    push_entries(alloc, planned, object, &subkey, &content, buckets, placed)
+}
+
+// Adds an entry with this key and data for each bucket.
+fn push_entries(
+    alloc: Global,
+    planned: &Planned,
+    object: &Text,
+    subkey: &Text,
+    content: &Text,
+    buckets: BTreeSet<Text>,
+    placed: &mut Items<Placed>,
+) -> Result<(), Memory>
+    ensures { OnOk result (placed.new ≡ placed.old ++ map (made_in planned.now object.now subkey.now content.now) buckets.keys) }
+{
+    'buckets: for bucket in buckets {
+        let kind = planned.query.kind.copy(alloc)?;
+        let id = object.copy(alloc)?;
+        let subkey = subkey.copy(alloc)?;
+        let content = content.copy(alloc)?;
+        placed.push(Placed {
+            bucket,
+            key: Key { kind, id, subkey },
+            content,
+            number: planned.number,
+        })?;
+    }
+    Ok(())
+}
+
+// The subkey of a query's entries.
+#[tactic(auto, unfolding(crate::specs::Entries::subkey_of))]
+fn subkey(alloc: Global, number: u32, table: &Text, id: &Text) -> Result<Text, Memory>
+    ensures { IfOk result (λ subkey. subkey ≡ subkey_of number (row_of table.now id.now [])) }
+{
+    let (table, id) = (table.as_str(), id.as_str());
+    Ok(Text::from_string(format!(in alloc; "{number}/{table}/{id}")?))
+}
+
+// The buckets of a query; None where they are more than `room`.
+fn buckets(
+    alloc: Global,
+    definition: &Definition,
+    planned: &Planned,
+    id: &Text,
+    row: &Row,
+    room: usize,
+) -> Result<Option<BTreeSet<Text>>, Memory>
+    requires differ { has_repeated definition.now.names ≡ false }
+    requires sound { IsSoundQuery definition.now.names planned.now }
+    ensures { IfOk result (FitsWith room (buckets_of definition.now (row_of [] id.now row.now) planned.now)) }
+{
+    branches_are_solved();
+    let mut found = BTreeSet::new(alloc);
+    let definition_name = &definition.name;
+    let names = definition.names.as_slice();
+    if name_branches(
+        alloc,
+        definition_name,
+        names,
+        planned.branches.as_slice(),
+        id,
+        row,
+        room,
+        &mut found,
+    )? {
+        Ok(Some(found))
+    } else {
+        Ok(None)
+    }
+}
+
+// Adds the names of all branches' vectors; false where they are more than `room`.
+fn name_branches(
+    alloc: Global,
+    definition: &Text,
+    names: &[Text],
+    branches: &[Branch],
+    id: &Text,
+    row: &Row,
+    room: usize,
+    found: &mut BTreeSet<Text>,
+) -> Result<bool, Memory>
+    requires plain { list_any (λ (b : BranchData). sides_have_parameter b) branches.now ≡ false }
+    requires within { length found.old.keys ≤ room }
+    ensures { IfOk result (Fits room found.old.keys found.new.keys
+        (flat_map (branch_names (alone id.now row.now) definition.now names.now) branches.now)) }
+{
+    'branches: for branch in branches {
+        if !name_branch(alloc, definition, names, branch, id, row, room, found)? {
+            return Ok(false);
+        }
+    }
+    Ok(true)
+}
+
+// Adds the names of a branch's vectors; false where they are more than `room`.
+fn name_branch(
+    alloc: Global,
+    definition: &Text,
+    names: &[Text],
+    branch: &Branch,
+    id: &Text,
+    row: &Row,
+    room: usize,
+    found: &mut BTreeSet<Text>,
+) -> Result<bool, Memory>
+    requires plain { sides_have_parameter branch.now ≡ false }
+    requires within { length found.old.keys ≤ room }
+    ensures { IfOk result (Fits room found.old.keys found.new.keys
+        (branch_names (alone id.now row.now) definition.now names.now branch.now)) }
+{
+    if !all_hold(alloc, branch.rest.as_slice(), id, row)? {
+        return Ok(true);
+    }
+    let lists = allowed_each(alloc, names, branch.matches.as_slice(), id, row)?;
+    let mut chosen = Vec::new(alloc);
+    name_vectors(
+        alloc,
+        definition,
+        lists.as_slice(),
+        &mut chosen,
+        room,
+        found,
+    )
+}
+
+// Adds the names of the vectors that begin with the chosen values and go on with one of each list; false as soon as the
+// names are more than `room`.
+fn name_vectors(
+    alloc: Global,
+    definition: &Text,
+    lists: &[Items<Value>],
+    chosen: &mut Vec<Value>,
+    room: usize,
+    found: &mut BTreeSet<Text>,
+) -> Result<bool, Memory>
+    requires within { length found.old.keys ≤ room }
+    ensures kept { OnOk result (chosen.new.items ≡ chosen.old.items) }
+    ensures named { IfOk result (Fits room found.old.keys found.new.keys
+        (names_from definition.now chosen.old.items lists.now)) }
+{
+    let [values, ..] = lists else {
+        found.insert(bucket_name(alloc, definition, chosen.as_slice())?)?;
+        return Ok(found.len() <= room);
+    };
+    let rest = behind_first(lists);
+    'values: for value in values.as_slice() {
+        chosen.push(value.copy(alloc)?)?;
+        let fits = name_vectors(alloc, definition, rest, chosen, room, found)?;
+        chosen.pop();
+        if !fits {
+            return Ok(false);
+        }
+    }
+    Ok(true)
+}
+
+// All lists but the first.
+fn behind_first(lists: &[Items<Value>]) -> &[Items<Value>]
+    requires { 1 ≤ length lists.now }
+    ensures { result.now ≡ drop 1 lists.now }
+{
+    &lists[1..]
+}

@@ -1,0 +1,208 @@
+ghost use Rattle.std.specs.Prelude.{◌≡◌, [], false, IfOk, map};
+ghost use Rattle.std.specs.List.{list_any};
+ghost use Rattle.std.specs.BTreeMap.{is_at};
+ghost use Rattle.ps_values.specs.Values.{compare_values};
+ghost use Rattle.ps_rules.specs.declared.matches.Match.{Match as MatchData};
+ghost use Rattle.ps_rules.specs.Branches.{has_parameter};
+ghost use Rattle.ps_sql.specs.Meaning.{array_of};
+ghost use Rattle.serde_json.specs.View.{view, items_view};
+ghost use Rattle.serde_json.specs.Find.{as_array};
+ghost use Rattle.serde_json.specs.Written.{has_float, items_have_float};
+ghost use Rattle.ps_values.specs.Conversions.{value_of as value_of_data};
+ghost use Rattle.ps_bucket_eval.specs.Shown.{alone};
+ghost use Rattle.ps_bucket_eval.specs.Vectors.{elements as elements_of, item_values, compared as values_compared};
+ghost use Rattle.ps_bucket_eval.specs.Solving.{gathered, allowed_by as allowed_by_match, common as in_common, narrowed_by, allowed as allowed_values};
+
+use crate::evaluating::value_on;
+use ps_changes::Row;
+use ps_rules::Match;
+use ps_values::{Items, Memory, Text, Value, plain_json, text_of_json};
+use serde_json::Value as Json;
+use std::alloc::Global;
+use std::collections::BTreeSet;
+
+/// The values that a branch allows each of some parameters.
+pub(crate) fn allowed_each(
+    alloc: Global,
+    names: &[Text],
+    matches: &[Match],
+    id: &Text,
+    row: &Row,
+) -> Result<Items<Items<Value>>, Memory>
+    requires { list_any (λ (m : MatchData). has_parameter m.other) matches.now ≡ false }
+    ensures { IfOk result (λ lists. lists ≡ map (allowed_values (alone id.now row.now) matches.now) names.now) }
+{
+    let mut lists = Items::new(alloc);
+    'names: for name in names {
+        lists.push(allowed(alloc, name, matches, id, row)?)?;
+    }
+    Ok(lists)
+}
+
+// The values that all matches of a parameter allow it: each once, in order, and never Null.
+fn allowed(
+    alloc: Global,
+    name: &Text,
+    matches: &[Match],
+    id: &Text,
+    row: &Row,
+) -> Result<Items<Value>, Memory>
+    requires { list_any (λ (m : MatchData). has_parameter m.other) matches.now ≡ false }
+    ensures { IfOk result (λ values. values ≡ allowed_values (alone id.now row.now) matches.now name.now) }
+{
+    let mut values = None;
+    'matches: for one in matches {
+        values = narrow(alloc, values, name, one, id, row)?;
+    }
+    match values {
+        None => Ok(Items::new(alloc)),
+        Some(values) => Ok(values),
+    }
+}
+
+// What a match leaves of the values that those before it allow; None before the first of the name.
+fn narrow(
+    alloc: Global,
+    values: Option<Items<Value>>,
+    name: &Text,
+    one: &Match,
+    id: &Text,
+    row: &Row,
+) -> Result<Option<Items<Value>>, Memory>
+    requires { has_parameter one.now.other ≡ false }
+    ensures { IfOk result (λ left. left ≡ narrowed_by (alone id.now row.now) name.now values one.now) }
+{
+    if !one.name.equals(name) {
+        return Ok(values);
+    }
+    let set = allowed_by(alloc, one, id, row)?;
+    match values {
+        None => Ok(Some(items_of_set(alloc, set)?)),
+        Some(values) => Ok(Some(common(alloc, values, &set)?)),
+    }
+}
+
+// The values that a match allows its parameter.
+fn allowed_by(alloc: Global, one: &Match, id: &Text, row: &Row) -> Result<BTreeSet<Value>, Memory>
+    requires { has_parameter one.now.other ≡ false }
+    ensures { IfOk result (λ set. set.keys ≡ allowed_by_match (alone id.now row.now) one.now) }
+{
+    let values = compared(alloc, one, id, row)?;
+    gather(alloc, values)
+}
+
+// What a match compares its parameter with.
+fn compared(alloc: Global, one: &Match, id: &Text, row: &Row) -> Result<Items<Value>, Memory>
+    requires { has_parameter one.now.other ≡ false }
+    ensures { IfOk result (λ values. values ≡ values_compared (alone id.now row.now) one.now) }
+{
+    let value = value_on(alloc, &one.other, id, row)?;
+    if one.listed {
+        return elements(alloc, &value);
+    }
+    let mut values = Items::new(alloc);
+    values.push(value)?;
+    Ok(values)
+}
+
+// The set of values, without Null.
+fn gather(alloc: Global, values: Items<Value>) -> Result<BTreeSet<Value>, Memory>
+    ensures { IfOk result (λ set. set.keys ≡ gathered [] values) }
+{
+    let mut set = BTreeSet::new(alloc);
+    'values: for value in values.into_vec() {
+        if !value.is_null() {
+            set.insert(value)?;
+        }
+    }
+    Ok(set)
+}
+
+// The values of a set, in order.
+fn items_of_set(alloc: Global, set: BTreeSet<Value>) -> Result<Items<Value>, Memory>
+    ensures { IfOk result (λ values. values ≡ set.keys) }
+{
+    let mut values = Items::new(alloc);
+    'values: for value in set {
+        values.push(value)?;
+    }
+    Ok(values)
+}
+
+// Those of some values that are in a set.
+fn common(
+    alloc: Global,
+    values: Items<Value>,
+    set: &BTreeSet<Value>,
+) -> Result<Items<Value>, Memory>
+    ensures { IfOk result (λ both. both ≡ in_common values set.now.keys) }
+{
+    let mut both = Items::new(alloc);
+    'values: for value in values.into_vec() {
+        if has(set, &value) {
+            both.push(value)?;
+        }
+    }
+    Ok(both)
+}
+
+// Whether a value is in a set.
+fn has(set: &BTreeSet<Value>, value: &Value) -> bool
+    ensures { result ≡ list_any (is_at (compare_values value.now)) set.now.keys }
+{
+    set.contains(value)
+}
+
+// The elements of a value that is the text of a JSON array; any other value has none.
+#[tactic(auto, unfolding(ps_sql::specs::Json::plain_json))]
+fn elements(alloc: Global, value: &Value) -> Result<Items<Value>, Memory>
+    ensures { IfOk result (λ values. values ≡ elements_of (array_of value.now)) }
+{
+    match value {
+        Value::Null | Value::Int(_) => Ok(Items::new(alloc)),
+        Value::Text(text) => match plain_json(alloc, text)? {
+            None => Ok(Items::new(alloc)),
+            Some(json) => elements_of_json(alloc, &json),
+        },
+    }
+}
+
+// The elements of JSON, where that is an array.
+fn elements_of_json(alloc: Global, json: &Json) -> Result<Items<Value>, Memory>
+    requires { has_float (view json.now) ≡ false }
+    ensures { IfOk result (λ values. values ≡ elements_of (as_array (view json.now))) }
+{
+    match json.as_array() {
+        None => Ok(Items::new(alloc)),
+        Some(items) => values_of_items(alloc, items),
+    }
+}
+
+// The values of elements.
+fn values_of_items(alloc: Global, items: &Vec<Json>) -> Result<Items<Value>, Memory>
+    requires { items_have_float (items_view items.now.items) ≡ false }
+    ensures { IfOk result (λ values. values ≡ item_values (items_view items.now.items)) }
+{
+    let mut values = Items::new(alloc);
+    'items: for item in items {
+        values.push(value_of_item(alloc, item)?)?;
+    }
+    Ok(values)
+}
+
+// The value of an element, in which each number is a whole number of signed 64 bits.
+fn value_of_item(alloc: Global, item: &Json) -> Result<Value, Memory>
+    requires { has_float (view item.now) ≡ false }
+    ensures { IfOk result (λ value. value ≡ value_of_data (view item.now)) }
+{
+    match item {
+        Json::Null => Ok(Value::Null),
+        Json::Bool(truth) => Ok(Value::Int(i64::from(*truth))),
+        Json::Number(number) => match number.as_i64() {
+            Some(number) => Ok(Value::Int(number)),
+            None => Ok(Value::Null),
+        },
+        Json::String(text) => Ok(Value::Text(Text::from_str(alloc, text.as_str())?)),
+        Json::Array(_) | Json::Object(_) => Ok(Value::Text(text_of_json(alloc, item)?)),
+    }
+}
