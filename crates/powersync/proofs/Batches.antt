@@ -1,5 +1,5 @@
 -- What one batch of a log without compaction has.
-use Rattle.std.proofs.Common.{◌≡◌, ◌≢◌, ℕ, ◌+◌, ◌<◌, ◌≤◌, Bool, true, false, ◌&&◌, ◌⊎◌, inl, inr, cond, List, [], ◌∷◌, ◌++◌, Some, None, map, filter, fold, refl, sym, ap, ◌∙◌, subst, leb, ltb, arith}
+use Rattle.std.proofs.Common.{◌≡◌, ◌≢◌, ℕ, ◌<◌, ◌≤◌, Bool, true, false, ◌&&◌, inl, inr, cond, List, [], ◌∷◌, ◌++◌, map, filter, fold, refl, ap, ◌∙◌, subst, leb, ltb, arith}
 use Rattle.std.proofs.lemmas.Bool.{lt-leb, le-leb, cases_lt}
 use Rattle.std.specs.List.{list_all}
 use Rattle.ps_bucket_log.specs.declared.ops.Op.{Op}
@@ -7,7 +7,7 @@ use Rattle.ps_bucket_log.specs.declared.ops.Op.TheVariants.{Put, Remove, Move, C
 use Rattle.ps_bucket_log.specs.declared.batches.Batch.{Batch}
 use Rattle.ps_bucket_log.specs.Ops.{id_of, is_entry, is_clear, upto, past, newest}
 use Rattle.ps_bucket_log.specs.Logs.{IsRising, AreEntries, IsLog, cleared}
-use Rattle.ps_bucket_log.specs.Batches.{IsBatch, batch_of}
+use Rattle.ps_bucket_log.specs.Batches.{batch_of}
 use Rattle.ps_bucket_log.specs.Laws.{StandsForItself, StandingIsLog, ReadsLongestFront, BatchRises, ReadsOn}
 use Rattle.ps_lines.specs.Writing.{op_without_target}
 

@@ -8,7 +8,8 @@ use Rattle.ps_rules.specs.RuleSets.{RuleSet}
 use Rattle.ps_sql.specs.Meaning.{Asker}
 use Rattle.powersync.specs.declared.faults.Fault.{Fault}
 use Rattle.powersync.specs.declared.faults.Fault.TheVariants.{Usage, Rules, Change, LongLine, Claims, TooLong, CannotRead, CannotWrite, Memory}
-use Rattle.powersync.specs.ChangeFiles.{transactions_of, last_position}
+use Rattle.powersync.specs.ChangeFiles.{transactions_of}
+use Rattle.ps_store.specs.Laws.{last_position}
 use Rattle.powersync.specs.Checking.{check_text}
 use Rattle.powersync.specs.Claims.{asker_of_claims}
 use Rattle.powersync.specs.Commands.{Names, Command, check, rows, command_of, rules_file, rules_limit, file_limit, HoldsWithin, ReadsRules, ReadsAsker, ReachesChanges, PrintsRows, PrintsCheck, Prints, RefusesRules, RefusesClaims, RefusesChanges, ExceedsFile, ExceedsLimit, Outside, Caused, Refusal, exceeds, refused, refusal_status, within_limit, or_refused, or_no_claims, rules_meant, asker_meant, transactions_meant, meaning, IsAnswer, IsExact, ◌>>=◌}

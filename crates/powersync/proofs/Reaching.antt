@@ -8,7 +8,8 @@ use Rattle.ps_changes.specs.declared.faults.ChangeFault.{ChangeFault}
 use Rattle.powersync.specs.declared.faults.Fault.{Fault}
 use Rattle.powersync.specs.declared.faults.Fault.TheVariants.{Change}
 use Rattle.powersync.specs.declared.faults.LineFault.TheVariants.{NotRising}
-use Rattle.powersync.specs.ChangeFiles.{lines_of, is_blank, rising, transactions_from, transactions_of, Rises, ◌>>=◌}
+use Rattle.powersync.specs.ChangeFiles.{lines_of, is_blank, rising, transactions_from, transactions_of, ◌>>=◌}
+use Rattle.ps_store.specs.Laws.{Rises}
 use Rattle.powersync.specs.ReadingChanges.{HasRead, lines_left, bytes_left, before_left}
 
 pub before_none : (r : Result (List Transaction) Fault) → r ≡ before_left [] r

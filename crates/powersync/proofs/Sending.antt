@@ -1,9 +1,8 @@
 -- A line that is written comes in order when it is read again.
-use Rattle.std.proofs.Common.{◌≡◌, ℕ, ◌≤◌, List, [], ◌∷◌, map, fold, refl, sym, ap, ◌∙◌, subst, arith}
-use Rattle.ps_values.specs.Numbers.{greatest}
+use Rattle.std.proofs.Common.{◌≡◌, ℕ, List, [], ◌∷◌, map, fold, refl, ap, ◌∙◌, arith}
 use Rattle.ps_bucket_log.specs.declared.ops.Op.{Op}
 use Rattle.ps_bucket_log.specs.declared.ops.Op.TheVariants.{Put, Remove, Move, Clear}
-use Rattle.ps_bucket_log.specs.Ops.{id_of, newest}
+use Rattle.ps_bucket_log.specs.Ops.{id_of}
 use Rattle.ps_bucket_log.specs.Logs.{IsRising}
 use Rattle.ps_lines.specs.declared.lines.Line.{Line}
 use Rattle.ps_lines.specs.declared.lines.Line.TheVariants.{Checkpoint, Diff, Data, Complete, Expires, Unknown}

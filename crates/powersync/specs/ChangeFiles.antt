@@ -1,5 +1,5 @@
 -- Files of change lines.
-use Rattle.std.specs.Prelude.{ℕ, ◌<◌, ◌+◌, Bool, ◌||◌, ◌==◌, nat_lt, if◌then◌else◌, List, [], ◌∷◌, Result, Ok, Err}
+use Rattle.std.specs.Prelude.{ℕ, ◌+◌, Bool, ◌||◌, ◌==◌, nat_lt, if◌then◌else◌, List, [], ◌∷◌, Result, Ok, Err}
 use Rattle.std.specs.List.{list_all, slice_split}
 use Rattle.ps_changes.specs.declared.changes.Transaction.{Transaction}
 use Rattle.ps_changes.specs.declared.faults.ChangeFault.{ChangeFault}
@@ -48,13 +48,3 @@ transactions_from number last (line ∷ lines) = if is_blank line then transacti
 -- the transactions of a change file, or the fault of the first line that is refused
 unfoldable pub transactions_of : List ℕ → Result (List Transaction) Fault
 transactions_of bytes = transactions_from 1 0 (lines_of bytes)
-
--- the position of the last transaction, 0 where there is none
-abbrev pub last_position : ℕ → List Transaction → ℕ
-last_position position [] = position
-last_position position (transaction ∷ transactions) = last_position transaction.position.0 transactions
-
--- positions rise from past a last one
-abbrev pub Rises : ℕ → List Transaction → Type 0
-Rises last [] = Unit {0}
-Rises last (transaction ∷ transactions) = (last < transaction.position.0) × Rises transaction.position.0 transactions

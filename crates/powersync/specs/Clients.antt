@@ -1,6 +1,6 @@
 -- A client of one checkpoint: what it makes of each line.
-use Rattle.std.specs.Prelude.{ℕ, ◌≤◌, Bool, true, false, ◌&&◌, ◌==◌, nat_le, if◌then◌else◌, List, [], ◌∷◌, bytes_eq}
-use Rattle.std.specs.List.{list_any, list_all}
+use Rattle.std.specs.Prelude.{ℕ, ◌≤◌, Bool, ◌&&◌, ◌==◌, nat_le, if◌then◌else◌, List}
+use Rattle.std.specs.List.{list_all}
 use Rattle.ps_bucket_log.specs.Ops.{newest}
 use Rattle.ps_bucket_log.specs.Logs.{IsRising}
 use Rattle.ps_lines.specs.declared.lines.Entry.{Entry}
@@ -11,10 +11,7 @@ use Rattle.ps_client_log.specs.Kept.{Kept, bucket_at}
 use Rattle.ps_client_log.specs.Edits.{with_taken}
 use Rattle.powersync.specs.declared.checkpoints.Event.{Event}
 use Rattle.powersync.specs.declared.checkpoints.Event.TheVariants.{Nothing, Applied, Refused, OutOfOrder}
-
--- a bucket is one of the checkpoint's
-abbrev pub is_listed : List ℕ → List Entry → Bool
-is_listed bucket entries = list_any (λ entry. bytes_eq entry.bucket bucket) entries
+use Rattle.powersync.specs.Tables.{is_listed}
 
 -- a bucket has the total that the checkpoint says of it
 abbrev pub is_as_told : Kept → Entry → Bool

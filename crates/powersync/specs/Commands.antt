@@ -9,7 +9,8 @@ use Rattle.powersync.specs.declared.faults.Fault.{Fault}
 use Rattle.powersync.specs.declared.faults.Fault.TheVariants.{Usage, Rules, Change, LongLine, Claims, TooLong, CannotRead, CannotWrite, Memory}
 use Rattle.powersync.specs.declared.faults.LineFault.{LineFault}
 use Rattle.powersync.specs.declared.faults.LineFault.TheVariants.{BadJson, BadShape, BadPosition, BadValue, NotRising}
-use Rattle.powersync.specs.ChangeFiles.{transactions_of, last_position}
+use Rattle.powersync.specs.ChangeFiles.{transactions_of}
+use Rattle.ps_store.specs.Laws.{last_position}
 use Rattle.powersync.specs.Checking.{check_text}
 use Rattle.powersync.specs.Claims.{asker_of_claims}
 use Rattle.powersync.specs.Dues.{due}

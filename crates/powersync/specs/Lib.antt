@@ -5,12 +5,11 @@ pub mod Clients
 pub mod Commands
 pub mod Dues
 pub mod Loading
-pub mod Logs
-pub mod OneForm
-pub mod Operations
 pub mod ReadingChanges
+pub mod Replicated
 pub mod RulesFaults
 pub mod Saying
 pub mod Sessions
 pub mod Streams
+pub mod Tables
 pub mod Texts

@@ -9,7 +9,8 @@ use Rattle.powersync.specs.declared.faults.Fault.TheVariants.{Usage, Rules, Chan
 use Rattle.ps_rules.specs.RuleSets.{RuleSet}
 use Rattle.ps_sql_eval.specs.declared.askers.Asker.{Asker}
 use Rattle.ps_sql_eval.specs.Evaluated.{asker_of}
-use Rattle.powersync.specs.ChangeFiles.{transactions_of, last_position}
+use Rattle.powersync.specs.ChangeFiles.{transactions_of}
+use Rattle.ps_store.specs.Laws.{last_position}
 use Rattle.powersync.specs.Claims.{asker_of_claims}
 use Rattle.powersync.specs.Commands.{HoldsWithin}
 use Rattle.powersync.specs.Dues.{due}

@@ -1,7 +1,8 @@
 ghost use Rattle.std.specs.Prelude.{◌≡◌, Err, ◌==◌, ◌<◌, ◌^◌, ◌∷◌, [], length, IfSome, IfOk, MatchOption};
 ghost use Rattle.std.specs.List.{position};
 ghost use Rattle.ps_changes.specs.Lines.{line_of};
-ghost use Rattle.powersync.specs.ChangeFiles.{lines_of, is_blank as is_blank_line, rising, transactions_of, Rises};
+ghost use Rattle.powersync.specs.ChangeFiles.{lines_of, is_blank as is_blank_line, rising, transactions_of};
+ghost use Rattle.ps_store.specs.Laws.{Rises};
 ghost use Rattle.powersync.specs.ReadingChanges.{ReadsRising, ReadsAll};
 
 use crate::faults::{Fault, LineFault};

@@ -1,11 +1,12 @@
 ghost use Rattle.std.specs.Prelude.{◌≡◌, ◌≤◌, IfOk, OnOk};
 ghost use Rattle.ps_client_log.specs.Logs.{kept, keeper_of};
 ghost use Rattle.ps_client_log.specs.Keeping.{RoseWhereFailed};
-ghost use Rattle.powersync.specs.Clients.{is_listed as is_listed_in, is_as_told as tells_right, comes_next as comes_next_to, completed as completed_by, event_of, kept_with, entries_with, last_with, IsInOrder};
+ghost use Rattle.powersync.specs.Clients.{is_as_told as tells_right, comes_next as comes_next_to, completed as completed_by, event_of, kept_with, entries_with, last_with, IsInOrder};
 
+use crate::tables::Table;
 use ps_client_log::{ClientLog, KeepFault, Keeper};
 use ps_lines::{Entry, Line};
-use ps_values::{Items, OpId, Text};
+use ps_values::{OpId, Text};
 use std::alloc::Global;
 
 /// What a line did to a client.
@@ -27,7 +28,7 @@ pub struct Client<K: Keeper> {
     /// What it keeps.
     pub log: ClientLog<K>,
     /// What the checkpoint says of each bucket.
-    pub entries: Items<Entry>,
+    pub entries: Table,
     /// The newest operation that the checkpoint covers.
     pub last_op: OpId,
 }
@@ -39,25 +40,15 @@ impl<K: Keeper> Client<K> {
     {
         Client {
             log,
-            entries: Items::new(alloc),
+            entries: Table::new(alloc),
             last_op: OpId(0),
         }
-    }
-
-    // Whether a bucket is one of the checkpoint's.
-    fn is_listed(&self, bucket: &Text) -> bool
-        ensures { result ≡ is_listed_in bucket.now self.now.entries }
-    {
-        self.entries
-            .as_slice()
-            .iter()
-            .any(|entry| entry.bucket.equals(bucket))
     }
 
     fn comes_next(&self, bucket: &Text, after: OpId, next_after: OpId) -> bool
         ensures { result ≡ comes_next_to (kept self.now.log) self.now.entries self.now.last_op.0 bucket.now after.0 next_after.0 }
     {
-        self.is_listed(bucket)
+        self.entries.is_listed(bucket)
             && after.0 == self.log.position(bucket).0
             && next_after.0 <= self.last_op.0
     }
@@ -96,7 +87,7 @@ impl<K: Keeper> Client<K> {
                 number: _,
                 buckets,
             } => {
-                self.entries = buckets;
+                self.entries = Table::of(alloc, buckets)?;
                 self.last_op = last_op;
                 Ok(Event::Nothing)
             }

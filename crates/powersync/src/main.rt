@@ -2,24 +2,24 @@
 #![tactic(auto)]
 
 mod answering;
+mod buckets;
 mod change_files;
 mod checking;
 mod checkpoints;
 mod claims;
 mod faults;
 mod loading;
-mod logs;
-mod one_forms;
 mod plain;
 mod printing;
-mod replicas;
+#[cfg(test)]
+mod random_tests;
 mod rules_faults;
 mod saying;
 mod sessions;
 mod streams;
+mod tables;
 #[cfg(test)]
 mod tests;
-mod writing;
 
 use plain::run_plain;
 use ps_io::{DiskFiles, StdSink};

@@ -4,9 +4,10 @@ ghost use Rattle.ps_values.specs.Numbers.{greatest};
 ghost use Rattle.ps_bucket_log.specs.Ops.{newest, is_entry};
 ghost use Rattle.ps_bucket_log.specs.Logs.{IsRising};
 ghost use Rattle.ps_lines.specs.Writing.{IsWritable, without_targets};
-ghost use Rattle.powersync.specs.Streams.{checkpoint_line as line_of_checkpoint, data_line as line_of_data, complete_line as line_of_complete};
+ghost use Rattle.powersync.specs.Streams.{entry_of as entry_of_bucket, entries_of as entries_of_buckets, checkpoint_line as line_of_checkpoint, data_line as line_of_data, complete_line as line_of_complete};
 
-use ps_bucket_log::{Batch, BucketLog, Log};
+use crate::buckets::Bucket;
+use ps_bucket_log::{Batch, Log};
 use ps_lines::{Entry, Line, LineFault, read_line, write_line};
 use ps_values::{Items, Memory, OpId, Text};
 use std::alloc::Global;
@@ -26,22 +27,34 @@ pub fn carry(alloc: Global, line: &Line) -> Result<Line, Memory>
     }
 }
 
-/// The line that begins a checkpoint of one bucket.
-pub fn checkpoint_line(
-    alloc: Global,
-    name: &Text,
-    log: &BucketLog,
-    last_op: OpId,
-) -> Result<Line, Memory>
-    ensures { IfOk result (λ line. line ≡ line_of_checkpoint name.now log.now.ops last_op.0) }
+// What a checkpoint up to an id says of a bucket.
+fn entry_of(alloc: Global, bucket: &Bucket, last_op: OpId) -> Result<Entry, Memory>
+    ensures { IfOk result (λ entry. entry ≡ entry_of_bucket last_op.0 bucket.now) }
 {
-    let mut buckets = Items::new(alloc);
-    buckets.push(Entry {
-        bucket: name.copy(alloc)?,
-        sum: log.sum_upto(last_op),
-        count: log.count_upto(last_op),
+    Ok(Entry {
+        bucket: bucket.name.copy(alloc)?,
+        sum: bucket.log.sum_upto(last_op),
+        count: bucket.log.count_upto(last_op),
         priority: USUAL_PRIORITY,
-    })?;
+    })
+}
+
+// What it says of each bucket.
+fn entries_of(alloc: Global, buckets: &[Bucket], last_op: OpId) -> Result<Items<Entry>, Memory>
+    ensures { IfOk result (λ entries. entries ≡ entries_of_buckets last_op.0 buckets.now) }
+{
+    let mut entries = Items::new(alloc);
+    'buckets: for bucket in buckets {
+        entries.push(entry_of(alloc, bucket, last_op)?)?;
+    }
+    Ok(entries)
+}
+
+/// The line that begins a checkpoint up to an id, with an entry for each bucket, in the order of the slice.
+pub fn checkpoint_line(alloc: Global, buckets: &[Bucket], last_op: OpId) -> Result<Line, Memory>
+    ensures { IfOk result (λ line. line ≡ line_of_checkpoint last_op.0 buckets.now) }
+{
+    let buckets = entries_of(alloc, buckets, last_op)?;
     Ok(Line::Checkpoint {
         last_op,
         number: None,

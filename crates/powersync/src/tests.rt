@@ -2,16 +2,16 @@ ghost use Rattle.std.specs.Prelude.{◌≤◌, IfOk};
 ghost use Rattle.ps_values.specs.Numbers.{greatest};
 ghost use Rattle.ps_bucket_log.specs.Logs.{AreEntries};
 
+use crate::buckets::Bucket;
 use crate::change_files::read_transactions;
-use crate::logs::{bucket_name, log_of};
-use crate::one_forms::Rule;
 use crate::plain::run_plain;
 use crate::streams::{checkpoint_line, complete_line, data_line};
-use crate::writing::replicate;
-use ps_bucket_log::{BucketLog, Log, batches_are_the_log, standing_logs_stay_standing};
+use ps_bucket_log::{Log, batches_are_the_log, standing_logs_stay_standing};
 use ps_io::{Files, MemoryFile, MemoryFiles, MemorySink, SureFiles};
 use ps_lines::write_line;
-use ps_values::{Items, Memory, OpId, Text, Value};
+use ps_rules::read_rules;
+use ps_store::{Replica, replicate};
+use ps_values::{Items, Memory, OpId, Text};
 use std::alloc::Global;
 use std::test::Fail;
 use std::thread;
@@ -324,64 +324,62 @@ fn ten_thousand_changes(rt: HostRuntime) -> Result<(), Fail> {
     Ok(())
 }
 
-// The log of the user's bucket over a change file, with the bucket's name and the number of all operations.
-fn log_over(alloc: Global, changes: &str) -> Result<(Text, BucketLog, OpId), Memory>
-    ensures entries { IfOk result (λ made. AreEntries 0 made.1.ops) }
-    ensures last { IfOk result (λ made. made.2.0 ≤ greatest) }
+// The user's bucket over a change file, with the number of all operations.
+fn bucket_over(alloc: Global, changes: &str) -> Result<(Bucket, OpId), Memory>
+    requires { length (string_bytes changes.now) < 2 ^ 63 }
+    ensures entries { IfOk result (λ made. AreEntries 0 made.0.log.ops) }
+    ensures last { IfOk result (λ made. made.1.0 ≤ greatest) }
 {
-    let rule = Rule {
-        name: Text::from_str(alloc, "mine")?,
-        table: Text::from_str(alloc, "items")?,
-        column: Text::from_str(alloc, "owner")?,
+    let Ok(rules) = read_rules(alloc, RULES.as_bytes()) else {
+        return Err(Memory);
     };
-    let user = Text::from_str(alloc, "ann")?;
-    let name = bucket_name(alloc, &rule, &user)?;
     let Ok(transactions) = read_transactions(alloc, changes.as_bytes()) else {
         return Err(Memory);
     };
-    let replica = replicate(alloc, &rule, transactions)?;
-    let last_op = OpId(replica.operations.len() as u64);
-    let log = log_of(alloc, &rule, &Value::Text(user), replica.operations)?;
-    Ok((name, log, last_op))
+    let Replica { mut logs, .. } = replicate(alloc, &rules, transactions)?;
+    let last_op = logs.last();
+    if 9223372036854775807 < last_op.0 {
+        return Err(Memory);
+    }
+    let name = Text::from_str(alloc, "mine[\"ann\"]")?;
+    let log = logs.take(alloc, &name);
+    Ok((Bucket { name, log }, last_op))
 }
 
 // The first data line of a log, as it is written.
-fn data_bytes(alloc: Global, name: &Text, log: &BucketLog, last_op: OpId) -> Result<Vec<u8>, Memory>
-    requires log { AreEntries 0 log.now.ops }
+fn data_bytes(alloc: Global, bucket: &Bucket, last_op: OpId) -> Result<Vec<u8>, Memory>
+    requires log { AreEntries 0 bucket.now.log.ops }
     requires last { last_op.0 ≤ greatest }
 {
     standing_logs_stay_standing();
     batches_are_the_log();
-    if log.newest_upto(last_op).0 == 0 {
+    if bucket.log.newest_upto(last_op).0 == 0 {
         return Ok(Vec::new(alloc));
     }
-    let batch = log.read(alloc, OpId(0), last_op)?;
-    let line = data_line(alloc, name, OpId(0), batch)?;
+    let batch = bucket.log.read(alloc, OpId(0), last_op)?;
+    let line = data_line(alloc, &bucket.name, OpId(0), batch)?;
     write_line(alloc, &line)
 }
 
 // The checkpoint's line, as it is written.
-fn checkpoint_bytes(
-    alloc: Global,
-    name: &Text,
-    log: &BucketLog,
-    last_op: OpId,
-) -> Result<Vec<u8>, Memory>
+#[tactic(auto, using(crate::proofs::ManyBuckets::may_begin))]
+fn checkpoint_bytes(alloc: Global, buckets: &[Bucket], last_op: OpId) -> Result<Vec<u8>, Memory>
     requires { last_op.0 ≤ greatest }
 {
-    let line = checkpoint_line(alloc, name, log, last_op)?;
+    let line = checkpoint_line(alloc, buckets, last_op)?;
     write_line(alloc, &line)
 }
 
 // The sums are the first four bytes of SHA-256 of each operation's text, by another implementation.
 #[test]
 fn the_worked_changes_make_three_lines(rt: HostRuntime) -> Result<(), Fail> {
-    let (name, log, last_op) = log_over(rt.alloc(), CHANGES)?;
-    let checkpoint = checkpoint_bytes(rt.alloc(), &name, &log, last_op)?;
+    let (bucket, last_op) = bucket_over(rt.alloc(), CHANGES)?;
+    let data = data_bytes(rt.alloc(), &bucket, last_op)?;
+    let buckets = vec![in rt.alloc(); bucket]?;
+    let checkpoint = checkpoint_bytes(rt.alloc(), buckets.as_slice(), last_op)?;
     let first =
         "{\"checkpoint\":{\"buckets\":[{\"bucket\":\"mine[\\\"ann\\\"]\",\"checksum\":4064033389,\"count\":3,\"priority\":3}],\"last_op_id\":\"4\"}}\n";
     assert_eq!(rt; checkpoint.as_slice(), first.as_bytes());
-    let data = data_bytes(rt.alloc(), &name, &log, last_op)?;
     let second =
         "{\"data\":{\"after\":\"0\",\"bucket\":\"mine[\\\"ann\\\"]\",\"data\":[{\"checksum\":2616632941,\"data\":\"{\\\"id\\\":\\\"r1\\\",\\\"n\\\":1,\\\"owner\\\":\\\"ann\\\"}\",\"object_id\":\"r1\",\"object_type\":\"items\",\"op\":\"PUT\",\"op_id\":\"1\",\"subkey\":\"1/items/r1\"},{\"checksum\":269619152,\"data\":\"{\\\"id\\\":\\\"r3\\\",\\\"n\\\":2,\\\"owner\\\":\\\"ann\\\"}\",\"object_id\":\"r3\",\"object_type\":\"items\",\"op\":\"PUT\",\"op_id\":\"3\",\"subkey\":\"1/items/r3\"},{\"checksum\":1177781296,\"object_id\":\"r1\",\"object_type\":\"items\",\"op\":\"REMOVE\",\"op_id\":\"4\",\"subkey\":\"1/items/r1\"}],\"has_more\":false,\"next_after\":\"4\"}}\n";
     assert_eq!(rt; data.as_slice(), second.as_bytes());
@@ -406,8 +404,8 @@ fn more_than_a_thousand_operations_make_several_lines(rt: HostRuntime) -> Result
         )?;
         changes.push_str(line.as_str())?;
     }
-    let (name, log, last_op) = log_over(rt.alloc(), changes.as_str())?;
-    let data = data_bytes(rt.alloc(), &name, &log, last_op)?;
+    let (bucket, last_op) = bucket_over(rt.alloc(), changes.as_str())?;
+    let data = data_bytes(rt.alloc(), &bucket, last_op)?;
     let end = "\"has_more\":true,\"next_after\":\"1000\"}}\n";
     assert!(rt; data.as_slice().ends_with(end.as_bytes()));
     let printed = rows(rt.alloc(), RULES, changes.as_str(), CLAIMS)?;
@@ -559,6 +557,12 @@ fn prints_the_rows_of_other_rules(rt: HostRuntime) -> Result<(), Fail> {
             "{\"pos\":\"1\",\"changes\":[{\"op\":\"PUT\",\"table\":\"t\",\"id\":\"a\",\"row\":{\"k\":1}}]}\n{\"pos\":\"2\",\"changes\":[{\"op\":\"PUT\",\"table\":\"t\",\"id\":\"b\",\"row\":{\"k\":\"1\"}}]}\n{\"pos\":\"3\",\"changes\":[{\"op\":\"PUT\",\"table\":\"t\",\"id\":\"c\",\"row\":{\"k\":null}}]}\n{\"pos\":\"4\",\"changes\":[{\"op\":\"PUT\",\"table\":\"t\",\"id\":\"e\",\"row\":{\"k\":\"q\\\"z\"}}]}\n",
             "{\"token\":{\"sub\":\"ann\"},\"parameters\":{\"k\":\"q\\\"z\"}}",
             "\"t\" \"e\" {\"id\":\"e\"}\n",
+        ),
+        (
+            "bucket_definitions:\n  global:\n    data: SELECT * FROM t\n",
+            "{\"pos\":\"1\",\"changes\":[{\"op\":\"PUT\",\"table\":\"t\",\"id\":\"a\",\"row\":{}},{\"op\":\"PUT\",\"table\":\"t\",\"id\":\"a\",\"row\":{}},{\"op\":\"DELETE\",\"table\":\"t\",\"id\":\"a\"}]}\n",
+            "{\"token\":{\"sub\":\"ann\"}}",
+            "",
         ),
     ] {
         let answer = rows(rt.alloc(), rules, changes, claims)?;

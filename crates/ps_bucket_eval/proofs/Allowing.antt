@@ -1,6 +1,6 @@
 -- What a branch allows a parameter.
-use Rattle.std.proofs.Common.{◌≡◌, ◌≢◌, ℕ, Bool, true, false, cond, List, [], ◌∷◌, ◌++◌, Option, Some, None, refl, sym, ap, ◌∙◌, map, subst, inl, inr}
-use Rattle.std.specs.Prelude.{◌⊎◌, ◌||◌, not, if◌then◌else◌, bytes_eq, filter}
+use Rattle.std.proofs.Common.{◌≡◌, ◌≢◌, ℕ, Bool, true, false, List, [], ◌∷◌, Option, Some, None, refl, sym, ap, ◌∙◌, subst, inl, inr}
+use Rattle.std.specs.Prelude.{◌⊎◌, if◌then◌else◌, bytes_eq}
 use Rattle.std.specs.List.{list_any}
 use Rattle.std.specs.Ordering.{is_eq}
 use Rattle.std.specs.BTreeMap.{is_at}
@@ -8,7 +8,6 @@ use Rattle.std.specs.BTreeSet.{insert_key}
 use Rattle.std.specs.declared.cmp.Ordering.{Ordering}
 use Rattle.std.specs.declared.cmp.Ordering.TheVariants.{Less, Equal, Greater}
 use Rattle.std.proofs.lemmas.Bool.{or_cases, or_left, or_right}
-use Rattle.std.proofs.lemmas.Slice.Eq.{bytes_eq-Decides}
 use Rattle.serde_json.specs.Data.{Items, no_items, item}
 use Rattle.ps_values.specs.declared.values.Value.{Value}
 use Rattle.ps_values.specs.declared.values.Value.TheVariants.{Null, Int, Text}
@@ -20,7 +19,8 @@ use Rattle.ps_values.specs.Laws.{TiesTheSame, IsEqualWherePresent}
 use Rattle.ps_sql.specs.Meaning.{Given, value_of, is_true, any_equals, array_of}
 use Rattle.ps_rules.specs.declared.matches.Match.{Match}
 use Rattle.ps_rules.specs.Meeting.{is_among}
-use Rattle.ps_bucket_eval.specs.Vectors.{item_values, elements, compared}
+use Rattle.ps_sql_eval.specs.Evaluated.{values_of_items, values_in}
+use Rattle.ps_bucket_eval.specs.Vectors.{compared}
 use Rattle.ps_bucket_eval.specs.Solving.{gathered, allowed_by, common, narrowed, narrowed_by, narrowed_along, values_or_none, allowed}
 use Rattle.ps_bucket_eval.proofs.Members.{Has, has_filter, from_filter, has_any, any_has}
 use Rattle.ps_bucket_eval.proofs.Sets.{insert_has, from_insert}
@@ -58,33 +58,33 @@ module _ (laws : ValueLaws) where
   is_equal : (a b : Value) → is_null b ≡ false → a ≡ b → is_true (equal_sql a b) ≡ true
   is_equal a b n e = ap is_true ((laws.equal a b).1 ((λ z. is_not_null b n (sym e ∙ z)), is_not_null b n, e))
 
-  among_items : (ds : Items) (v : Value) → any_equals v ds ≡ true → Has (item_values ds) v × (is_null v ≡ false)
+  among_items : (ds : Items) (v : Value) → any_equals v ds ≡ true → Has (values_of_items ds) v × (is_null v ≡ false)
   among_items no_items v h = absurd (cc)
   among_items (item d ds) v h = elim (or_cases (is_true (equal_sql (json_value d) v)) (any_equals v ds) h) [
     | inl e ↦ let p = equal_is (json_value d) v e in (inl p.1, p.0)
     | inr t ↦ let r = among_items ds v t in (inr r.0, r.1)
   ]
 
-  items_among : (ds : Items) (v : Value) → Has (item_values ds) v → is_null v ≡ false → any_equals v ds ≡ true
+  items_among : (ds : Items) (v : Value) → Has (values_of_items ds) v → is_null v ≡ false → any_equals v ds ≡ true
   items_among no_items v h n = absurd h
   items_among (item d ds) v h n = elim h [
     | inl e ↦ or_left (is_true (equal_sql (json_value d) v)) (any_equals v ds) (is_equal (json_value d) v n e)
     | inr t ↦ or_right (is_true (equal_sql (json_value d) v)) (any_equals v ds) (items_among ds v t n)
   ]
 
-  among_elements : (array : Option Items) (v : Value) → is_among v array ≡ true → Has (elements array) v × (is_null v ≡ false)
+  among_elements : (array : Option Items) (v : Value) → is_among v array ≡ true → Has (values_in array) v × (is_null v ≡ false)
   among_elements None v h = absurd (cc)
   among_elements (Some ds) v h = among_items ds v h
 
-  elements_among : (array : Option Items) (v : Value) → Has (elements array) v → is_null v ≡ false → is_among v array ≡ true
+  elements_among : (array : Option Items) (v : Value) → Has (values_in array) v → is_null v ≡ false → is_among v array ≡ true
   elements_among None v h n = absurd h
   elements_among (Some ds) v h n = items_among ds v h n
 
-  permitted : (listed : Bool) (w v : Value) → (if listed then is_among v (array_of w) else is_true (equal_sql v w)) ≡ true → Has (if listed then elements (array_of w) else w ∷ []) v × (is_null v ≡ false)
+  permitted : (listed : Bool) (w v : Value) → (if listed then is_among v (array_of w) else is_true (equal_sql v w)) ≡ true → Has (if listed then values_in (array_of w) else w ∷ []) v × (is_null v ≡ false)
   permitted true w v h = among_elements (array_of w) v h
   permitted false w v h = let p = equal_is v w h in (inl (sym p.1), ap is_null p.1 ∙ p.0)
 
-  permitting : (listed : Bool) (w v : Value) → Has (if listed then elements (array_of w) else w ∷ []) v → is_null v ≡ false → (if listed then is_among v (array_of w) else is_true (equal_sql v w)) ≡ true
+  permitting : (listed : Bool) (w v : Value) → Has (if listed then values_in (array_of w) else w ∷ []) v → is_null v ≡ false → (if listed then is_among v (array_of w) else is_true (equal_sql v w)) ≡ true
   permitting true w v h n = elements_among (array_of w) v h n
   permitting false w v h n = elim h [ inl e ↦ is_equal v w (ap is_null e ∙ n) (sym e) | inr z ↦ absurd z ]
 

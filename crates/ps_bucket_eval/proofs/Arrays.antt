@@ -1,19 +1,17 @@
 -- A compact JSON array of values tells the values.
-use Rattle.std.proofs.Common.{◌≡◌, ◌≢◌, ℕ, zero, suc, eqb, ◌+◌, ◌*◌, ◌/◌, ◌%◌, ◌^◌, ◌<◌, ◌≤◌, ◌==◌, ℤ, pos, negsuc, Bool, true, false, cond, List, [], ◌∷◌, ◌++◌, length, drop, map, Some, decimal, refl, sym, ap, ◌∙◌, subst, append_assoc, arith, inl, inr}
-use Rattle.std.specs.Prelude.{◌&&◌, nat_le, nat_lt, if◌then◌else◌}
-use Rattle.std.specs.Fmt.{digits, digits_onto, digit_glyph, signed_decimal}
+use Rattle.std.proofs.Common.{◌≡◌, ℕ, zero, suc, eqb, ◌+◌, ◌*◌, ◌/◌, ◌%◌, ◌^◌, ◌<◌, ◌≤◌, ◌==◌, pos, negsuc, Bool, true, false, List, [], ◌∷◌, ◌++◌, length, drop, get_or, map, decimal, refl, sym, ap, ◌∙◌, subst, append_assoc, arith, inl, inr}
+use Rattle.std.specs.Prelude.{◌&&◌, nat_le, if◌then◌else◌}
+use Rattle.std.specs.Fmt.{digits, digits_onto, digit_glyph}
 use Rattle.std.specs.List.{AllByRecursion}
 use Rattle.std.proofs.lemmas.Bool.{lt-ltb, le-leb, cases_lt, and_from, eqb-true, eqb-false}
 use Rattle.std.proofs.lemmas.Fmt.{decimal_injective, length-decimal-le}
-use Rattle.std.proofs.lemmas.List.{append_cancel_left}
+use Rattle.std.proofs.lemmas.List.{append_cancel_left, drop_more}
 use Rattle.std.proofs.lemmas.Option.{same_Some}
 use Rattle.json.specs.Text.{content, plain}
 use Rattle.json.specs.Print.{escape, quoted}
 use Rattle.json.proofs.Printed.Strings.{content-escape}
-use Rattle.serde_json.specs.Data.{no_items, item, Items}
-use Rattle.serde_json.specs.Find.{of_integer}
 use Rattle.serde_json.specs.View.{items_of}
-use Rattle.serde_json.specs.Written.{compact_text, items_text, comma_if, number_text}
+use Rattle.serde_json.specs.Written.{compact_text, items_text}
 use Rattle.ps_values.specs.declared.values.Value.{Value}
 use Rattle.ps_values.specs.declared.values.Value.TheVariants.{Null, Int, Text}
 use Rattle.ps_values.specs.Documents.{data_of}
@@ -249,3 +247,9 @@ items_back false (v ∷ vs) (w ∷ ws) h e =
 pub vector_back : (definition : List ℕ) (v w : List Value) → AllByRecursion IsSqlValue v → bucket_name_of definition v ≡ bucket_name_of definition w → v ≡ w
 unfolding bucket_name_of
 vector_back definition v w h e = items_back false v w h (ap (drop 1) (append_cancel_left definition (compact_text (array_json v)) (compact_text (array_json w)) e))
+
+-- a value of signed 64 bits before those that are left
+pub ranges_before : (values : List Value) (i : ℕ) (v : Value) → i < length values → v ≡ get_or values i v → IsSqlValue v → (AllByRecursion IsSqlValue (drop i values) → AllByRecursion IsSqlValue values)
+    → AllByRecursion IsSqlValue (drop (i + 1) values) → AllByRecursion IsSqlValue values
+ranges_before values i v within is range before rest =
+    before (subst (λ vs. AllByRecursion IsSqlValue vs) (sym (drop_more values i v within ∙ ap (λ x. x ∷ drop (i + 1) values) (sym is))) (range, rest))

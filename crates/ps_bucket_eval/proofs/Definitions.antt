@@ -1,12 +1,11 @@
 -- Names of definitions have no bracket, so a bucket's name tells its definition.
-use Rattle.std.proofs.Common.{◌≡◌, ℕ, ◌==◌, Bool, true, false, cond, List, [], ◌∷◌, ◌++◌, refl, sym, ap, ◌∙◌, subst, arith, inl, inr}
-use Rattle.std.specs.Prelude.{◌&&◌, ◌||◌, if◌then◌else◌}
-use Rattle.std.specs.List.{AllByRecursion, list_all}
+use Rattle.std.proofs.Common.{◌≡◌, ℕ, ◌==◌, true, false, List, [], ◌∷◌, ◌++◌, refl, sym, ap, ◌∙◌}
+use Rattle.std.specs.Prelude.{if◌then◌else◌}
+use Rattle.std.specs.List.{list_all}
 use Rattle.std.proofs.lemmas.Bool.{and_parts, false_from_ne_true, eqb-true}
-use Rattle.serde_json.specs.Written.{compact_text}
 use Rattle.ps_values.specs.declared.values.Value.{Value}
 use Rattle.ps_rules.specs.Names.{is_definition_name, is_in_word, begins_word}
-use Rattle.ps_bucket_eval.specs.Buckets.{array_json, bucket_name_of}
+use Rattle.ps_bucket_eval.specs.Buckets.{bucket_name_of}
 use Rattle.ps_bucket_eval.specs.Laws.{NamesDiffer}
 use Rattle.ps_bucket_eval.proofs.Arrays.{vector_back}
 
@@ -29,6 +28,6 @@ unfolding bucket_name_of
 name_before definition values h = word_before definition _ (and_parts (begins_word definition) (list_all is_in_word definition) h).1
 
 pub names_differ : NamesDiffer
-names_differ a b v w ha hb hv hw e =
+names_differ a b v w ha hb hv e =
     let same : a ≡ b = sym (name_before a v ha) ∙ ap before_bracket e ∙ name_before b w hb in
     (same, vector_back a v w hv (e ∙ ap (λ (d : List ℕ). bucket_name_of d w) (sym same)))

@@ -1,11 +1,11 @@
 -- Names that are put into a set, within a room.
-use Rattle.std.proofs.Common.{◌≡◌, ℕ, suc, ◌+◌, ◌-◌, ◌<◌, ◌≤◌, Bool, true, false, List, [], ◌∷◌, ◌++◌, length, get_or, take, drop, leb, refl, sym, ap, ◌∙◌, subst, arith, length-append}
-use Rattle.std.specs.Prelude.{flat_map, Option, Some, None}
+use Rattle.std.proofs.Common.{◌≡◌, ℕ, ◌+◌, ◌-◌, ◌<◌, ◌≤◌, Bool, true, false, List, [], ◌∷◌, ◌++◌, length, get_or, take, drop, leb, refl, sym, ap, ◌∙◌, subst, arith, length-append}
+use Rattle.std.specs.Prelude.{IsTrue, ◌↔◌, flat_map, Option, Some, None}
 use Rattle.std.specs.BTreeSet.{BTreeSet}
 use Rattle.std.proofs.lemmas.Bool.{leb-true, leb-false}
 use Rattle.std.proofs.lemmas.List.{take_all}
 use Rattle.ps_values.specs.declared.values.Value.{Value}
-use Rattle.ps_bucket_eval.specs.Solving.{inserted, Fits, FitsWith, names_from}
+use Rattle.ps_bucket_eval.specs.Solving.{inserted, Fits, FitsWith, names_from, is_none, some_empty}
 use Rattle.ps_bucket_eval.proofs.Steps.{named_more, named_past}
 
 -- whether the set has room tells whether the names fit
@@ -20,6 +20,28 @@ fits_within room old new names false e h = absurd (cc)
 pub fits_past : (room : ℕ) (old new names : List (List ℕ)) (b : Bool) → b ≡ false → Fits room old new names b → room < length (inserted old names)
 fits_past room old new names true e h = absurd (cc)
 fits_past room old new names false e h = h
+
+-- a list tells whether it has no value
+pub none_is : (b : Bool) (values : List Value) → (IsTrue b ↔ (values ≡ [])) → b ≡ is_none values
+none_is true [] h = refl
+none_is true (v ∷ vs) h = let wrong : v ∷ vs ≡ [] = h.0 refl in absurd (cc)
+none_is false [] h = h.1 refl
+none_is false (v ∷ vs) h = refl
+
+flat_none : {X : Type 0} (f : X → List (List ℕ)) → ((x : X) → f x ≡ []) → (xs : List X) → flat_map f xs ≡ []
+flat_none f h [] = refl
+flat_none f h (x ∷ xs) = ap (λ ns. ns ++ flat_map f xs) (h x) ∙ flat_none f h xs
+
+-- where a list is empty there is no vector
+pub none_from_empty : (definition : List ℕ) (chosen : List Value) (lists : List (List Value)) → some_empty lists ≡ true → names_from definition chosen lists ≡ []
+none_from_empty definition chosen [] h = absurd (cc)
+none_from_empty definition chosen ([] ∷ lists) h = refl
+none_from_empty definition chosen ((v ∷ vs) ∷ lists) h =
+    flat_none (λ value. names_from definition (chosen ++ value ∷ []) lists) (λ value. none_from_empty definition (chosen ++ value ∷ []) lists h) (v ∷ vs)
+
+-- nothing is added where there is no vector
+pub fits_empty : (definition : List ℕ) (lists : List (List Value)) (room : ℕ) (old : List (List ℕ)) → some_empty lists ≡ true → length old ≤ room → Fits room old old (names_from definition [] lists) true
+fits_empty definition lists room old h within = (sym (ap (inserted old) (none_from_empty definition [] lists h)), within)
 
 -- the names of a vector that is whole
 pub names_whole : (definition : List ℕ) (chosen : List Value) (lists : List (List Value)) → lists ≡ [] → names_from definition chosen lists ≡ names_from definition chosen []

@@ -4,12 +4,12 @@ mod Arrays
 mod Choosing
 mod Definitions
 mod Fitting
-mod Members
+pub mod Members
 mod Placements
 mod Plainness
-mod Ranks
+pub mod Ranks
 mod Reading
-mod Sets
+pub mod Sets
 mod Sides
 mod Solutions
 mod Solved

@@ -1,14 +1,12 @@
 -- For every vector, the condition holds exactly where the vector's entry is among the entries.
-use Rattle.std.proofs.Common.{◌≡◌, ℕ, Bool, true, false, cond, List, [], ◌∷◌, length, map, Option, Some, None, refl, sym, ap, ◌∙◌, subst, inl, inr}
-use Rattle.std.specs.Prelude.{◌↔◌, ◌||◌, if◌then◌else◌, bytes_eq, Contains}
+use Rattle.std.proofs.Common.{◌≡◌, ℕ, Bool, true, false, List, [], ◌∷◌, map, Option, Some, None, refl, sym, ap, ◌∙◌, subst, inl, inr}
+use Rattle.std.specs.Prelude.{if◌then◌else◌, bytes_eq}
 use Rattle.std.specs.List.{AllByRecursion}
-use Rattle.std.proofs.lemmas.Option.{same_Some}
 use Rattle.ps_values.specs.declared.values.Value.{Value}
 use Rattle.ps_sql.specs.declared.queries.ParameterQuery.{ParameterQuery}
-use Rattle.ps_sql.specs.Meaning.{Holds}
 use Rattle.ps_rules.specs.declared.queries.Planned.{Planned}
 use Rattle.ps_rules.specs.declared.definitions.Definition.{Definition}
-use Rattle.ps_rules.specs.Names.{has_repeated, output_names}
+use Rattle.ps_rules.specs.Names.{has_repeated}
 use Rattle.ps_rules.specs.Checks.{names_of}
 use Rattle.ps_rules.specs.Meeting.{holds}
 use Rattle.ps_rules.specs.RuleSets.{RuleSet, AreRules, IsSound, IsSoundParameter, IsSoundQuery}
@@ -17,11 +15,11 @@ use Rattle.ps_bucket_eval.specs.Buckets.{bucket_name_of}
 use Rattle.ps_bucket_eval.specs.Shown.{alone, object_id}
 use Rattle.ps_bucket_eval.specs.Vectors.{with_vector, holding}
 use Rattle.ps_bucket_eval.specs.Entries.{RowOf, placed_in, entry_of, placed_all, buckets_of, query_entries, definition_entries, entries_of}
-use Rattle.ps_bucket_eval.specs.Laws.{IsVectorOf, PlacedWhereItHolds}
+use Rattle.ps_bucket_eval.specs.Laws.{PlacedWhereItHolds}
 use Rattle.ps_bucket_eval.proofs.Members.{Has, has_flat, from_flat, has_map, from_map, has_contains, contains_has}
 use Rattle.ps_bucket_eval.proofs.Sets.{has_in_order, from_in_order}
 use Rattle.ps_bucket_eval.proofs.Arrays.{vector_back}
-use Rattle.ps_bucket_eval.proofs.Reading.{same_name, name_same}
+use Rattle.ps_bucket_eval.proofs.Reading.{name_same}
 use Rattle.ps_bucket_eval.proofs.Solutions.{BranchLaws, IsSolvable, solvable, holds_tried, holding_holds}
 use Rattle.ps_bucket_eval.proofs.Ranks.{same_place, query_numbered}
 

@@ -1,11 +1,10 @@
 -- A query's number tells the query and its definition, and entries stand in the order of numbers and buckets.
-use Rattle.std.proofs.Common.{◌≡◌, ℕ, ◌<◌, ◌≤◌, Bool, true, false, cond, List, [], ◌∷◌, ◌++◌, map, Option, Some, None, refl, sym, ap, ◌∙◌, subst, arith, inl, inr}
-use Rattle.std.specs.Prelude.{◌⊎◌, ◌&&◌, nat_lt, if◌then◌else◌, flat_map, bytes_eq}
+use Rattle.std.proofs.Common.{◌≡◌, ℕ, ◌<◌, Bool, true, false, List, [], ◌∷◌, ◌++◌, map, Option, Some, None, refl, sym, ap, ◌∙◌, subst, arith, inl, inr}
+use Rattle.std.specs.Prelude.{◌&&◌, nat_lt, if◌then◌else◌, flat_map, bytes_eq}
 use Rattle.std.specs.Ordering.{nat_cmp, ordering_then}
 use Rattle.std.specs.Cmp.{nat_cmp_is}
 use Rattle.std.specs.Cmp.Lexicographic.{slice_cmp}
-use Rattle.std.specs.declared.cmp.Ordering.{Ordering}
-use Rattle.std.specs.declared.cmp.Ordering.TheVariants.{Less, Equal, Greater}
+use Rattle.std.specs.declared.cmp.Ordering.TheVariants.{Less, Equal}
 use Rattle.std.proofs.lemmas.Bool.{and_parts, ltb-true}
 use Rattle.ps_rules.specs.declared.queries.Planned.{Planned}
 use Rattle.ps_rules.specs.declared.definitions.Definition.{Definition}
@@ -16,7 +15,7 @@ use Rattle.ps_bucket_eval.specs.Shown.{alone, object_id}
 use Rattle.ps_bucket_eval.specs.Vectors.{holding}
 use Rattle.ps_bucket_eval.specs.Entries.{RowOf, placed_in, placed_all, buckets_of, query_entries, definition_entries, entries_of}
 use Rattle.ps_bucket_eval.specs.Laws.{placed_cmp, EntriesRise}
-use Rattle.ps_bucket_eval.proofs.Members.{Has, has_left, has_right, has_cases, has_map, from_map, has_flat, from_flat}
+use Rattle.ps_bucket_eval.proofs.Members.{Has, has_right, has_cases, has_map, from_map, has_flat, from_flat}
 use Rattle.ps_bucket_eval.proofs.Sets.{Rises, rises_sorted, in_order_rises}
 
 -- ---- numbers

@@ -1,9 +1,9 @@
 -- What stands in the sides of a condition's matches.
-use Rattle.std.proofs.Common.{◌≡◌, ℕ, Bool, true, false, cond, List, [], ◌∷◌, ◌++◌, Option, Some, None, refl, sym, ap, ◌∙◌, map, subst, inl, inr}
-use Rattle.std.specs.Prelude.{◌||◌, not, if◌then◌else◌}
+use Rattle.std.proofs.Common.{◌≡◌, ℕ, Bool, true, false, List, [], ◌∷◌, ◌++◌, Option, Some, None, refl, sym, ap, ◌∙◌, map, subst, inl, inr}
+use Rattle.std.specs.Prelude.{◌||◌, if◌then◌else◌}
 use Rattle.std.specs.List.{list_any}
 use Rattle.std.specs.Option.{option_or}
-use Rattle.std.proofs.lemmas.Bool.{or_parts, or_from, not-false, not-true}
+use Rattle.std.proofs.lemmas.Bool.{or_parts}
 use Rattle.ps_sql.specs.declared.expressions.Expr.{Expr, Expr-F, fold-roll-Expr, map-Expr, out-Expr, roll-Expr, roll-out-Expr, out-roll-Expr, ind-Expr}
 use Rattle.ps_sql.specs.declared.expressions.Expr.TheOpen as layers
 use Rattle.ps_sql.specs.declared.expressions.Expr.TheVariants as exprs
@@ -13,8 +13,8 @@ use Rattle.ps_sql.specs.declared.subjects.Subject.TheVariants as subjects
 use Rattle.ps_sql.specs.Subjects.{speaks, layer_speaks, any_true}
 use Rattle.ps_rules.specs.declared.matches.Match.{Match}
 use Rattle.ps_rules.specs.declared.branches.Branch.{Branch}
-use Rattle.ps_rules.specs.Branches.{finds, layer_finds, has_parameter, mentions, match_of_side, match_of_sides, match_of_layer, match_of, branch_with, leaf_branch, joined, crossed, branches_in, branches_of}
-use Rattle.ps_rules.specs.Laws.{EitherSide, BothSides, LeafAlone, is_spread, is_leaf_layer, is_leaf}
+use Rattle.ps_rules.specs.Branches.{finds, layer_finds, has_parameter, match_of_side, match_of_sides, match_of_layer, match_of, branch_with, leaf_branch, joined, crossed, branches_in, branches_of}
+use Rattle.ps_rules.specs.Laws.{EitherSide, BothSides, LeafAlone, is_leaf_layer, is_leaf}
 use Rattle.ps_bucket_eval.proofs.Members.{Has, has_cases, from_flat, from_map}
 
 -- ---- a parameter stands in an expression where it speaks of the bucket

@@ -1,19 +1,19 @@
 -- The vectors that branches allow are those for which the condition holds.
-use Rattle.std.proofs.Common.{◌≡◌, ℕ, Bool, true, false, cond, List, [], ◌∷◌, ◌++◌, length, Option, Some, None, refl, sym, ap, ◌∙◌, map, subst, inl, inr}
-use Rattle.std.specs.Prelude.{◌↔◌, ◌||◌, ◌&&◌, not, if◌then◌else◌, bytes_eq, flat_map}
-use Rattle.std.specs.List.{list_any, list_all, AllZip}
+use Rattle.std.proofs.Common.{◌≡◌, ℕ, Bool, true, false, List, [], ◌∷◌, length, Option, Some, None, refl, sym, ap, ◌∙◌, map, subst, inl, inr}
+use Rattle.std.specs.Prelude.{◌&&◌, not, if◌then◌else◌, bytes_eq, flat_map}
+use Rattle.std.specs.List.{list_any, list_all}
 use Rattle.std.proofs.lemmas.Bool.{and_parts, and_from, not-true, or_parts, or_from}
 use Rattle.ps_values.specs.declared.columns.Column.{Column}
 use Rattle.ps_values.specs.declared.values.Value.{Value}
 use Rattle.ps_values.specs.Values.{equal_sql, truth_of}
 use Rattle.ps_sql.specs.declared.expressions.Expr.{Expr}
-use Rattle.ps_sql.specs.Meaning.{Given, Holds, value_of, is_true, array_of}
+use Rattle.ps_sql.specs.Meaning.{Given, is_true, array_of}
 use Rattle.ps_rules.specs.declared.matches.Match.{Match}
 use Rattle.ps_rules.specs.declared.branches.Branch.{Branch}
 use Rattle.ps_rules.specs.declared.queries.Planned.{Planned}
 use Rattle.ps_rules.specs.Names.{is_in, has_repeated}
 use Rattle.ps_rules.specs.Branches.{has_parameter, mentions, branches_of}
-use Rattle.ps_rules.specs.Checks.{in_condition, is_bound, is_matched, has_unknown}
+use Rattle.ps_rules.specs.Checks.{in_condition, is_bound}
 use Rattle.ps_rules.specs.Laws.{SameTest, HoldsWhereMet, VectorDoesNotMatter}
 use Rattle.ps_rules.specs.Meeting.{holds, is_among, allows, meets, meets_some}
 use Rattle.ps_rules.specs.RuleSets.{IsSoundQuery}
@@ -22,10 +22,10 @@ use Rattle.ps_bucket_eval.specs.Buckets.{bucket_name_of}
 use Rattle.ps_bucket_eval.specs.Shown.{over, alone}
 use Rattle.ps_bucket_eval.specs.Vectors.{compared, compared_as, candidates, choices, with_vector, tried, holding}
 use Rattle.ps_bucket_eval.specs.Solving.{allowed, all_hold, names_from, branch_names, sides_have_parameter}
-use Rattle.ps_bucket_eval.proofs.Members.{Has, has_flat, from_flat, has_map, from_map, has_filter, from_filter, any_has, has_any, all_has, has_all, none_has}
+use Rattle.ps_bucket_eval.proofs.Members.{Has, has_flat, from_flat, has_map, from_map, has_filter, from_filter, any_has, has_any, all_has, has_all}
 use Rattle.ps_bucket_eval.proofs.Choosing.{InEach, has_choices, from_choices, names_of_choices}
-use Rattle.ps_bucket_eval.proofs.Sides.{IsPlain, ArePlain, SpreadLaws, branches_plain}
-use Rattle.ps_bucket_eval.proofs.Allowing.{ValueLaws, permits, permits_compared, EachPermits, Matched, from_allowed, has_allowed}
+use Rattle.ps_bucket_eval.proofs.Sides.{ArePlain, SpreadLaws, branches_plain}
+use Rattle.ps_bucket_eval.proofs.Allowing.{ValueLaws, permits, permits_compared, Matched, from_allowed, has_allowed}
 use Rattle.ps_bucket_eval.proofs.Reading.{zip_where, zip_length, zip_map, zip_unmap, zip_both, same_name, name_same, in_names, each_at}
 
 -- the laws of lower crates that the proof stands on

@@ -25,9 +25,9 @@ IsSqlValue (Int (pos n)) = n < 2 ^ 63
 IsSqlValue (Int (negsuc n)) = n < 2 ^ 63
 IsSqlValue (Text t) = Unit {0}
 
--- different pairs of a definition and a vector have different names
+-- different pairs of a definition and a vector have different names; one of the vectors is known to be of integers of signed 64 bits
 abbrev pub NamesDiffer : Type 0
-NamesDiffer = (a b : List ℕ) (v w : List Value) → is_definition_name a ≡ true → is_definition_name b ≡ true → AllByRecursion IsSqlValue v → AllByRecursion IsSqlValue w
+NamesDiffer = (a b : List ℕ) (v w : List Value) → is_definition_name a ≡ true → is_definition_name b ≡ true → AllByRecursion IsSqlValue v
     → bucket_name_of a v ≡ bucket_name_of b w → (a ≡ b) × (v ≡ w)
 
 -- one vector of a data query that shows an object for a row: a value for each parameter

@@ -1,5 +1,5 @@
 -- The vectors of a data query as they are found: from the branches of its condition.
-use Rattle.std.specs.Prelude.{ℕ, Bool, true, false, ◌||◌, not, List, [], ◌∷◌, ◌++◌, map, filter, flat_map, length, if◌then◌else◌, Option, Some, None, bytes_eq, ◌≡◌, ◌<◌, ◌≤◌, ◌+◌, Result, Ok, Err}
+use Rattle.std.specs.Prelude.{ℕ, Bool, true, false, ◌||◌, List, [], ◌∷◌, ◌++◌, map, filter, flat_map, length, if◌then◌else◌, Option, Some, None, bytes_eq, ◌≡◌, ◌<◌, ◌≤◌, ◌+◌, Result, Ok, Err}
 use Rattle.std.specs.List.{list_any, list_all}
 use Rattle.std.specs.Ordering.{nat_cmp}
 use Rattle.std.specs.Cmp.Lexicographic.{slice_cmp}
@@ -73,6 +73,14 @@ allowed given matches name = values_or_none (narrowed_along given name None matc
 abbrev pub names_from : List ℕ → List Value → List (List Value) → List (List ℕ)
 names_from definition chosen [] = bucket_name_of definition chosen ∷ []
 names_from definition chosen (values ∷ lists) = flat_map (λ value. names_from definition (chosen ++ value ∷ []) lists) values
+
+-- one of the lists has no value
+abbrev pub is_none : List Value → Bool
+is_none [] = true
+is_none (value ∷ values) = false
+
+abbrev pub some_empty : List (List Value) → Bool
+some_empty lists = list_any is_none lists
 
 abbrev pub all_hold : Given → List Expr → Bool
 all_hold given rest = list_all (λ (e : Expr). holds given (Some e)) rest

@@ -1,10 +1,9 @@
 -- The vectors of parameter values for which a data query's condition holds on a row.
-use Rattle.std.specs.Prelude.{ℕ, List, [], ◌∷◌, map, filter, flat_map, if◌then◌else◌, Option, Some, None, bytes_eq}
-use Rattle.serde_json.specs.Data.{Items, no_items, item}
+use Rattle.std.specs.Prelude.{ℕ, List, [], ◌∷◌, map, filter, flat_map, if◌then◌else◌, bytes_eq}
 use Rattle.ps_values.specs.declared.columns.Column.{Column}
 use Rattle.ps_values.specs.declared.values.Value.{Value}
-use Rattle.ps_values.specs.Conversions.{value_of as json_value}
 use Rattle.ps_sql.specs.Meaning.{Given, value_of, array_of}
+use Rattle.ps_sql_eval.specs.Evaluated.{values_in}
 use Rattle.ps_rules.specs.declared.matches.Match.{Match}
 use Rattle.ps_rules.specs.declared.branches.Branch.{Branch}
 use Rattle.ps_rules.specs.declared.queries.Planned.{Planned}
@@ -12,18 +11,9 @@ use Rattle.ps_rules.specs.Meeting.{holds}
 use Rattle.ps_rules.specs.Vectors.{vector_at}
 use Rattle.ps_bucket_eval.specs.Shown.{over, alone}
 
--- the elements of an array, as values
-abbrev pub item_values : Items → List Value
-item_values no_items = []
-item_values (item d ds) = json_value d ∷ item_values ds
-
-abbrev pub elements : Option Items → List Value
-elements None = []
-elements (Some ds) = item_values ds
-
 -- what a match compares its parameter with: the value of its other side, or the elements of that value
 abbrev pub compared : Given → Match → List Value
-compared given m = if m.listed then elements (array_of (value_of given m.other)) else value_of given m.other ∷ []
+compared given m = if m.listed then values_in (array_of (value_of given m.other)) else value_of given m.other ∷ []
 
 -- what the matches compare the parameter of a name with
 abbrev pub compared_as : Given → List ℕ → Match → List Value

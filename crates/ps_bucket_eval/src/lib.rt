@@ -9,9 +9,11 @@ mod objects;
 mod placed;
 mod placing;
 mod solving;
+#[cfg(test)]
+mod tests;
 
 pub use faults::PlaceFault;
 pub use laws::{entries_stand_where_conditions_hold, names_are_distinct};
-pub use naming::bucket_name;
+pub use naming::{bucket_name, have_64_bits};
 pub use placed::Placed;
 pub use placing::entries_of_row;

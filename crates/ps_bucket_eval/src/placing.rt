@@ -6,7 +6,7 @@ ghost use Rattle.ps_rules.specs.RuleSets.{IsSound, IsSoundQuery, AreRules};
 ghost use Rattle.ps_bucket_eval.specs.Shown.{alone};
 ghost use Rattle.ps_bucket_eval.specs.Entries.{RowOf, subkey_of, placed_in, query_entries, definition_entries, entries_of, buckets_of, IsPlaced};
 ghost use Rattle.ps_bucket_eval.specs.Laws.{PlacedWhereItHolds, EntriesRise};
-ghost use Rattle.ps_bucket_eval.specs.Solving.{sides_have_parameter, names_from, branch_names, Fits, FitsWith, AddsEntries, row_of, made_in, outputs_have_parameter};
+ghost use Rattle.ps_bucket_eval.specs.Solving.{sides_have_parameter, names_from, is_none, some_empty, branch_names, Fits, FitsWith, AddsEntries, row_of, made_in, outputs_have_parameter};
 
 use crate::evaluating::all_hold;
 use crate::laws::{branches_are_solved, entries_stand_where_conditions_hold};
@@ -240,15 +240,42 @@ fn name_branch(
         return Ok(true);
     }
     let lists = allowed_each(alloc, names, branch.matches.as_slice(), id, row)?;
+    name_lists(alloc, definition, lists.as_slice(), room, found)
+}
+
+// Adds the names of the vectors that have one value of each list; false where they are more than `room`. Where a list is
+// empty there is none, and the others are not gone through.
+#[tactic(auto, using(crate::proofs::Fitting::fits_empty))]
+fn name_lists(
+    alloc: Global,
+    definition: &Text,
+    lists: &[Items<Value>],
+    room: usize,
+    found: &mut BTreeSet<Text>,
+) -> Result<bool, Memory>
+    requires { length found.old.keys ≤ room }
+    ensures { IfOk result (Fits room found.old.keys found.new.keys (names_from definition.now [] lists.now)) }
+{
+    if has_empty(lists) {
+        return Ok(true);
+    }
     let mut chosen = Vec::new(alloc);
-    name_vectors(
-        alloc,
-        definition,
-        lists.as_slice(),
-        &mut chosen,
-        room,
-        found,
-    )
+    name_vectors(alloc, definition, lists, &mut chosen, room, found)
+}
+
+// Whether one of some lists is empty.
+fn has_empty(lists: &[Items<Value>]) -> bool
+    ensures { result ≡ some_empty lists.now }
+{
+    lists.iter().any(has_none)
+}
+
+// Whether a list is empty.
+#[tactic(auto, using(crate::proofs::Fitting::none_is))]
+fn has_none(values: &Items<Value>) -> bool
+    ensures { result ≡ is_none values.now }
+{
+    values.is_empty()
 }
 
 // Adds the names of the vectors that begin with the chosen values and go on with one of each list; false as soon as the

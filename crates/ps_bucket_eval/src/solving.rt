@@ -4,20 +4,15 @@ ghost use Rattle.std.specs.BTreeMap.{is_at};
 ghost use Rattle.ps_values.specs.Values.{compare_values};
 ghost use Rattle.ps_rules.specs.declared.matches.Match.{Match as MatchData};
 ghost use Rattle.ps_rules.specs.Branches.{has_parameter};
-ghost use Rattle.ps_sql.specs.Meaning.{array_of};
-ghost use Rattle.serde_json.specs.View.{view, items_view};
-ghost use Rattle.serde_json.specs.Find.{as_array};
-ghost use Rattle.serde_json.specs.Written.{has_float, items_have_float};
-ghost use Rattle.ps_values.specs.Conversions.{value_of as value_of_data};
 ghost use Rattle.ps_bucket_eval.specs.Shown.{alone};
-ghost use Rattle.ps_bucket_eval.specs.Vectors.{elements as elements_of, item_values, compared as values_compared};
+ghost use Rattle.ps_bucket_eval.specs.Vectors.{compared as values_compared};
 ghost use Rattle.ps_bucket_eval.specs.Solving.{gathered, allowed_by as allowed_by_match, common as in_common, narrowed_by, allowed as allowed_values};
 
 use crate::evaluating::value_on;
 use ps_changes::Row;
 use ps_rules::Match;
-use ps_values::{Items, Memory, Text, Value, plain_json, text_of_json};
-use serde_json::Value as Json;
+use ps_sql_eval::elements;
+use ps_values::{Items, Memory, Text, Value};
 use std::alloc::Global;
 use std::collections::BTreeSet;
 
@@ -151,58 +146,4 @@ fn has(set: &BTreeSet<Value>, value: &Value) -> bool
     ensures { result ≡ list_any (is_at (compare_values value.now)) set.now.keys }
 {
     set.contains(value)
-}
-
-// The elements of a value that is the text of a JSON array; any other value has none.
-#[tactic(auto, unfolding(ps_sql::specs::Json::plain_json))]
-fn elements(alloc: Global, value: &Value) -> Result<Items<Value>, Memory>
-    ensures { IfOk result (λ values. values ≡ elements_of (array_of value.now)) }
-{
-    match value {
-        Value::Null | Value::Int(_) => Ok(Items::new(alloc)),
-        Value::Text(text) => match plain_json(alloc, text)? {
-            None => Ok(Items::new(alloc)),
-            Some(json) => elements_of_json(alloc, &json),
-        },
-    }
-}
-
-// The elements of JSON, where that is an array.
-fn elements_of_json(alloc: Global, json: &Json) -> Result<Items<Value>, Memory>
-    requires { has_float (view json.now) ≡ false }
-    ensures { IfOk result (λ values. values ≡ elements_of (as_array (view json.now))) }
-{
-    match json.as_array() {
-        None => Ok(Items::new(alloc)),
-        Some(items) => values_of_items(alloc, items),
-    }
-}
-
-// The values of elements.
-fn values_of_items(alloc: Global, items: &Vec<Json>) -> Result<Items<Value>, Memory>
-    requires { items_have_float (items_view items.now.items) ≡ false }
-    ensures { IfOk result (λ values. values ≡ item_values (items_view items.now.items)) }
-{
-    let mut values = Items::new(alloc);
-    'items: for item in items {
-        values.push(value_of_item(alloc, item)?)?;
-    }
-    Ok(values)
-}
-
-// The value of an element, in which each number is a whole number of signed 64 bits.
-fn value_of_item(alloc: Global, item: &Json) -> Result<Value, Memory>
-    requires { has_float (view item.now) ≡ false }
-    ensures { IfOk result (λ value. value ≡ value_of_data (view item.now)) }
-{
-    match item {
-        Json::Null => Ok(Value::Null),
-        Json::Bool(truth) => Ok(Value::Int(i64::from(*truth))),
-        Json::Number(number) => match number.as_i64() {
-            Some(number) => Ok(Value::Int(number)),
-            None => Ok(Value::Null),
-        },
-        Json::String(text) => Ok(Value::Text(Text::from_str(alloc, text.as_str())?)),
-        Json::Array(_) | Json::Object(_) => Ok(Value::Text(text_of_json(alloc, item)?)),
-    }
 }

@@ -1,10 +1,13 @@
 -- What is read as rules keeps what rules keep.
-use Rattle.std.proofs.Common.{◌≡◌, ℕ, zero, suc, ◌+◌, Bool, true, false, List, [], ◌∷◌, ◌++◌, length, refl, sym, ap, ◌∙◌, map, subst, arith, append_assoc, zero-add, Result, Ok, bytes_eq}
+use Rattle.std.proofs.Common.{◌≡◌, ℕ, zero, suc, ◌+◌, Bool, true, false, List, [], ◌∷◌, ◌++◌, length, refl, sym, ap, ◌∙◌, map, subst, arith, append_assoc, zero-add, Result, Ok, Err, bytes_eq}
 use Rattle.std.specs.Prelude.{◌||◌, ◌&&◌, not, nat_lt}
 use Rattle.std.specs.Cmp.Lexicographic.{nat_list_eq_equiv}
 use Rattle.std.specs.List.{list_all, AllByRecursion}
 use Rattle.ps_sql.specs.declared.queries.ParameterQuery.{ParameterQuery}
 use Rattle.ps_sql.specs.declared.queries.DataQuery.{DataQuery}
+use Rattle.ps_sql.specs.declared.faults.SqlFault.{SqlFault}
+use Rattle.ps_sql.specs.declared.subjects.Subject.TheVariants as subjects
+use Rattle.ps_sql.specs.Asking.{query_speaks, DataQueriesAskNobody, ParameterQueriesNameNoBucket}
 use Rattle.ps_sql.specs.Readings.{parameter_query_of, data_query_of}
 use Rattle.ps_rules.specs.declared.drafts.Written.{Written}
 use Rattle.ps_rules.specs.declared.drafts.Draft.{Draft}
@@ -33,6 +36,16 @@ append_nil (x ∷ xs) = ap (λ r. x ∷ r) (append_nil xs)
 each_more : {X : Type 0} (P : X → Type 0) (xs : List X) (x : X) → AllByRecursion P xs → P x → AllByRecursion P (xs ++ x ∷ [])
 each_more P [] x all one = (one, all)
 each_more P (y ∷ xs) x all one = (all.0, each_more P xs x all.1 one)
+
+-- what may stand in queries that are read
+record SpeakAsTheyMay : Type 0 where
+  data_queries : DataQueriesAskNobody
+  parameter_queries : ParameterQueriesNameNoBucket
+
+-- a query that has its place was read
+was_read : {A : Type 0} (line column : ℕ) (r : Result A SqlFault) (x : A) → sql line column r ≡ Ok x → r ≡ Ok x
+was_read line column (Ok y) x h = ap (λ (v : _). Ok v) (same_ok y x h)
+was_read line column (Err fault) x h = absurd (cc)
 
 not_false : (b : Bool) → not b ≡ false → b ≡ true
 not_false true h = refl
@@ -68,15 +81,16 @@ same_self names = ap (λ b. b && are_in names names) (are_in_self names) ∙ are
 abbrev KnownSound : List ParameterQuery → Type 0
 KnownSound queries = AllByRecursion (IsSoundParameter (names_of queries)) queries
 
-known_more : (queries : List ParameterQuery) (query : ParameterQuery) → KnownSound queries → has_repeated (output_names query.outputs) ≡ false → is_mixed queries (output_names query.outputs) ≡ false → KnownSound (queries ++ query ∷ [])
-known_more [] query sound differ alike = (record { names_differ = differ; same_set = same_self (output_names query.outputs) }, sound)
-known_more (first ∷ others) query sound differ alike =
+known_more : (queries : List ParameterQuery) (query : ParameterQuery) → KnownSound queries → has_repeated (output_names query.outputs) ≡ false → is_mixed queries (output_names query.outputs) ≡ false
+    → query_speaks subjects.Bucket query.outputs query.condition ≡ false → KnownSound (queries ++ query ∷ [])
+known_more [] query sound differ alike no_bucket = (record { names_differ = differ; same_set = same_self (output_names query.outputs); no_bucket = no_bucket }, sound)
+known_more (first ∷ others) query sound differ alike no_bucket =
     each_more (IsSoundParameter (output_names first.outputs)) (first ∷ others) query sound
-    (record { names_differ = differ; same_set = not_false (same_names (output_names first.outputs) (output_names query.outputs)) alike })
+    (record { names_differ = differ; same_set = not_false (same_names (output_names first.outputs) (output_names query.outputs)) alike; no_bucket = no_bucket })
 
-known_step : (known : Known) (written : Written) (more : Known) → known_with known written ≡ Ok more → KnownSound known.queries → KnownSound more.queries
+known_step : SpeakAsTheyMay → (known : Known) (written : Written) (more : Known) → known_with known written ≡ Ok more → KnownSound known.queries → KnownSound more.queries
 unfolding known_with
-known_step known written more h sound =
+known_step laws known written more h sound =
     let line = written.line in let column = written.column in
     let last : ParameterQuery → Result Known RulesFault = λ query. Ok (record { queries = known.queries ++ query ∷ []; warnings = known.warnings ++ client_warning written query }) in
     let a = both_ok (sql line column (parameter_query_of written.text))
@@ -85,13 +99,13 @@ known_step known written more h sound =
     let b = past (has_repeated (output_names query.outputs)) (faults.DuplicateName line column) (λ differ. refuse (is_mixed known.queries (output_names query.outputs)) (faults.MixedOutput line column) >>= λ alike. last query) more a.2 in
     let c = past (is_mixed known.queries (output_names query.outputs)) (faults.MixedOutput line column) (λ alike. last query) more b.1 in
     let is = same_ok (record { queries = known.queries ++ query ∷ []; warnings = known.warnings ++ client_warning written query }) more c.1 in
-    subst (λ (k : Known). KnownSound k.queries) is (known_more known.queries query sound b.0 c.0)
+    subst (λ (k : Known). KnownSound k.queries) is (known_more known.queries query sound b.0 c.0 (laws.parameter_queries written.text query (was_read line column (parameter_query_of written.text) query a.1)))
 
-known_all : (known : Known) (all : List Written) (more : Known) → all_known known all ≡ Ok more → KnownSound known.queries → KnownSound more.queries
-known_all known [] more h sound = subst (λ (k : Known). KnownSound k.queries) (same_ok known more h) sound
-known_all known (written ∷ others) more h sound =
+known_all : SpeakAsTheyMay → (known : Known) (all : List Written) (more : Known) → all_known known all ≡ Ok more → KnownSound known.queries → KnownSound more.queries
+known_all laws known [] more h sound = subst (λ (k : Known). KnownSound k.queries) (same_ok known more h) sound
+known_all laws known (written ∷ others) more h sound =
     let a = both_ok (known_with known written) (λ (k : Known). all_known k others) more h in
-    known_all a.0 others more a.2 (known_step known written a.0 a.1 sound)
+    known_all laws a.0 others more a.2 (known_step laws known written a.0 a.1 sound)
 
 -- ---- data queries
 
@@ -104,9 +118,9 @@ abbrev query_numbers : List Planned → List ℕ
 query_numbers queries = map (λ (q : Planned). q.number) queries
 
 planned_sound : (names : List (List ℕ)) (number line column : ℕ) (query : DataQuery) (planned : Planned) → planned_from names number line column query ≡ Ok planned
-    → IsSoundQuery names planned × (planned.number ≡ number)
+    → query_speaks subjects.Asker query.outputs query.condition ≡ false → IsSoundQuery names planned × (planned.number ≡ number)
 unfolding planned_from
-planned_sound names number line column query planned h =
+planned_sound names number line column query planned h no_asker =
     let made : Planned = record { query = query; number = number; branches = branches_of query.condition } in
     let r5 : Result Planned RulesFault = refuse (not (is_matched names query)) (faults.UnmatchedParameter line column) >>= λ matched. Ok made in
     let r4 : Result Planned RulesFault = refuse (has_many_branches query) (faults.TooManyBranches line column) >>= λ few. r5 in
@@ -117,23 +131,24 @@ planned_sound names number line column query planned h =
     let c = past (has_unknown names query) (faults.UnknownParameter line column) (λ known. r4) planned b.1 in
     let d = past (has_many_branches query) (faults.TooManyBranches line column) (λ few. r5) planned c.1 in
     let e = past (not (is_matched names query)) (faults.UnmatchedParameter line column) (λ matched. Ok made) planned d.1 in
-    let sound : IsSoundQuery names made = record { names_differ = a.0; has_id = b.0; known = c.0; few = d.0; matched = not_false (is_matched names query) e.0; branches = refl } in
+    let sound : IsSoundQuery names made = record { names_differ = a.0; has_id = b.0; known = c.0; few = d.0; matched = not_false (is_matched names query) e.0; branches = refl; no_asker = no_asker } in
     subst (λ (p : Planned). IsSoundQuery names p × (p.number ≡ number)) (same_ok made planned e.1) (sound, refl)
 
-planned_step : (names : List (List ℕ)) (number : ℕ) (written : Written) (planned : Planned) → planned_of names number written ≡ Ok planned → IsSoundQuery names planned × (planned.number ≡ number)
+planned_step : SpeakAsTheyMay → (names : List (List ℕ)) (number : ℕ) (written : Written) (planned : Planned) → planned_of names number written ≡ Ok planned → IsSoundQuery names planned × (planned.number ≡ number)
 unfolding planned_of
-planned_step names number written planned h =
+planned_step laws names number written planned h =
     let a = both_ok (sql written.line written.column (data_query_of written.text)) (λ (query : DataQuery). planned_from names number written.line written.column query) planned h in
     planned_sound names number written.line written.column a.0 planned a.2
+    (laws.data_queries written.text a.0 (was_read written.line written.column (data_query_of written.text) a.0 a.1))
 
-planned_all : (names : List (List ℕ)) (before : ℕ) (queries : List Planned) (all : List Written) (more : List Planned) → all_planned names before queries all ≡ Ok more
+planned_all : SpeakAsTheyMay → (names : List (List ℕ)) (before : ℕ) (queries : List Planned) (all : List Written) (more : List Planned) → all_planned names before queries all ≡ Ok more
     → AllByRecursion (IsSoundQuery names) queries → AllByRecursion (IsSoundQuery names) more × (query_numbers more ≡ query_numbers queries ++ counted before all)
-planned_all names before queries [] more h sound =
+planned_all laws names before queries [] more h sound =
     subst (λ (ps : List Planned). AllByRecursion (IsSoundQuery names) ps × (query_numbers ps ≡ query_numbers queries ++ [])) (same_ok queries more h) (sound, sym (append_nil (query_numbers queries)))
-planned_all names before queries (written ∷ others) more h sound =
+planned_all laws names before queries (written ∷ others) more h sound =
     let a = both_ok (planned_of names (before + 1) written) (λ (next : Planned). all_planned names (before + 1) (queries ++ next ∷ []) others) more h in
-    let one = planned_step names (before + 1) written a.0 a.1 in
-    let rest = planned_all names (before + 1) (queries ++ a.0 ∷ []) others more a.2 (each_more (IsSoundQuery names) queries a.0 sound one.0) in (
+    let one = planned_step laws names (before + 1) written a.0 a.1 in
+    let rest = planned_all laws names (before + 1) (queries ++ a.0 ∷ []) others more a.2 (each_more (IsSoundQuery names) queries a.0 sound one.0) in (
       rest.0,
       rest.1 ∙ ap (λ (ns : List ℕ). ns ++ counted (before + 1) others) (map_append (λ (q : Planned). q.number) queries (a.0 ∷ []))
           ∙ append_assoc (query_numbers queries) (a.0.number ∷ []) (counted (before + 1) others)
@@ -147,9 +162,9 @@ record IsCheckedAs (before : ℕ) (draft : Draft) (definition : Definition) : Ty
   sound : is_definition_name draft.name ≡ true → IsSound definition
   numbers : query_numbers definition.queries ≡ counted before draft.queries
 
-checked_step : (before : ℕ) (draft : Draft) (checked : Checked) → checked_of before draft ≡ Ok checked → IsCheckedAs before draft checked.definition
+checked_step : SpeakAsTheyMay → (before : ℕ) (draft : Draft) (checked : Checked) → checked_of before draft ≡ Ok checked → IsCheckedAs before draft checked.definition
 unfolding checked_of
-checked_step before draft checked h =
+checked_step laws before draft checked h =
     let start : Known = record { queries = []; warnings = data_warning draft } in
     let a = both_ok (all_known start draft.parameters) (λ (known : Known). all_planned (names_of known.queries) before [] draft.queries >>= λ (planned : List Planned).
     Ok (record { definition = record { name = draft.name; names = names_of known.queries; parameters = known.queries; queries = planned }; warnings = known.warnings })) checked h in
@@ -157,10 +172,10 @@ checked_step before draft checked h =
     let b = both_ok (all_planned (names_of known.queries) before [] draft.queries) (λ (planned : List Planned).
     Ok (record { definition = record { name = draft.name; names = names_of known.queries; parameters = known.queries; queries = planned }; warnings = known.warnings })) checked a.2 in
     let made : Checked = record { definition = record { name = draft.name; names = names_of known.queries; parameters = known.queries; queries = b.0 }; warnings = known.warnings } in
-    let queries = planned_all (names_of known.queries) before [] draft.queries b.0 b.1 tt in
+    let queries = planned_all laws (names_of known.queries) before [] draft.queries b.0 b.1 tt in
     let is : IsCheckedAs before draft made.definition = record {
       name = refl;
-      sound = λ fits. record { name = fits; names = refl; parameters = known_all start draft.parameters known a.1 tt; queries = queries.0 };
+      sound = λ fits. record { name = fits; names = refl; parameters = known_all laws start draft.parameters known a.1 tt; queries = queries.0 };
       numbers = queries.1;
     } in
     subst (λ (c : Checked). IsCheckedAs before draft c.definition) (same_ok made checked b.2) is
@@ -221,17 +236,17 @@ kept_more before rules draft rest checked is kept =
           ∙ upto_append 0 before (length draft.queries);
     }
 
-kept_all : (before : ℕ) (rules : RuleSet) (drafts : List Draft) (all : RuleSet) → rules_from before rules drafts ≡ Ok all → KeptSoFar before rules drafts → AreRules all
-kept_all before rules [] all h kept =
+kept_all : SpeakAsTheyMay → (before : ℕ) (rules : RuleSet) (drafts : List Draft) (all : RuleSet) → rules_from before rules drafts ≡ Ok all → KeptSoFar before rules drafts → AreRules all
+kept_all laws before rules [] all h kept =
     let are : AreRules rules = record {
       names_differ = ap has_repeated (sym (append_nil (names_in rules.definitions))) ∙ kept.differ;
       sound = kept.sound;
       numbers_rise = ap (rises_past 0) kept.numbers ∙ upto_rises 0 before;
     } in subst AreRules (same_ok rules all h) are
-kept_all before rules (draft ∷ drafts) all h kept =
+kept_all laws before rules (draft ∷ drafts) all h kept =
     let a = both_ok (checked_of before draft) (λ (checked : Checked). rules_from (before + length draft.queries) (with_checked rules checked) drafts) all h in
-    kept_all (before + length draft.queries) (with_checked rules a.0) drafts all a.2 (kept_more before rules draft drafts a.0 (checked_step before draft a.0 a.1) kept)
+    kept_all laws (before + length draft.queries) (with_checked rules a.0) drafts all a.2 (kept_more before rules draft drafts a.0 (checked_step laws before draft a.0 a.1) kept)
 
 -- what is read as rules keeps what rules keep
-pub kept : (drafts : List Draft) (all : RuleSet) → rules_from 0 no_rules drafts ≡ Ok all → AreDrafts drafts → AreRules all
-kept drafts all h are = kept_all 0 no_rules drafts all h (record { differ = are.names_differ; fit = are.names_fit; sound = tt; numbers = refl })
+pub kept : DataQueriesAskNobody → ParameterQueriesNameNoBucket → (drafts : List Draft) (all : RuleSet) → rules_from 0 no_rules drafts ≡ Ok all → AreDrafts drafts → AreRules all
+kept asks names drafts all h are = kept_all (record { data_queries = asks; parameter_queries = names }) 0 no_rules drafts all h (record { differ = are.names_differ; fit = are.names_fit; sound = tt; numbers = refl })

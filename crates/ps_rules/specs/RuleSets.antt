@@ -2,6 +2,8 @@
 use Rattle.std.specs.Prelude.{◌≡◌, ℕ, Bool, true, false, ◌&&◌, nat_lt, List, [], ◌∷◌, map}
 use Rattle.std.specs.List.{AllByRecursion, list_all, flat_map}
 use Rattle.ps_sql.specs.declared.queries.ParameterQuery.{ParameterQuery}
+use Rattle.ps_sql.specs.declared.subjects.Subject.TheVariants as subjects
+use Rattle.ps_sql.specs.Asking.{query_speaks}
 use Rattle.ps_rules.specs.declared.queries.Planned.{Planned}
 use Rattle.ps_rules.specs.declared.definitions.Definition.{Definition}
 use Rattle.ps_rules.specs.declared.warnings.Warning.{Warning}
@@ -16,12 +18,13 @@ pub record RuleSet : Type 0 where
   pub definitions : List Definition
   pub warnings : List Warning
 
--- a parameter query has no name twice, and the names of the definition
+-- a parameter query has no name twice, and the names of the definition; no parameter of a bucket stands in it
 pub record IsSoundParameter (names : List (List ℕ)) (query : ParameterQuery) : Type 0 where
   pub names_differ : has_repeated (output_names query.outputs) ≡ false
   pub same_set : same_names names (output_names query.outputs) ≡ true
+  pub no_bucket : query_speaks subjects.Bucket query.outputs query.condition ≡ false
 
--- a data query passes each check, and its branches are those of its condition
+-- a data query passes each check, and its branches are those of its condition; no request function stands in it
 pub record IsSoundQuery (names : List (List ℕ)) (planned : Planned) : Type 0 where
   pub names_differ : has_repeated (output_names planned.query.outputs) ≡ false
   pub has_id : has_no_id planned.query ≡ false
@@ -29,6 +32,7 @@ pub record IsSoundQuery (names : List (List ℕ)) (planned : Planned) : Type 0 w
   pub few : has_many_branches planned.query ≡ false
   pub matched : is_matched names planned.query ≡ true
   pub branches : planned.branches ≡ branches_of planned.query.condition
+  pub no_asker : query_speaks subjects.Asker planned.query.outputs planned.query.condition ≡ false
 
 pub record IsSound (definition : Definition) : Type 0 where
   pub name : is_definition_name definition.name ≡ true

@@ -8,6 +8,7 @@ use crate::checks::check;
 use crate::drafts::{Checked, Draft};
 use crate::shapes::drafts_in;
 use crate::{Definition, Rules, RulesFault, Warning};
+use ps_sql::queries_speak_as_they_may;
 use ps_values::{Items, Memory};
 use ps_yaml::{Node, YamlFault, read_yaml};
 use std::alloc::Global;
@@ -55,11 +56,11 @@ fn warnings_behind(before: Items<Warning>, more: Items<Warning>) -> Result<Items
 }
 
 // The rules of definitions whose shapes are right.
-
 fn check_all(alloc: Global, drafts: Items<Draft>) -> Result<Rules, RulesFault>
     requires { AreDrafts drafts }
     ensures { Reads result (rules_from 0 no_rules drafts) }
 {
+    queries_speak_as_they_may();
     let mut definitions = Items::new(alloc);
     let mut warnings = Items::new(alloc);
     let mut before = 0;

@@ -1,3 +1,4 @@
+pub mod Asking
 pub mod Calm
 pub mod Cuts
 pub mod Decimals

@@ -1,4 +1,5 @@
 pub mod Answers
+pub mod Asking
 pub mod Grammar
 pub mod Inputs
 pub mod Lexemes

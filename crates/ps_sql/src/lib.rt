@@ -19,7 +19,10 @@ pub use faults::SqlFault;
 pub use lexemes::tokens;
 pub use queries::{DataQuery, Output, ParameterQuery};
 pub use readers::{read_data_query, read_parameter_query};
-pub use subjects::{Subject, same_for_every_asker, same_for_every_bucket, same_on_every_row};
+pub use subjects::{
+    Subject, queries_speak_as_they_may, same_for_every_asker, same_for_every_bucket,
+    same_on_every_row,
+};
 pub use words::{Token, TokenKind};
 
 #[cfg(test)]

@@ -1,4 +1,5 @@
 ghost use Rattle.std.specs.Prelude.{◌≡◌, map};
+ghost use Rattle.ps_sql.specs.Asking.{DataQueriesAskNobody, ParameterQueriesNameNoBucket};
 ghost use Rattle.ps_sql.specs.Subjects.{is_asker, is_bucket, is_row, any_true, speaks, IsSameForEveryAsker, IsSameForEveryBucket, IsSameOnEveryRow};
 
 use crate::Expr;
@@ -62,4 +63,11 @@ pub fn same_for_every_bucket()
 /// A law: an expression that does not speak of the row has the same value on every row.
 pub fn same_on_every_row()
     ensures { IsSameOnEveryRow }
+{}
+
+/// A law: no request function stands in what is read as a data query, and no parameter of a bucket in what is read as a
+/// parameter query.
+pub fn queries_speak_as_they_may()
+    ensures data { DataQueriesAskNobody }
+    ensures parameter { ParameterQueriesNameNoBucket }
 {}

@@ -1,5 +1,5 @@
 use Rattle.std.proofs.Common.{◌≡◌, drop}
-use Rattle.powersync.specs.ChangeFiles.{last_position}
+use Rattle.ps_store.specs.Laws.{last_position}
 use Rattle.powersync.proofs.answering.last_position.Given as goal
 
 -- the last of those that are left, or the last so far, is the last of all

@@ -9,6 +9,6 @@ pub write_line-requires : goal.write_line-requires
 write_line-requires c =
     let laws = c.standing_logs_stay_standing.ensures in
     let read = c.batches_are_the_log.ensures in
-    let leads = batch_leads_as laws.untouched laws.log read.longest read.rising read.on c.args.log.now.ops 0 c.args.last_op.0 c.in_ok-batch.batch c.requires.log (omega (arith, c.if-newest_upto-eq0.false, c.newest_upto.ensures)) c.in_ok-batch.ensures in
-    subst IsWritable (sym {b = data_line c.args.name.now 0 c.in_ok-batch.batch} c.in_ok-line.ensures)
-    (may_be_sent c.args.name.now 0 c.args.last_op.0 c.args.log.now.ops c.in_ok-batch.batch leads c.requires.last)
+    let leads = batch_leads_as laws.untouched laws.log read.longest read.rising read.on c.args.bucket.now.log.ops 0 c.args.last_op.0 c.in_ok-batch.batch c.requires.log (omega (arith, c.if-newest_upto-eq0.false, c.newest_upto.ensures)) c.in_ok-batch.ensures in
+    subst IsWritable (sym {b = data_line c.args.bucket.now.name 0 c.in_ok-batch.batch} c.in_ok-line.ensures)
+    (may_be_sent c.args.bucket.now.name 0 c.args.last_op.0 c.args.bucket.now.log.ops c.in_ok-batch.batch leads c.requires.last)

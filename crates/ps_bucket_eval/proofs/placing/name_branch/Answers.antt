@@ -1,6 +1,5 @@
 use Rattle.std.proofs.Common.{◌≡◌, true, [], List, ℕ, map, arith, ap, sym, ◌∙◌, subst}
 use Rattle.std.specs.Prelude.{IfOk, if◌then◌else◌}
-use Rattle.ps_values.specs.declared.values.Value.{Value}
 use Rattle.ps_rules.specs.declared.matches.Match.{Match}
 use Rattle.ps_bucket_eval.specs.Shown.{alone}
 use Rattle.ps_bucket_eval.specs.Solving.{Fits, allowed, all_hold, names_from, branch_names}
@@ -16,8 +15,7 @@ returns c =
     let hold : all_hold given branch.rest ≡ true = ap (all_hold given) (sym c.as_slice.ensures) ∙ sym c.in_ok-all_hold.ensures ∙ yes in
     let lists : c.as_slice-3.result.now ≡ map (allowed given branch.matches) names =
     c.as_slice-3.ensures ∙ c.in_ok-lists.ensures ∙ ap (λ (ms : List Match). map (allowed given ms) names) c.as_slice-2.ensures in
-    let same : names_from definition c.new-chosen.result.items c.as_slice-3.result.now ≡ branch_names given definition names branch =
-    ap (λ (vs : List Value). names_from definition vs c.as_slice-3.result.now) c.new-chosen.ensures.items
-    ∙ ap (names_from definition []) lists
+    let same : names_from definition [] c.as_slice-3.result.now ≡ branch_names given definition names branch =
+    ap (names_from definition []) lists
     ∙ ap (λ b. if b then names_from definition [] (map (allowed given branch.matches) names) else []) (sym hold) in
-    subst (λ (ns : List (List ℕ)). IfOk c.name_vectors.result (Fits c.args.room c.args.found.now.keys c.name_vectors.new.found.keys ns)) same c.name_vectors.ensures.named
+    subst (λ (ns : List (List ℕ)). IfOk c.name_lists.result (Fits c.args.room c.args.found.now.keys c.name_lists.new.found.keys ns)) same c.name_lists.ensures

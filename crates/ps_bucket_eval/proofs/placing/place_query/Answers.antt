@@ -1,5 +1,4 @@
-use Rattle.std.proofs.Common.{◌≡◌, ◌-◌, ◌+◌, ◌<◌, ◌≤◌, ℕ, List, [], Bool, true, false, Some, None, length, refl, sym, ap, ◌∙◌, subst, arith}
-use Rattle.std.specs.Prelude.{bytes_eq}
+use Rattle.std.proofs.Common.{◌≡◌, ◌-◌, ◌+◌, ◌<◌, ◌≤◌, ℕ, List, [], true, false, length, refl, sym, ap, ◌∙◌, subst, arith}
 use Rattle.ps_bucket_eval.specs.Entries.{placed_in, buckets_of, query_entries}
 use Rattle.ps_bucket_eval.specs.Solving.{row_of}
 use Rattle.ps_bucket_eval.proofs.Adding.{query_other, query_none, query_is, buckets_same, adds_none, adds_wide, adds_all}

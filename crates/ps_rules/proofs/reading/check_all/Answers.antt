@@ -9,4 +9,4 @@ pub made-requires : goal.made-requires
 made-requires c =
     let rules : RuleSet = record { definitions = c.drafts.definitions; warnings = c.drafts.warnings } in
     let read : rules_from 0 no_rules c.args.drafts ≡ Ok rules = grind (arith, common_steps) in
-    kept c.args.drafts rules read c.requires
+    kept c.queries_speak_as_they_may.ensures.data c.queries_speak_as_they_may.ensures.parameter c.args.drafts rules read c.requires

@@ -1,0 +1,11 @@
+mod Changes
+mod Covering
+mod Finding
+mod Gains
+mod Leaves
+mod Members
+mod Ordered
+mod Rows
+mod Sources
+mod Standing
+mod Superseded

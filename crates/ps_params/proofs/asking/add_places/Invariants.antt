@@ -1,0 +1,13 @@
+use Rattle.std.proofs.Common.{◌≡◌, ℕ, List, Bool, drop}
+use Rattle.std.specs.Prelude.{◌||◌}
+use Rattle.std.specs.List.{list_any}
+use Rattle.ps_sql_eval.specs.Evaluated.{asker_of}
+use Rattle.ps_params.specs.Kept.{rows_of, names_over}
+use Rattle.ps_params.specs.Places.{notes_at}
+use Rattle.ps_params.proofs.asking.add_places.Given as goal
+
+-- the names so far, and those on the rows at the places that are left
+abbrev pub invariant-places : goal.invariant-places
+invariant-places l = (test : List ℕ → Bool)
+    → (list_any test l.names || list_any test (names_over l.definition (asker_of l.asker) l.query l.table (rows_of l.kept.notes l.upto.0 (notes_at l.kept.notes (drop l.place-index l.places)))))
+    ≡ (list_any test l.initial.names || list_any test (names_over l.definition (asker_of l.asker) l.query l.table (rows_of l.kept.notes l.upto.0 (notes_at l.kept.notes l.places))))

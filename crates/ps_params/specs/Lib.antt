@@ -1,0 +1,10 @@
+pub mod Accesses
+pub mod Indexes
+pub mod Kept
+pub mod Laws
+pub mod Names
+pub mod Notes
+pub mod Places
+pub mod Sets
+pub mod Spots
+pub mod Trimming

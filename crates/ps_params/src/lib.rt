@@ -1,0 +1,20 @@
+//! Which buckets an asker has at a position of the source: the rows that parameter queries read, as they stood there, and
+//! the buckets that these queries name for the asker.
+#![tactic(auto)]
+
+mod accesses;
+mod asking;
+mod indexes;
+mod kept;
+mod laws;
+mod name_sets;
+mod noted;
+mod paths;
+mod places;
+mod spots;
+#[cfg(test)]
+mod tests;
+mod trimming;
+
+pub use indexes::ParameterIndex;
+pub use laws::notes_of_changes_are_the_source;

@@ -1,0 +1,11 @@
+use ps_changes::Row;
+use ps_values::{Position, Text};
+
+/// A row as a change left it at a position; None where it was deleted.
+#[derive(Debug, Drop)]
+pub(crate) struct Noted {
+    pub(crate) at: Position,
+    pub(crate) table: Text,
+    pub(crate) id: Text,
+    pub(crate) row: Option<Row>,
+}

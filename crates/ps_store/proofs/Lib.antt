@@ -1,0 +1,14 @@
+pub mod Apart
+pub mod Copies
+pub mod DueRows
+pub mod Entering
+pub mod Keys
+pub mod LatestCopies
+pub mod Moments
+pub mod Numbering
+pub mod Orders
+pub mod Replays
+pub mod Replicating
+pub mod Standings
+pub mod Ties
+pub mod Writing
