@@ -1,8 +1,14 @@
--- Reading a change file.
-use Rattle.std.specs.Prelude.{◌≡◌, ℕ, ◌+◌, ◌≤◌, List, [], Option, Some, None, Result, Ok, Err, ◌++◌, length, Vec}
-use Rattle.std.specs.declared.alloc.Global.{Global}
+-- Writing a change file into buckets, line by line.
+use Rattle.std.specs.Prelude.{◌≡◌, ℕ, ◌+◌, ◌≤◌, List, [], Option, Some, None, Result, Ok, Err, ◌++◌, length}
 use Rattle.std.specs.Borrow.{Bor}
 use Rattle.ps_changes.specs.declared.changes.Transaction.{Transaction}
+use Rattle.ps_rules.specs.RuleSets.{RuleSet}
+use Rattle.ps_store.specs.declared.replicas.Replica.{Replica}
+use Rattle.ps_store.specs.Laws.{last_position, Rises}
+use Rattle.ps_store.specs.Logs.{AreLogs}
+use Rattle.ps_store.specs.Originals.{timed}
+use Rattle.ps_store.specs.Replicas.{Holds, IsReady}
+use Rattle.powersync.specs.declared.change_files.Written.{Written}
 use Rattle.powersync.specs.declared.faults.Fault.{Fault}
 use Rattle.powersync.specs.declared.faults.Fault.TheVariants.{Usage, Rules, Change, LongLine, Claims, TooLong, CannotRead, CannotWrite, Memory}
 use Rattle.powersync.specs.ChangeFiles.{lines_of, transactions_of, transactions_from}
@@ -40,15 +46,30 @@ ReadsRising (Err (CannotRead name)) meant = ⊥
 ReadsRising (Err CannotWrite) meant = ⊥
 ReadsRising (Err Memory) meant = Unit {0}
 
--- reading a change file gives its transactions, or its first line that is refused
-abbrev pub ReadsAll : Result (Vec Transaction Global) Fault → Result (List Transaction) Fault → Type 0
-ReadsAll (Ok transactions) meant = meant ≡ Ok transactions.items
-ReadsAll (Err Usage) meant = ⊥
-ReadsAll (Err (Rules line column why)) meant = ⊥
-ReadsAll (Err (Change line why)) meant = meant ≡ Err (Change line why)
-ReadsAll (Err (LongLine length)) meant = meant ≡ Err (LongLine length)
-ReadsAll (Err Claims) meant = ⊥
-ReadsAll (Err (TooLong seen)) meant = ⊥
-ReadsAll (Err (CannotRead name)) meant = ⊥
-ReadsAll (Err CannotWrite) meant = ⊥
-ReadsAll (Err Memory) meant = Unit {0}
+-- a change file was written: what its transactions wrote, the last of which has that position
+pub record HoldsChanges (rules : RuleSet) (transactions : List Transaction) (written : Written) : Type 0 where
+  pub holds : Holds rules written.replica (timed transactions)
+  pub logs : AreLogs written.replica.logs
+  pub last : written.last.0 ≡ last_position 0 transactions
+  pub rise : Rises 0 transactions
+
+-- so far, lines before a number gave transactions up to a position, and these are written
+pub record HasWritten (rules : RuleSet) (bytes : List ℕ) (number last : ℕ) (rest : Option (Bor (List ℕ))) (replica : Replica) : Type 0 where
+  pub done : List Transaction
+  pub read : HasRead bytes number last rest done
+  pub holds : Holds rules replica (timed done)
+  pub ready : IsReady last replica
+  pub last_is : last ≡ last_position 0 done
+
+-- writing a change file writes its transactions, or refuses its first line that is refused
+abbrev pub Writes : RuleSet → Result (List Transaction) Fault → Result Written Fault → Type 0
+Writes rules meant (Ok written) = (transactions : List Transaction) × (meant ≡ Ok transactions) × HoldsChanges rules transactions written
+Writes rules meant (Err Usage) = ⊥
+Writes rules meant (Err (Rules line column why)) = ⊥
+Writes rules meant (Err (Change line why)) = meant ≡ Err (Change line why)
+Writes rules meant (Err (LongLine length)) = meant ≡ Err (LongLine length)
+Writes rules meant (Err Claims) = ⊥
+Writes rules meant (Err (TooLong seen)) = ⊥
+Writes rules meant (Err (CannotRead name)) = ⊥
+Writes rules meant (Err CannotWrite) = ⊥
+Writes rules meant (Err Memory) = Unit {0}

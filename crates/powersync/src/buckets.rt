@@ -20,21 +20,20 @@ pub struct Bucket {
     pub log: BucketLog,
 }
 
-/// The buckets of some names, which rise, with their logs out of those of all.
+/// The buckets of some names, which rise, with their logs, which are taken out of those of all.
 pub fn take_buckets(
     alloc: Global,
-    logs: BucketLogs,
+    logs: &mut BucketLogs,
     names: Items<Text>,
 ) -> Result<Items<Bucket>, Memory>
-    requires logs { AreLogs logs }
+    requires logs { AreLogs logs.old }
     requires rise { IsStrictlySortedBy (slice_cmp nat_cmp) names }
     ensures names { IfOk result (λ buckets. names_of buckets ≡ names) }
-    ensures logs { IfOk result (AreOf logs) }
+    ensures logs { IfOk result (AreOf logs.old) }
 {
-    let mut left = logs;
     let mut buckets = Items::new(alloc);
     'names: for name in names.into_vec() {
-        let log = left.take(alloc, &name);
+        let log = logs.take(alloc, &name);
         buckets.push(Bucket { name, log })?;
     }
     Ok(buckets)

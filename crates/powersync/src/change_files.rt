@@ -1,13 +1,24 @@
-ghost use Rattle.std.specs.Prelude.{◌≡◌, Err, ◌==◌, ◌<◌, ◌^◌, ◌∷◌, [], length, IfSome, IfOk, MatchOption};
+ghost use Rattle.std.specs.Prelude.{◌≡◌, Err, ◌==◌, ◌<◌, ◌^◌, ◌∷◌, [], length, IfSome, MatchOption};
 ghost use Rattle.std.specs.List.{position};
 ghost use Rattle.ps_changes.specs.Lines.{line_of};
 ghost use Rattle.powersync.specs.ChangeFiles.{lines_of, is_blank as is_blank_line, rising, transactions_of};
-ghost use Rattle.ps_store.specs.Laws.{Rises};
-ghost use Rattle.powersync.specs.ReadingChanges.{ReadsRising, ReadsAll};
+ghost use Rattle.powersync.specs.ReadingChanges.{ReadsRising, Writes};
 
 use crate::faults::{Fault, LineFault};
 use ps_changes::{ChangeFault, Transaction, read_line};
+use ps_rules::Rules;
+use ps_store::Replica;
+use ps_values::Position;
 use std::alloc::Global;
+
+/// A change file that was written into buckets.
+#[derive(Drop)]
+pub struct Written {
+    /// What its transactions wrote.
+    pub replica: Replica,
+    /// The position of the last of them, 0 where there is none.
+    pub last: Position,
+}
 
 // The place of the first line feed.
 fn line_feed(bytes: &[u8]) -> Option<usize>
@@ -36,16 +47,17 @@ pub fn is_blank(line: &[u8]) -> bool
         .all(|byte| *byte == b' ' || *byte == b'\t' || *byte == b'\r')
 }
 
-/// Reads a change file: its transactions, whose positions rise.
+/// Writes the changes of a change file, whose positions rise, into the buckets that rules give them. Each line is written
+/// before the next is read.
 /// Fails by the first line that is refused: with `LongLine` where it is longer than a line may be, and else with `Change`.
-pub fn read_transactions(alloc: Global, changes: &[u8]) -> Result<Vec<Transaction>, Fault>
+/// What the lines before it wrote is dropped.
+pub fn write_changes(alloc: Global, rules: &Rules, changes: &[u8]) -> Result<Written, Fault>
     requires { length changes.now < 2 ^ 63 }
-    ensures read { ReadsAll result (transactions_of changes.now) }
-    ensures rising { IfOk result (λ transactions. Rises 0 transactions.items) }
+    ensures { Writes rules.now (transactions_of changes.now) result }
 {
-    let mut transactions = Vec::new(alloc);
+    let mut replica = Replica::new(alloc, rules)?;
     let mut number = 0u64;
-    let mut last = 0;
+    let mut last = Position(0);
     let mut rest = Some(changes);
     'lines: while let Some(bytes) = rest {
         let (line, after) = split_line(bytes);
@@ -54,11 +66,11 @@ pub fn read_transactions(alloc: Global, changes: &[u8]) -> Result<Vec<Transactio
         if is_blank(line) {
             continue;
         }
-        let transaction = read_rising(alloc, line, number, last)?;
-        last = transaction.position.0;
-        transactions.push(transaction)?;
+        let transaction = read_rising(alloc, line, number, last.0)?;
+        last = transaction.position;
+        replica.write_transaction(alloc, rules, transaction)?;
     }
-    Ok(transactions)
+    Ok(Written { replica, last })
 }
 
 // The transaction of a line, where its position is past the last one.

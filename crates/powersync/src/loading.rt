@@ -2,7 +2,7 @@ ghost use Rattle.std.specs.Prelude.{◌≡◌, ◌≤◌, ◌<◌, ◌^◌, leng
 ghost use Rattle.powersync.specs.Loading.{Loads, IsContent, RefusesNothing, FindsRules, IsRulesFault, FindsAsker, IsClaimsFault, FindsRows, RefusesLine, Prepares};
 
 use crate::answering::due_rows;
-use crate::change_files::read_transactions;
+use crate::change_files::write_changes;
 use crate::claims::read_claims;
 use crate::faults::Fault;
 use crate::printing::print_rows;
@@ -63,8 +63,8 @@ fn prepare(alloc: Global, rules: &Rules, asker: &Asker, changes: &[u8]) -> Resul
     requires { length changes.now < 2 ^ 63 }
     ensures { Prepares rules.now asker.now changes.now result }
 {
-    let transactions = read_transactions(alloc, changes)?;
-    let rows = due_rows(alloc, rules, asker, transactions)?;
+    let written = write_changes(alloc, rules, changes)?;
+    let rows = due_rows(alloc, rules, asker, written)?;
     let text = print_rows(alloc, rows.as_slice())?;
     Ok(text)
 }

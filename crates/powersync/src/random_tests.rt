@@ -1,9 +1,9 @@
 //! Rules, changes and claims made by chance: the rows that go through buckets are those that the definitions grant.
 
 use crate::answering::due_rows;
-use crate::change_files::read_transactions;
+use crate::change_files::write_changes;
 use crate::claims::read_claims;
-use ps_changes::{Shown, Transaction};
+use ps_changes::{Shown, Transaction, read_line};
 use ps_grant::{grants_of, rows_of, source_at};
 use ps_rules::{Rules, read_rules};
 use ps_sql_eval::Asker;
@@ -149,6 +149,18 @@ fn granted(
     rows_of(alloc, copies.as_slice())
 }
 
+// The transactions of lines; None where a line cannot be read.
+fn transactions_of(alloc: Global, changes: &str) -> Result<Option<Vec<Transaction>>, Memory> {
+    let mut transactions = Vec::new(alloc);
+    'lines: for line in changes.lines() {
+        let Ok(transaction) = read_line(alloc, line.as_bytes()) else {
+            return Ok(None);
+        };
+        transactions.push(transaction)?;
+    }
+    Ok(Some(transactions))
+}
+
 // Whether both ways show the same; None where a text that was made cannot be read.
 fn agrees(alloc: Global, rules: &str, changes: &str, claims: &str) -> Result<Option<bool>, Memory> {
     if rules.len() > 1000000 || changes.len() > 1000000 {
@@ -157,14 +169,17 @@ fn agrees(alloc: Global, rules: &str, changes: &str, claims: &str) -> Result<Opt
     let Ok(rules) = read_rules(alloc, rules.as_bytes()) else {
         return Ok(None);
     };
-    let Ok(transactions) = read_transactions(alloc, changes.as_bytes()) else {
+    let Some(transactions) = transactions_of(alloc, changes)? else {
+        return Ok(None);
+    };
+    let Ok(written) = write_changes(alloc, &rules, changes.as_bytes()) else {
         return Ok(None);
     };
     let Some(asker) = read_claims(alloc, claims.as_bytes())? else {
         return Ok(None);
     };
     let by_definition = granted(alloc, &rules, &asker, transactions.as_slice())?;
-    let by_buckets = due_rows(alloc, &rules, &asker, transactions)?;
+    let by_buckets = due_rows(alloc, &rules, &asker, written)?;
     Ok(Some(by_definition.as_slice() == by_buckets.as_slice()))
 }
 

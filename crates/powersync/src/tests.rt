@@ -3,14 +3,14 @@ ghost use Rattle.ps_values.specs.Numbers.{greatest};
 ghost use Rattle.ps_bucket_log.specs.Logs.{AreEntries};
 
 use crate::buckets::Bucket;
-use crate::change_files::read_transactions;
+use crate::change_files::{Written, write_changes};
 use crate::plain::run_plain;
 use crate::streams::{checkpoint_line, complete_line, data_line};
 use ps_bucket_log::{Log, batches_are_the_log, standing_logs_stay_standing};
 use ps_io::{Files, MemoryFile, MemoryFiles, MemorySink, SureFiles};
 use ps_lines::write_line;
 use ps_rules::read_rules;
-use ps_store::{Replica, replicate};
+use ps_store::Replica;
 use ps_values::{Items, Memory, OpId, Text};
 use std::alloc::Global;
 use std::test::Fail;
@@ -333,10 +333,11 @@ fn bucket_over(alloc: Global, changes: &str) -> Result<(Bucket, OpId), Memory>
     let Ok(rules) = read_rules(alloc, RULES.as_bytes()) else {
         return Err(Memory);
     };
-    let Ok(transactions) = read_transactions(alloc, changes.as_bytes()) else {
+    let Ok(written) = write_changes(alloc, &rules, changes.as_bytes()) else {
         return Err(Memory);
     };
-    let Replica { mut logs, .. } = replicate(alloc, &rules, transactions)?;
+    let Written { replica, .. } = written;
+    let Replica { mut logs, .. } = replica;
     let last_op = logs.last();
     if 9223372036854775807 < last_op.0 {
         return Err(Memory);
