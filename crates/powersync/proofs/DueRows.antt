@@ -36,6 +36,8 @@ use Rattle.ps_store.specs.Replicas.{noted, with_note, notes_of, Holds}
 use Rattle.ps_store.specs.Laws.{Rises, last_position, HaveNumbers, all_held, AreSqlVectors, IsBucketOf, HoldsBucketsOf, LatestRowsAreDue}
 use Rattle.ps_store.specs.Logs.{log_at, last_of, StandsFor}
 use Rattle.powersync.specs.declared.buckets.Bucket.{Bucket}
+use Rattle.powersync.specs.declared.change_files.Written.{Written}
+use Rattle.powersync.specs.ReadingChanges.{HoldsChanges}
 use Rattle.powersync.specs.Replicated.{IsOneOf, AreOf, AreRowsOf}
 use Rattle.powersync.specs.Sessions.{names_of, is_named, AreWritten, HoldsLogs}
 
@@ -161,7 +163,7 @@ pub are_written : (logs : BucketLogs) (buckets : List Bucket) → AreOf logs buc
 are_written logs buckets out = λ k d inside. (out k d inside).entries
 
 -- the names that the index of a replica tells are those of the asker's buckets
-pub names_of_index : NotesReadAreTheSource → (rules : RuleSet) (asker : Asker) (replica : Replica) (index : Index) (ts : List Transaction) (position : ℕ) (names : List (List ℕ)) → index ≡ replica.index
+names_of_index : NotesReadAreTheSource → (rules : RuleSet) (asker : Asker) (replica : Replica) (index : Index) (ts : List Transaction) (position : ℕ) (names : List (List ℕ)) → index ≡ replica.index
     → position ≡ last_position 0 ts → Holds rules replica (timed ts)
     → ((source : List SourceRow) → StandsAt index.rules.definitions index.notes position source → names ≡ bucket_names rules.definitions asker source)
     → names ≡ bucket_names rules.definitions asker (rows_in (source_at ts (last_position 0 ts)))
@@ -171,6 +173,23 @@ names_of_index law rules asker replica index ts position names is at holds tells
     subst (λ (r : RuleSet). StandsAt r.definitions replica.index.notes (last_position 0 ts) source) (sym holds.rules_are) (index_stands law rules replica ts (last_position 0 ts) holds) in
     let there : StandsAt index.rules.definitions index.notes (last_position 0 ts) source = subst (λ (i : Index). StandsAt i.rules.definitions i.notes (last_position 0 ts) source) (sym is) here in
     tells source (subst (λ p. StandsAt index.rules.definitions index.notes p source) (sym at) there)
+
+module _ (rules : RuleSet) (asker : Asker) (written : Written) (names : List (List ℕ))
+    (tells : (source : List SourceRow) → StandsAt written.replica.index.rules.definitions written.replica.index.notes written.last.0 source → names ≡ bucket_names rules.definitions asker source) where
+  -- the names that are told of what a change file wrote are those of the asker's buckets
+  told_names : NotesReadAreTheSource → (ts : List Transaction) → HoldsChanges rules ts written → names ≡ bucket_names rules.definitions asker (rows_in (source_at ts (last_position 0 ts)))
+  told_names law ts holds = names_of_index law rules asker written.replica written.replica.index ts written.last.0 names refl holds.last holds.holds tells
+
+  pub told_names_rise : NotesReadAreTheSource → (ts : List Transaction) → HoldsChanges rules ts written → IsStrictlySortedBy (slice_cmp nat_cmp) names
+  told_names_rise law ts holds =
+      subst (λ (ns : List (List ℕ)). IsStrictlySortedBy (slice_cmp nat_cmp) ns) (sym (told_names law ts holds)) (names_rise rules.definitions asker (rows_in (source_at ts (last_position 0 ts))))
+
+  -- the rows of a client that holds the logs of these names are due
+  pub written_rows_due : NotesReadAreTheSource → LatestRowsAreDue → AreRules rules → HaveNumbers rules.definitions → AreTold names
+      → (buckets : List Bucket) → names_of buckets ≡ names → AreOf written.replica.logs buckets → (shown : List Shown) → AreRowsOf buckets (last_of written.replica.logs) shown
+      → (ts : List Transaction) → HoldsChanges rules ts written → shown ≡ due rules.definitions asker ts (last_position 0 ts)
+  written_rows_due notes law are numbers told buckets named out shown of ts holds =
+      rows_due rules asker ts written.replica.logs buckets names holds.holds.stands (told_names notes ts holds) named out law are numbers holds.rise told shown of
 
 pub if_ok : {X E : Type 0} (r : Result X E) (P Q : X → Type 0) → ((x : X) → P x → Q x) → IfOk r P → IfOk r Q
 if_ok (Ok x) P Q f h = f x h
