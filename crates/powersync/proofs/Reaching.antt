@@ -118,6 +118,10 @@ past_last number last (Ok u) t h = past_by number last u t (ltb last u.position.
 
 -- ---- what is read is written
 
+refused_one : (number last : ℕ) (line : List ℕ) (lines : List (List ℕ)) (fault : Fault) → is_blank line ≡ false → rising number last (line_of line) ≡ Err fault
+    → transactions_from number last (line ∷ lines) ≡ Err fault
+refused_one number last line lines fault full is = rw full (ap (λ r. r >>= λ (x : Transaction). transactions_from (number + 1) x.position.0 lines >>= λ ts. Ok (x ∷ ts)) is)
+
 last_more : (position : ℕ) (ts : List Transaction) (t : Transaction) → t.position.0 ≡ last_position position (ts ++ t ∷ [])
 last_more position [] t = refl
 last_more position (u ∷ us) t = last_more u.position.0 us t
@@ -162,7 +166,7 @@ module _ (rules : RuleSet) (changes : List ℕ) (number last : ℕ) (bytes : Bor
   refused fault full is =
       so_far.read.meaning
       ∙ ap (λ ls. before_left so_far.done (transactions_from (number + 1) last ls)) (left_lines bytes.now line rest splits)
-      ∙ ap (before_left so_far.done) (rw full (ap (λ r. r >>= λ (x : Transaction). transactions_from (number + 1 + 1) x.position.0 (lines_left rest) >>= λ ts. Ok (x ∷ ts)) is))
+      ∙ ap (before_left so_far.done) (refused_one (number + 1) last line (lines_left rest) fault full is)
 
   -- a line that is refused refuses the file
   pub refuses : (fault : Fault) → is_blank line ≡ false → ReadsRising (Err fault) (rising (number + 1) last (line_of line)) → Writes rules (transactions_of changes) (Err fault)

@@ -66,7 +66,9 @@ pub fn due_rows(
     have_numbers(rules);
     let Written { replica, last } = written;
     let Replica {
-        mut logs, index, ..
+        mut logs,
+        index,
+        ..
     } = replica;
     let names = index.rows_for(alloc, rules, asker, last)?;
     let last_op = logs.last();

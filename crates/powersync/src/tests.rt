@@ -1,4 +1,4 @@
-ghost use Rattle.std.specs.Prelude.{◌≤◌, IfOk};
+ghost use Rattle.std.specs.Prelude.{◌≤◌, ◌<◌, ◌^◌, length, IfOk};
 ghost use Rattle.ps_values.specs.Numbers.{greatest};
 ghost use Rattle.ps_bucket_log.specs.Logs.{AreEntries};
 
@@ -326,7 +326,7 @@ fn ten_thousand_changes(rt: HostRuntime) -> Result<(), Fail> {
 
 // The user's bucket over a change file, with the number of all operations.
 fn bucket_over(alloc: Global, changes: &str) -> Result<(Bucket, OpId), Memory>
-    requires { length (string_bytes changes.now) < 2 ^ 63 }
+    requires { length changes.now < 2 ^ 63 }
     ensures entries { IfOk result (λ made. AreEntries 0 made.0.log.ops) }
     ensures last { IfOk result (λ made. made.1.0 ≤ greatest) }
 {
@@ -363,7 +363,6 @@ fn data_bytes(alloc: Global, bucket: &Bucket, last_op: OpId) -> Result<Vec<u8>, 
 }
 
 // The checkpoint's line, as it is written.
-#[tactic(auto, using(crate::proofs::ManyBuckets::may_begin))]
 fn checkpoint_bytes(alloc: Global, buckets: &[Bucket], last_op: OpId) -> Result<Vec<u8>, Memory>
     requires { last_op.0 ≤ greatest }
 {

@@ -1,5 +1,5 @@
 use Rattle.std.proofs.Common.{sym, ◌∙◌}
-use Rattle.powersync.proofs.Reaching.{started_writing, may_write, written_more, written_blank, refuses, all_written}
+use Rattle.powersync.proofs.Reaching.{started_writing, written_more, all_written}
 use Rattle.powersync.proofs.change_files.write_changes.Goals as goal
 
 pub lines-init : goal.lines-init
@@ -10,3 +10,6 @@ lines-preserved c =
     written_more c.args.rules.now c.args.changes.now c.lines.number c.lines.last.0 c.in-Some.bytes c.split_line.result.0.now c.split_line.result.1 c.lines.replica
     (rw c.in-Some.is at c.lines.invariant) c.split_line.ensures c.in_ok-transaction.transaction c.write_transaction.new.self
     (sym c.is_blank.ensures ∙ c.if-is_blank.false) c.in_ok-transaction.ensures c.in_ok-write_transaction.ensures.ready c.in_ok-write_transaction.ensures.holds
+
+pub returns : goal.returns
+returns c = all_written c.args.rules.now c.args.changes.now c.lines.number c.lines.last.0 c.lines.replica (rw c.in_default.is at c.lines.invariant)
