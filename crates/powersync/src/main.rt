@@ -11,15 +11,11 @@ mod faults;
 mod loading;
 mod plain;
 mod printing;
-#[cfg(test)]
-mod random_tests;
 mod rules_faults;
 mod saying;
 mod sessions;
 mod streams;
 mod tables;
-#[cfg(test)]
-mod tests;
 
 use plain::run_plain;
 use ps_io::{DiskFiles, StdSink};

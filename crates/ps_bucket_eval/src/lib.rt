@@ -9,8 +9,6 @@ mod objects;
 mod placed;
 mod placing;
 mod solving;
-#[cfg(test)]
-mod tests;
 
 pub use faults::PlaceFault;
 pub use laws::{entries_stand_where_conditions_hold, names_are_distinct};

@@ -7,8 +7,6 @@ mod logs;
 mod ops;
 mod places;
 mod plain_logs;
-#[cfg(test)]
-mod tests;
 
 pub use batches::Batch;
 pub use laws::{

@@ -8,4 +8,3 @@ pub mod Sound
 pub mod Rising
 pub mod Latest
 pub mod Copies
-pub mod Together

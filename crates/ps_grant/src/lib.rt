@@ -11,8 +11,6 @@ mod live_rows;
 mod solving;
 mod source_rows;
 mod sourcing;
-#[cfg(test)]
-mod tests;
 mod vectors;
 
 pub use copies::Granted;

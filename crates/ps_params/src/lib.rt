@@ -12,8 +12,6 @@ mod noted;
 mod paths;
 mod places;
 mod spots;
-#[cfg(test)]
-mod tests;
 mod trimming;
 
 pub use indexes::ParameterIndex;

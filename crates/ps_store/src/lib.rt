@@ -6,8 +6,6 @@ mod laws;
 mod numbers;
 mod places;
 mod replicas;
-#[cfg(test)]
-mod tests;
 
 pub use bucket_logs::BucketLogs;
 pub use laws::{latest_rows_are_due, readers_hold_what_stands};
