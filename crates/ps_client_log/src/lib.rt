@@ -14,8 +14,6 @@ mod rows;
 mod saving;
 mod slots;
 mod states;
-#[cfg(test)]
-mod tests;
 
 pub use client_logs::ClientLog;
 pub use edits::Edit;

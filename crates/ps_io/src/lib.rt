@@ -6,8 +6,6 @@ mod inputs;
 mod memory;
 mod outputs;
 mod streams;
-#[cfg(test)]
-mod tests;
 
 pub use disk::DiskFiles;
 pub use inputs::{FileFault, Files};

@@ -10,8 +10,6 @@ mod laws;
 mod lists;
 mod numbers;
 mod shortage;
-#[cfg(test)]
-mod tests;
 mod texts;
 mod values;
 

@@ -1,6 +1,0 @@
-use Rattle.std.proofs.Common.{◌≡◌}
-use Rattle.ps_bucket_log.specs.Ops.{newest}
-use Rattle.ps_bucket_log.proofs.tests.fill.Given as goal
-
-abbrev pub invariant-puts : goal.invariant-puts
-invariant-puts g l = newest (g.L.Log.ops l.log) ≡ l.id
