@@ -83,7 +83,7 @@ fn do_command<F: Files>(
 
 // Prints the rows of three files in memory.
 fn rows(alloc: Global, rules: &str, changes: &str, claims: &str) -> Result<Answer, Fail> {
-    let mut files = SureFiles::new(three_files(alloc, rules, changes, claims)?);
+    let mut files = SureFiles::new(alloc, three_files(alloc, rules, changes, claims)?);
     do_command(
         alloc,
         &["rows", "r", "c", "u"],
@@ -233,7 +233,7 @@ fn long_rules_exceed_the_limit(rt: HostRuntime) -> Result<(), Fail> {
 
 #[test]
 fn other_words_are_no_command(rt: HostRuntime) -> Result<(), Fail> {
-    let mut files = SureFiles::new(Items::new(rt.alloc()));
+    let mut files = SureFiles::new(rt.alloc(), Items::new(rt.alloc()));
     let none: [&str; 0] = [];
     let row: [&str; 4] = ["row", "r", "c", "u"];
     let three: [&str; 3] = ["rows", "r", "c"];
@@ -264,7 +264,7 @@ fn files_that_fail_cannot_be_read(rt: HostRuntime) -> Result<(), Fail> {
     ] {
         let files = three_files(rt.alloc(), RULES, CHANGES, CLAIMS)?;
         let failing = Items::from_vec(vec![in rt.alloc(); call]?);
-        let mut files = MemoryFiles::new(files, failing);
+        let mut files = MemoryFiles::new(rt.alloc(), files, failing);
         let refused = do_command(
             rt.alloc(),
             &["rows", "r", "c", "u"],
@@ -281,7 +281,10 @@ fn files_that_fail_cannot_be_read(rt: HostRuntime) -> Result<(), Fail> {
 #[test]
 fn outputs_that_fail_cannot_be_written(rt: HostRuntime) -> Result<(), Fail> {
     'rooms: for (room, call, printed) in [(4096, 1, 0), (10, 2, 10)] {
-        let mut files = SureFiles::new(three_files(rt.alloc(), RULES, CHANGES, CLAIMS)?);
+        let mut files = SureFiles::new(
+            rt.alloc(),
+            three_files(rt.alloc(), RULES, CHANGES, CLAIMS)?,
+        );
         let refused = do_command(
             rt.alloc(),
             &["rows", "r", "c", "u"],
@@ -426,7 +429,7 @@ const TODO_CHANGES: &str =
 
 // Prints what the rules of a file in memory have.
 fn checked(alloc: Global, rules: &str) -> Result<Answer, Fail> {
-    let mut files = SureFiles::new(three_files(alloc, rules, "", "")?);
+    let mut files = SureFiles::new(alloc, three_files(alloc, rules, "", "")?);
     do_command(alloc, &["check", "r"], &mut files, 4096, Items::new(alloc))
 }
 
@@ -591,7 +594,7 @@ fn status_of_deep_rules(alloc: Global, depth: u32) -> Option<u8> {
             content: Items::from_vec(content),
         })
         .ok()?;
-    let mut files = SureFiles::new(Items::from_vec(files));
+    let mut files = SureFiles::new(alloc, Items::from_vec(files));
     let mut words = Vec::new(alloc);
     words.push(Text::from_str(alloc, "check").ok()?).ok()?;
     words.push(Text::from_str(alloc, "r").ok()?).ok()?;
