@@ -9,9 +9,7 @@ ghost use Rattle.ps_client_log.specs.Edits.{CanTake, CanMakeAll};
 use crate::words::number;
 use ps_bucket_log::{Key, Op};
 use ps_checksum::Sum;
-use ps_client_log::{
-    ClientLog, Edit, KeepFault, Keeper, MemoryKeeper, Shown, SureKeeper, Target,
-};
+use ps_client_log::{ClientLog, Edit, KeepFault, Keeper, MemoryKeeper, Shown, SureKeeper, Target};
 use ps_values::{Items, Memory, OpId, Text};
 use std::alloc::Global;
 use std::test::Fail;

@@ -90,8 +90,20 @@ fn write_op(out: &mut String, op: &Op) -> Result<(), Fail> {
             content,
             sum,
         } => {
-            write!(out, "put {} {} {}", id.0, key.kind.as_str(), key.id.as_str())?;
-            write!(out, " {} {} {};", key.subkey.as_str(), content.as_str(), sum.0)?;
+            write!(
+                out,
+                "put {} {} {}",
+                id.0,
+                key.kind.as_str(),
+                key.id.as_str()
+            )?;
+            write!(
+                out,
+                " {} {} {};",
+                key.subkey.as_str(),
+                content.as_str(),
+                sum.0
+            )?;
         }
         Op::Remove { id, key, sum } => {
             write!(out, "remove {} {} {};", id.0, key.id.as_str(), sum.0)?;
