@@ -87,9 +87,9 @@ pub fn write_wide(alloc: Global, texts: &Texts, words: &str, out: &mut String) -
     }
 }
 
-/// The name of the bucket of a definition, whose name has no space, and of values in JSON.
+/// The name of the bucket of a definition and of values in JSON: DEFINITION|VALUE ..
 pub fn write_name(alloc: Global, words: &str, out: &mut String) -> Result<(), Stop> {
-    let (definition, written) = cut(words);
+    let (definition, written) = words.split_once('|').ok_or("no definition")?;
     let mut values = Vec::new(alloc);
     if !written.is_empty() {
         'values: for word in written.split(' ') {
