@@ -8,8 +8,6 @@ mod readers;
 mod rows;
 mod shapes;
 mod shown;
-#[cfg(test)]
-mod tests;
 mod writers;
 
 pub use changes::{Change, Transaction};

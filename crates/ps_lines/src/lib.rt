@@ -11,8 +11,6 @@ mod members;
 mod objects;
 mod readers;
 mod shapes;
-#[cfg(test)]
-mod tests;
 mod writers;
 
 pub use bodies::{Known, StreamBody};

@@ -15,8 +15,6 @@ mod reading;
 mod rule_sets;
 mod shapes;
 mod spreading;
-#[cfg(test)]
-mod tests;
 mod walks;
 mod warnings;
 

@@ -24,6 +24,3 @@ pub use subjects::{
     same_on_every_row,
 };
 pub use words::{Token, TokenKind};
-
-#[cfg(test)]
-mod tests;

@@ -6,8 +6,6 @@ mod askers;
 mod columns;
 mod evaluations;
 mod members;
-#[cfg(test)]
-mod tests;
 mod texts;
 mod truths;
 

@@ -7,8 +7,6 @@ mod lines;
 mod nodes;
 mod open;
 mod scalars;
-#[cfg(test)]
-mod tests;
 mod trees;
 
 pub use faults::YamlFault;
