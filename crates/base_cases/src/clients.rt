@@ -80,7 +80,7 @@ fn history(alloc: Global, first: u64, past: u64) -> Result<Vec<Op>, Memory> {
 }
 
 // Whether a bucket at this position can take the operations.
-#[tactic(auto, using(ps_client_log::proofs::Rising::take_rising, ps_client_log::proofs::Rising::can_take))]
+#[tactic(auto, using(crate::proofs::Rising::take_rising, crate::proofs::Rising::can_take))]
 fn can_take(position: OpId, ops: &[Op]) -> bool
     ensures { IsTrue result → CanTake position.0 ops.now }
 {

@@ -1,6 +1,6 @@
 use Rattle.std.proofs.Common.{◌≡◌, take}
 use Rattle.ps_bucket_log.specs.Logs.{IsRising}
-use Rattle.ps_client_log.proofs.Rising.{last_of}
+use Rattle.base_cases.proofs.Rising.{last_of}
 use Rattle.base_cases.proofs.clients.can_take.Given as goal
 
 abbrev pub invariant-ops : goal.invariant-ops
