@@ -8,8 +8,9 @@ use crate::words::{cut, number};
 use ps_bucket_log::{
     Batch, BucketLog, Key, Log, Op, batches_are_the_log, batches_keep_readers_honest,
     honest_readers_stay_honest, readers_are_whole_at_the_newest,
+    readers_need_no_targets, readers_stand_at_the_last_id, rising_ids_rise_on,
     standing_logs_have_the_sums_of_their_originals, standing_logs_stay_standing, the_last_decides,
-    totals_are_sums,
+    totals_are_sums, what_is_written_later_adds_nothing,
 };
 use ps_checksum::Sum;
 use ps_values::{Items, OpId, Text};
@@ -42,7 +43,7 @@ fn fill<L: Log>(log: &mut L, alloc: Global, count: u64, size: usize) -> Result<(
     requires { newest (L.ops log.old) ≡ 0 }
 {
     'puts: for id in 0..count {
-        log.reserve(1)?;
+        log.reserve(alloc, 1)?;
         log.append(put(alloc, id + 1, size)?);
     }
     Ok(())
@@ -156,7 +157,7 @@ pub fn write_of_filled(alloc: Global, words: &str, out: &mut String) -> Result<(
 /// What the compacted log answers.
 pub fn write_of_compacted(alloc: Global, words: &str, out: &mut String) -> Result<(), Fail> {
     let mut log = BucketLog::new(alloc);
-    log.rebuild(compacted_ops(alloc)?)?;
+    log.rebuild(alloc, compacted_ops(alloc)?)?;
     write_answer(alloc, &log, words, out)
 }
 
@@ -181,4 +182,8 @@ pub fn call_laws() {
     standing_logs_have_the_sums_of_their_originals();
     totals_are_sums();
     batches_are_the_log();
+    what_is_written_later_adds_nothing();
+    readers_stand_at_the_last_id();
+    readers_need_no_targets();
+    rising_ids_rise_on();
 }

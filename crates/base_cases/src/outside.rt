@@ -69,13 +69,13 @@ fn write_reads<F: Files>(
 pub fn write_of_memory(alloc: Global, words: &str, out: &mut String) -> Result<(), Fail> {
     let (failing, words) = cut(words);
     let failing = Items::from_vec(numbers(alloc, failing)?);
-    let mut files = MemoryFiles::new(three_files(alloc)?, failing);
+    let mut files = MemoryFiles::new(alloc, three_files(alloc)?, failing);
     write_reads(alloc, &mut files, words, out)
 }
 
 /// What files in memory answer that never fail.
 pub fn write_of_sure(alloc: Global, words: &str, out: &mut String) -> Result<(), Fail> {
-    let mut files = SureFiles::new(three_files(alloc)?);
+    let mut files = SureFiles::new(alloc, three_files(alloc)?);
     write_reads(alloc, &mut files, words, out)
 }
 

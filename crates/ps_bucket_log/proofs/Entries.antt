@@ -1,5 +1,5 @@
 -- What the laws say of originals: lists of PUTs and REMOVEs.
-use Rattle.std.proofs.Common.{◌≡◌, ◌≢◌, ℕ, ◌<◌, ◌≤◌, true, false, cond, ◌⊎◌, inl, inr, Option, Some, None, IfSome, List, [], ◌∷◌, ◌++◌, fold, length, refl, ap, ◌∙◌, arith}
+use Rattle.std.proofs.Common.{◌≡◌, ◌≢◌, ℕ, ◌<◌, ◌≤◌, true, false, cond, ◌⊎◌, inl, inr, Option, Some, None, IfSome, List, [], ◌∷◌, ◌++◌, fold, length, refl, ap, subst, ◌∙◌, arith}
 use Rattle.std.specs.List.{AllZip, list_all, AllByRecursion}
 use Rattle.std.proofs.lemmas.Bool.{and_parts, and_from, or_parts, or_from, cases_lt, lt-ltb, le-ltb, lt-leb, le-leb}
 use Rattle.std.proofs.lemmas.List.Folds.{list_all-append}
@@ -14,7 +14,7 @@ use Rattle.ps_bucket_log.specs.Logs.{IsRising, AreEntries, cleared}
 use Rattle.ps_bucket_log.specs.Batches.{front_of, batch_of}
 use Rattle.ps_bucket_log.specs.Standing.{Matches, StandsFor}
 use Rattle.ps_bucket_log.proofs.Histories.{same_sums}
-use Rattle.ps_bucket_log.proofs.Fronts.{front-some}
+use Rattle.ps_bucket_log.proofs.Fronts.{front-some, front-split}
 
 entry_is_no_clear : (op : Op) → is_entry op ≡ true → is_clear op ≡ false
 entry_is_no_clear (Put id key content sum) entry = refl
@@ -157,6 +157,24 @@ pub within_level : (log original : List Op) (level low high : ℕ) → AreEntrie
 within_level log original level low high written stands =
     let all = AreLow-stands log original level written.entries stands in
     (all.0, greatest_target-low level (upto high (past low log)) (AreLow-upto level high (past low log) (AreLow-past level low log all.1)))
+
+-- the front of what is asked for has no later targets
+AreLow-front : (level : ℕ) (ops left : List Op) → AreLow level (ops ++ left) → AreLow level ops
+AreLow-front level [] left low = tt
+AreLow-front level (op ∷ ops) left low = (low.0, AreLow-front level ops left low.1)
+
+pub target_within_level : (log original : List Op) (level low high : ℕ) → AreEntries 0 original → StandsFor log original level
+    → IfSome (batch_of low high log).target (λ target. target.0 ≤ level)
+target_within_level log original level low high written stands = elim (cases_lt high (cleared log)) [
+  | inl passed ↦ rw (lt-ltb high (cleared log) passed) tt
+  | inr within ↦
+      let asked : List Op = upto high (past low log) in
+      let split = front-split 0 0 asked in
+      let all = (AreLow-stands log original level written.entries stands).1 in
+      let low_asked : AreLow level asked = AreLow-upto level high (past low log) (AreLow-past level low log all) in
+      rw (le-ltb high (cleared log) within)
+      (greatest_target-low level (front_of 0 0 asked) (AreLow-front level (front_of 0 0 asked) split.0 (subst (AreLow level) split.1 low_asked)))
+]
 
 -- a read from before the newest id gives something
 

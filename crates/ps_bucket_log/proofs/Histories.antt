@@ -18,7 +18,7 @@ use Rattle.ps_bucket_log.proofs.Slices.{past-rising, upto-rising, IsRising-past,
 use Rattle.ps_bucket_log.proofs.Readers.{total-small, id_of-Matches, total_after-Matches, AllZip-upto}
 
 -- what is appended past p is not up to p
-upto-append : (p low : ℕ) (xs more : List Op) → IsRising low more → p ≤ low → upto p (xs ++ more) ≡ upto p xs
+pub upto-append : (p low : ℕ) (xs more : List Op) → IsRising low more → p ≤ low → upto p (xs ++ more) ≡ upto p xs
 upto-append p low xs more rising below =
     filter-append (λ op. leb (id_of op) p) xs more ∙ ap (λ ys. upto p xs ++ ys) (upto-rising p low more rising below) ∙ append-nil (upto p xs)
 
@@ -73,7 +73,7 @@ upto-newest p q (x ∷ xs) rising reached =
     let here : id_of x ≤ q = omega (arith, newest-rising (id_of x) xs rising.1, reached) in
     rw (le-leb (id_of x) q here) (ap (λ ys. x ∷ ys) (upto-newest (id_of x) q xs rising.1 reached))
 
-upto-lower : (p q : ℕ) (xs : List Op) → q ≤ p → upto q (upto p xs) ≡ upto q xs
+pub upto-lower : (p q : ℕ) (xs : List Op) → q ≤ p → upto q (upto p xs) ≡ upto q xs
 upto-lower p q [] below = refl
 upto-lower p q (x ∷ xs) below = elim (cases_lt p (id_of x)) [
   | inl above ↦ rw (lt-leb (id_of x) p above, lt-leb (id_of x) q (omega arith)) (upto-lower p q xs below)

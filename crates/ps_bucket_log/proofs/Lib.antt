@@ -6,3 +6,4 @@ pub mod Found
 pub mod Steps
 pub mod Entries
 pub mod Examples
+pub mod Prefixes

@@ -1,9 +1,9 @@
 -- The laws of one bucket, on which every claim about streams rests. An original is all that was ever written to the bucket;
 -- a log stands for it at the level of its last compaction; a reader has taken fronts of the log past its position.
-use Rattle.std.specs.Prelude.{◌≡◌, ◌≢◌, ℕ, ◌<◌, ◌≤◌, true, false, if◌then◌else◌, ◌⊎◌, List, [], ◌∷◌, ◌++◌, Some, None, IfSome, fold, length}
+use Rattle.std.specs.Prelude.{◌≡◌, ◌≢◌, ℕ, ◌<◌, ◌≤◌, true, false, if◌then◌else◌, ◌⊎◌, List, [], ◌∷◌, ◌++◌, Some, None, IfSome, fold, length, map}
 use Rattle.ps_bucket_log.specs.declared.ops.Key.{Key}
 use Rattle.ps_bucket_log.specs.declared.ops.Op.{Op}
-use Rattle.ps_bucket_log.specs.Ops.{is_put, is_of, upto, past, newest, sum_of, has_clear, has_key, greatest_target}
+use Rattle.ps_bucket_log.specs.Ops.{is_put, is_of, upto, past, newest, place_after, sum_of, has_clear, has_key, greatest_target, op_without_target}
 use Rattle.ps_bucket_log.specs.Buckets.{Bucket, after, bucket_of, fresh}
 use Rattle.ps_bucket_log.specs.Logs.{IsRising, AreEntries, IsLog, cleared}
 use Rattle.ps_bucket_log.specs.Batches.{IsBatch, batch_of, batches_of}
@@ -51,6 +51,16 @@ HonestLater = (original more : List Op) (op c later_op later_c : ℕ) (bucket : 
     → AreEntries op more → op ≤ later_op → c ≤ later_c
     → IsHonestUpTo bucket original op c → IsHonestUpTo bucket (original ++ more) later_op later_c
 
+-- to be honest up to c, a reader need only look up to c
+abbrev pub HonestAlike : Type 0
+HonestAlike = (original other : List Op) (op c : ℕ) (bucket : Bucket)
+    → op ≤ c → upto c original ≡ upto c other
+    → IsHonestUpTo bucket original op c → IsHonestUpTo bucket other op c
+
+-- what is written past an id adds nothing up to it
+abbrev pub AddsNothing : Type 0
+AddsNothing = (original more : List Op) (op p : ℕ) → IsRising op more → p ≤ op → upto p (original ++ more) ≡ upto p original
+
 -- an original that grows past its newest id is an original
 abbrev pub GrowsLater : Type 0
 GrowsLater = (original more : List Op)
@@ -88,6 +98,29 @@ TotalIsSum = (log : List Op) (high : ℕ) → IsLog log
 -- a reader stands at the last id that it took
 abbrev pub StandsAtNewest : Type 0
 StandsAtNewest = (bucket : Bucket) (batch : List Op) → batch ≢ [] → (fold after bucket batch).position ≡ newest batch
+
+-- and where it took none, it stays where it was
+abbrev pub StandsAfter : Type 0
+StandsAfter = (bucket : Bucket) (ops : List Op) → (fold after bucket ops).position ≡ place_after bucket.position ops
+
+-- who takes nothing past an id, and is not past it, does not get past it
+abbrev pub StaysWithin : Type 0
+StaysWithin = (p high : ℕ) (ops : List Op) → upto high ops ≡ ops → p ≤ high → place_after p ops ≤ high
+
+-- targets change nothing for a reader
+abbrev pub NeedsNoTargets : Type 0
+NeedsNoTargets = (bucket : Bucket) (ops : List Op) → fold after bucket (map op_without_target ops) ≡ fold after bucket ops
+
+-- ids that rise, and rise on from the last one, rise
+abbrev pub RisesOn : Type 0
+RisesOn = (p : ℕ) (ops more : List Op)
+    → IsRising p ops → IsRising (place_after p ops) more
+    → IsRising p (ops ++ more) × (place_after p (ops ++ more) ≡ place_after (place_after p ops) more)
+
+-- the target of a batch is no later than the log's level
+abbrev pub TargetWithinLevel : Type 0
+TargetWithinLevel = (log original : List Op) (level low high : ℕ) → AreEntries 0 original → StandsFor log original level
+    → IfSome (batch_of low high log).target (λ target. target.0 ≤ level)
 
 -- the ids of what is read rise from past the one that it is read after, up to what was asked for
 abbrev pub BatchRises : Type 0

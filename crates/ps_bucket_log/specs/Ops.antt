@@ -71,6 +71,10 @@ past p ops = filter (λ op. nat_lt p (id_of op)) ops
 abbrev pub newest : List Op → ℕ
 newest ops = fold (λ p op. id_of op) 0 ops
 
+-- the id of the last operation, p where there is none
+abbrev pub place_after : ℕ → List Op → ℕ
+place_after p ops = fold (λ last op. id_of op) p ops
+
 -- the sum of the checksums, modulo 2 ^ 32
 abbrev pub sum_of : List Op → ℕ
 sum_of ops = sum_by checksum ops % 2 ^ 32
@@ -108,3 +112,10 @@ later_id (Some a) (Some b) = if nat_lt a.0 b.0 then Some b else Some a
 abbrev pub greatest_target : List Op → Option OpId
 greatest_target [] = None
 greatest_target (op ∷ ops) = later_id (target_of op) (greatest_target ops)
+
+-- an operation without its target: a MOVE then names itself
+abbrev pub op_without_target : Op → Op
+op_without_target (Put id key content sum) = Put id key content sum
+op_without_target (Remove id key sum) = Remove id key sum
+op_without_target (Move id sum target) = Move id sum id
+op_without_target (Clear id sum target) = Clear id sum None

@@ -1,6 +1,6 @@
 //! The laws of one bucket. Each is the contract of a function that does nothing.
 
-ghost use Rattle.ps_bucket_log.specs.Laws.{LastDecides, NoneIsHeld, StaysHonest, StaysHonestUpTo, WholeAtNewest, FreshIsHonest, HonestLater, GrowsLater, StandsLater, StandsForItself, StandingIsLog, WithinLevel, SameSums, TotalIsSum, StandsAtNewest, BatchRises, ReadsLongestFront, BatchesAreTheLog, ReadsOn};
+ghost use Rattle.ps_bucket_log.specs.Laws.{LastDecides, NoneIsHeld, StaysHonest, StaysHonestUpTo, WholeAtNewest, FreshIsHonest, HonestLater, HonestAlike, AddsNothing, GrowsLater, StandsLater, StandsForItself, StandingIsLog, WithinLevel, SameSums, TotalIsSum, StandsAtNewest, StandsAfter, StaysWithin, NeedsNoTargets, RisesOn, TargetWithinLevel, BatchRises, ReadsLongestFront, BatchesAreTheLog, ReadsOn};
 
 /// A law: of a key, the last PUT or REMOVE since the last CLEAR decides what a reader holds.
 pub fn the_last_decides()
@@ -22,9 +22,16 @@ pub fn readers_are_whole_at_the_newest()
 {}
 
 /// A law: a reader that begins afresh is honest, and who is honest stays so when more is written and committed.
+/// Originals that are the same up to an id have the same honest readers up to it.
 pub fn honest_readers_stay_honest()
     ensures afresh { FreshIsHonest }
     ensures later { HonestLater }
+    ensures alike { HonestAlike }
+{}
+
+/// A law: what is written past an id adds nothing to what is up to it.
+pub fn what_is_written_later_adds_nothing()
+    ensures { AddsNothing }
 {}
 
 /// A law: what is written past an original's newest id makes it a longer original. An untouched log stands
@@ -51,13 +58,31 @@ pub fn totals_are_sums()
     ensures position { StandsAtNewest }
 {}
 
+/// A law: a reader stands at the last id that it took, or where it stood if it took nothing. So who takes nothing past
+/// an id does not get past it.
+pub fn readers_stand_at_the_last_id()
+    ensures place { StandsAfter }
+    ensures within { StaysWithin }
+{}
+
+/// A law: a reader takes the same from operations without their targets.
+pub fn readers_need_no_targets()
+    ensures { NeedsNoTargets }
+{}
+
+/// A law: rising ids that go on from the last one rise.
+pub fn rising_ids_rise_on()
+    ensures { RisesOn }
+{}
+
 /// A law: a batch is the longest front that fits, with ids that rise from past the one that it is read after.
 /// Batches that are read one after another, each after
 /// the newest id so far, are the log up to the id that was asked for. A read from before the newest id gives
-/// something to go on with.
+/// something to go on with. A batch's target is no later than the log's level.
 pub fn batches_are_the_log()
     ensures longest { ReadsLongestFront }
     ensures rising { BatchRises }
     ensures together { BatchesAreTheLog }
     ensures on { ReadsOn }
+    ensures target { TargetWithinLevel }
 {}

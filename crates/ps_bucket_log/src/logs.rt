@@ -19,9 +19,10 @@ pub trait Log: Drop {
     /// For how many operations more there is room.
     ghost spare: { Self → ℕ };
 
-    /// Makes room for more operations. The operations stay.
-    fn reserve(&mut self, more: usize) -> Result<(), Memory>
+    /// Makes room for more operations. The operations stay, and no room that was there is lost.
+    fn reserve(&mut self, alloc: Global, more: usize) -> Result<(), Memory>
         ensures room { OnOk result (more ≤ spare self.new) }
+        ensures kept { spare self.old ≤ spare self.new }
         ensures same { ops self.new ≡ ops self.old };
 
     /// Puts an operation at the end, in room that is there.
@@ -56,7 +57,7 @@ pub trait Log: Drop {
         ensures log { IsLog (ops self.now) };
 
     /// Puts other operations in place of all. After an error they are as before.
-    fn rebuild(&mut self, replacement: Items<Op>) -> Result<(), Memory>
+    fn rebuild(&mut self, alloc: Global, replacement: Items<Op>) -> Result<(), Memory>
         requires { IsLog replacement }
         ensures ok { OnOk result (ops self.new ≡ replacement) }
         ensures err { OnErr result (ops self.new ≡ ops self.old) };

@@ -43,7 +43,8 @@ impl Log for BucketLog {
 
     ghost spare = { λ log. log.spare };
 
-    fn reserve(&mut self, more: usize) -> Result<(), Memory> {
+    // A list has its allocator with it.
+    fn reserve(&mut self, _alloc: Global, more: usize) -> Result<(), Memory> {
         self.ops.reserve(more)?;
         Ok(())
     }
@@ -73,7 +74,7 @@ impl Log for BucketLog {
     }
 
     // It takes no memory, so it never fails.
-    fn rebuild(&mut self, replacement: Items<Op>) -> Result<(), Memory>
+    fn rebuild(&mut self, _alloc: Global, replacement: Items<Op>) -> Result<(), Memory>
         requires { IsLog replacement }
         ensures ok { OnOk result (self.new.ops ≡ replacement) }
         ensures err { OnErr result (self.new.ops ≡ self.old.ops) }

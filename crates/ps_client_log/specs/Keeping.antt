@@ -1,15 +1,12 @@
 -- What a keeper answers.
-use Rattle.std.specs.Prelude.{◌≡◌, ℕ, Bool, true, false, List, ◌+◌, ◌-◌, ◌^◌, ◌≤◌, min, Option, Some, None, Result, Ok, Err, IfSome}
+use Rattle.std.specs.Prelude.{◌≡◌, ℕ, Bool, true, false, Option, Some, None, Result, Ok, Err, IfSome}
+use Rattle.ps_io.specs.declared.calls.Calls.{Calls}
+use Rattle.ps_io.specs.Counts.{Rose}
 use Rattle.ps_client_log.specs.declared.states.State.{State}
 use Rattle.ps_client_log.specs.declared.holdings.Holdings.{Holdings}
-use Rattle.ps_client_log.specs.declared.memory.Calls.{Calls}
 use Rattle.ps_client_log.specs.declared.faults.KeepFault.{KeepFault}
 use Rattle.ps_client_log.specs.declared.faults.KeepFault.TheVariants.{Failed, Memory}
 use Rattle.ps_client_log.specs.Kept.{Kept, kept_of}
-
--- a count of faults rose, as far as it can
-abbrev pub Rose : ℕ → ℕ → Type 0
-Rose before now = min (before + 1) (2 ^ 64 - 1) ≤ now
 
 -- a keeper fails only where its count of faults rises
 abbrev pub RoseAt : KeepFault → ℕ → ℕ → Type 0
@@ -33,8 +30,3 @@ has_failed (Err Memory) = false
 -- the calls of a keeper in memory
 abbrev pub calls_of : Holdings × Calls → Calls
 calls_of keeper = keeper.1
-
--- these calls are to fail, and so many were made
-pub record Numbers (failing : List ℕ) (made : ℕ) (calls : Calls) : Type 0 where
-  pub failing_is : calls.failing ≡ failing
-  pub made_is : calls.made ≡ made

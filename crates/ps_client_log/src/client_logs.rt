@@ -1,6 +1,7 @@
 ghost use Rattle.std.specs.Prelude.{◌≡◌, ℕ, ◌≤◌, List, ◌++◌, OnOk, OnErr, IfOk, IfErr, IfSome, IsSome, None, is_some, bytes_eq};
 ghost use Rattle.std.specs.Cmp.Lexicographic.{slice_cmp};
 ghost use Rattle.std.specs.List.{IsDistinct, list_any};
+ghost use Rattle.std.specs.Option.{option_map};
 ghost use Rattle.std.specs.List.Sorted.{IsStrictlySortedBy};
 ghost use Rattle.std.specs.Ordering.{nat_cmp};
 ghost use Rattle.ps_changes.specs.Source.{Key as Object};
@@ -52,7 +53,7 @@ impl<K: Keeper> ClientLog<K> {
         ensures kept { IfOk result (λ log. Tells (K.held keeper) (kept log)) }
         ensures held { IfOk result (λ log. K.held (keeper_of log) ≡ K.held keeper) }
         ensures sound { IfOk result (λ log. IsSound (kept log)) }
-        ensures faults { IfOk result (λ log. K.faults keeper ≤ K.faults (keeper_of log)) }
+        ensures faults { IfOk result (λ log. K.faults (keeper_of log) ≡ K.faults keeper) }
         ensures refused_held { IfErr result (λ refused. K.held refused.0 ≡ K.held keeper) }
         ensures refused_faults { IfErr result (λ refused. K.faults keeper ≤ K.faults refused.0) }
         ensures failed { IfErr result (λ refused. RoseAt refused.1 (K.faults keeper) (K.faults refused.0)) }
@@ -78,16 +79,18 @@ impl<K: Keeper> ClientLog<K> {
         keeper
     }
 
-    /// Makes the edits, one after another, in one commit of the keeper. After a refusal nothing has changed.
+    /// Makes the edits, one after another, in one commit of the keeper: what it tells is then edited too. After a refusal nothing has changed.
     #[tactic(auto, using(crate::proofs::Sound::tells_can, crate::proofs::Sound::tells_after))]
     pub fn apply(&mut self, alloc: Global, edits: Vec<Edit>) -> Result<(), KeepFault>
         requires { CanMakeAll (kept self.old) edits.items }
         ensures ok { OnOk result (kept self.new ≡ with_edits (kept self.old) edits.items) }
         ensures err { OnErr result (kept self.new ≡ kept self.old) }
+        ensures told { OnOk result (K.held (keeper_of self.new) ≡ option_map (λ own. with_edits own edits.items) (K.held (keeper_of self.old))) }
         ensures held { OnErr result (K.held (keeper_of self.new) ≡ K.held (keeper_of self.old)) }
         ensures tells { Tells (K.held (keeper_of self.new)) (kept self.new) }
         ensures failed { RoseWhereFailed result (K.faults (keeper_of self.old)) (K.faults (keeper_of self.new)) }
         ensures faults { K.faults (keeper_of self.old) ≤ K.faults (keeper_of self.new) }
+        ensures quiet { OnOk result (K.faults (keeper_of self.new) ≡ K.faults (keeper_of self.old)) }
     {
         let rooms = self.holdings.prepare(alloc, edits.as_slice())?;
         match self.keeper.commit(alloc, edits.as_slice()) {
@@ -111,10 +114,12 @@ impl<K: Keeper> ClientLog<K> {
         ensures ok { OnOk result (kept self.new ≡ with_taken bucket.now ops.items (kept self.old)) }
         ensures image { OnOk result ((before : List Operation) → bucket_at (kept self.old) bucket.now ≡ bucket_of before → bucket_at (kept self.new) bucket.now ≡ bucket_of (before ++ ops.items)) }
         ensures err { OnErr result (kept self.new ≡ kept self.old) }
+        ensures told { OnOk result (K.held (keeper_of self.new) ≡ option_map (λ own. with_taken bucket.now ops.items own) (K.held (keeper_of self.old))) }
         ensures held { OnErr result (K.held (keeper_of self.new) ≡ K.held (keeper_of self.old)) }
         ensures tells { Tells (K.held (keeper_of self.new)) (kept self.new) }
         ensures failed { RoseWhereFailed result (K.faults (keeper_of self.old)) (K.faults (keeper_of self.new)) }
         ensures faults { K.faults (keeper_of self.old) ≤ K.faults (keeper_of self.new) }
+        ensures quiet { OnOk result (K.faults (keeper_of self.new) ≡ K.faults (keeper_of self.old)) }
     {
         let _target = self.target();
         let bucket = bucket.copy(alloc)?;
@@ -128,10 +133,12 @@ impl<K: Keeper> ClientLog<K> {
     pub fn delete_bucket(&mut self, alloc: Global, bucket: &Text) -> Result<(), KeepFault>
         ensures ok { OnOk result (kept self.new ≡ with_bucket bucket.now None (kept self.old)) }
         ensures err { OnErr result (kept self.new ≡ kept self.old) }
+        ensures told { OnOk result (K.held (keeper_of self.new) ≡ option_map (λ own. with_bucket bucket.now None own) (K.held (keeper_of self.old))) }
         ensures held { OnErr result (K.held (keeper_of self.new) ≡ K.held (keeper_of self.old)) }
         ensures tells { Tells (K.held (keeper_of self.new)) (kept self.new) }
         ensures failed { RoseWhereFailed result (K.faults (keeper_of self.old)) (K.faults (keeper_of self.new)) }
         ensures faults { K.faults (keeper_of self.old) ≤ K.faults (keeper_of self.new) }
+        ensures quiet { OnOk result (K.faults (keeper_of self.new) ≡ K.faults (keeper_of self.old)) }
     {
         let _target = self.target();
         let bucket = bucket.copy(alloc)?;

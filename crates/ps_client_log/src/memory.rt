@@ -1,38 +1,18 @@
-ghost use Rattle.std.specs.Prelude.{◌≡◌, ◌+◌, ◌-◌, ◌^◌, ◌≤◌, min, nat_eq, Some, IfSome, IfOk, OnOk, OnErr, option_map};
-ghost use Rattle.std.specs.List.{list_any};
+ghost use Rattle.std.specs.Prelude.{◌≡◌, ◌≤◌, Some, IfSome, IfOk, OnOk, OnErr, option_map};
+ghost use Rattle.ps_io.specs.Calls.{fails_next, Begins, IsCounted};
 ghost use Rattle.ps_client_log.specs.Kept.{kept_of, nothing_kept};
 ghost use Rattle.ps_client_log.specs.Soundness.{IsSound, IsSoundState};
 ghost use Rattle.ps_client_log.specs.Edits.{CanMakeAll, with_edits};
-ghost use Rattle.ps_client_log.specs.Keeping.{RoseWhereFailed, has_failed, calls_of, Numbers};
+ghost use Rattle.ps_client_log.specs.Keeping.{RoseWhereFailed, has_failed, calls_of};
 ghost use Rattle.ps_client_log.specs.Rooms.{kept_by};
 
 use crate::holdings::Holdings;
 use crate::saving::state_of;
 use crate::{Edit, KeepFault, Keeper, State};
+use ps_io::Calls;
 use ps_values::Items;
 use std::alloc::Global;
 use std::marker::Model;
-
-// The calls that are to fail, by their numbers from 1, how many calls there were, and how many failed.
-#[derive(Debug, Drop)]
-pub struct Calls {
-    pub failing: Items<u64>,
-    pub made: u64,
-    pub faults: u64,
-}
-
-impl Calls {
-    // Counts a call, and says whether it fails.
-    fn next_fails(&mut self) -> bool
-        ensures fails { result ≡ list_any (λ number. nat_eq number self.new.made) self.old.failing }
-        ensures made { self.new.made ≡ min (self.old.made + 1) (2 ^ 64 - 1) }
-        ensures failing { self.new.failing ≡ self.old.failing }
-        ensures faults { self.new.faults ≡ self.old.faults }
-    {
-        self.made = self.made.saturating_add(1);
-        self.failing.as_slice().contains(&self.made)
-    }
-}
 
 /// A keeper in memory of which the calls with the given numbers fail. It tells what it keeps, at first nothing.
 #[derive(Drop)]
@@ -44,9 +24,9 @@ pub struct MemoryKeeper {
 impl Model for MemoryKeeper {
     ghost use Rattle.std.specs.Coded.{coded×};
     ghost use Rattle.ps_client_log.specs.declared.holdings.Holdings.{Holdings};
-    ghost use Rattle.ps_client_log.specs.declared.memory.Calls.{Calls};
+    ghost use Rattle.ps_io.specs.declared.calls.Calls.{Calls};
     ghost use Rattle.ps_client_log.specs.contracts.holdings.Holdings as stored;
-    ghost use Rattle.ps_client_log.specs.contracts.memory.Calls as counted;
+    ghost use Rattle.ps_io.specs.contracts.calls.Calls as counted;
     ghost use Rattle.ps_client_log.specs.Logs.{IsHeld};
 
     ghost Value = { Holdings × Calls };
@@ -63,15 +43,11 @@ impl MemoryKeeper {
     pub fn new(alloc: Global, failing: Items<u64>) -> MemoryKeeper
         ensures held { ⟦<MemoryKeeper as Keeper>⟧.held result ≡ Some nothing_kept }
         ensures faults { ⟦<MemoryKeeper as Keeper>⟧.faults result ≡ 0 }
-        ensures failing { Numbers failing 0 (calls_of result) }
+        ensures calls { Begins failing (calls_of result) }
     {
         MemoryKeeper {
             holdings: Holdings::new(alloc),
-            calls: Calls {
-                failing,
-                made: 0,
-                faults: 0,
-            },
+            calls: Calls::new(failing),
         }
     }
 }
@@ -88,12 +64,13 @@ impl Keeper for MemoryKeeper {
         ensures held { kept_by self.new.0 ≡ kept_by self.old.0 }
         ensures failed { RoseWhereFailed result self.old.1.faults self.new.1.faults }
         ensures faults { self.old.1.faults ≤ self.new.1.faults }
-        ensures calls { Numbers self.old.1.failing (min (self.old.1.made + 1) (2 ^ 64 - 1)) self.new.1 }
-        ensures fails { has_failed result ≡ list_any (λ number. nat_eq number self.new.1.made) self.old.1.failing }
+        ensures quiet { OnOk result (self.new.1.faults ≡ self.old.1.faults) }
+        ensures calls { IsCounted self.old.1 self.new.1 }
+        ensures fails { has_failed result ≡ fails_next self.old.1 }
     {
         let _holdings = &self.holdings;
         if self.calls.next_fails() {
-            self.calls.faults = self.calls.faults.saturating_add(1);
+            self.calls.fail();
             return Err(KeepFault::Failed);
         }
         Ok(state_of(alloc, &self.holdings)?)
@@ -106,12 +83,13 @@ impl Keeper for MemoryKeeper {
         ensures told { IsSound (kept_by self.new.0) }
         ensures failed { RoseWhereFailed result self.old.1.faults self.new.1.faults }
         ensures faults { self.old.1.faults ≤ self.new.1.faults }
-        ensures calls { Numbers self.old.1.failing (min (self.old.1.made + 1) (2 ^ 64 - 1)) self.new.1 }
-        ensures fails { has_failed result ≡ list_any (λ number. nat_eq number self.new.1.made) self.old.1.failing }
+        ensures quiet { OnOk result (self.new.1.faults ≡ self.old.1.faults) }
+        ensures calls { IsCounted self.old.1 self.new.1 }
+        ensures fails { has_failed result ≡ fails_next self.old.1 }
     {
         let _holdings = &self.holdings;
         if self.calls.next_fails() {
-            self.calls.faults = self.calls.faults.saturating_add(1);
+            self.calls.fail();
             return Err(KeepFault::Failed);
         }
         self.holdings.commit(alloc, edits)?;

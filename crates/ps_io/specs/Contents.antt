@@ -1,5 +1,5 @@
 -- What files hold and what a sink has taken, where they tell it.
-use Rattle.std.specs.Prelude.{◌≡◌, ℕ, ◌≤◌, ◌<◌, List, [], ◌∷◌, ◌++◌, length, Option, Some, None, option_map, Result, Ok, Err, Vec, if◌then◌else◌, bytes_eq, unwrap_or}
+use Rattle.std.specs.Prelude.{◌≡◌, ℕ, ◌≤◌, ◌<◌, List, [], ◌∷◌, ◌++◌, length, Option, Some, None, option_map, IfSome, Result, Ok, Err, Vec, if◌then◌else◌, bytes_eq, unwrap_or}
 use Rattle.std.specs.declared.alloc.Global.{Global}
 use Rattle.ps_io.specs.Counts.{Rose}
 use Rattle.ps_io.specs.declared.inputs.FileFault.{FileFault}
@@ -56,3 +56,10 @@ IsWithin limit (Ok bytes) = length bytes.items ≤ limit
 IsWithin limit (Err Failed) = Unit {0}
 IsWithin limit (Err (TooLong seen)) = limit < seen
 IsWithin limit (Err Memory) = Unit {0}
+
+-- what was read is all that a reader had left, where that is known; what was too long had more than the limit
+abbrev pub ReadsAll : Option (List ℕ) → ℕ → Result (Vec ℕ Global) FileFault → Type 0
+ReadsAll left limit (Ok bytes) = IfSome left (λ all. bytes.items ≡ all)
+ReadsAll left limit (Err Failed) = Unit {0}
+ReadsAll left limit (Err (TooLong seen)) = IfSome left (λ all. limit < length all)
+ReadsAll left limit (Err Memory) = Unit {0}

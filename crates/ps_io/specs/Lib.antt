@@ -1,3 +1,4 @@
 pub mod Contents
 pub mod Counts
+pub mod Calls
 pub mod Memory

@@ -1,5 +1,5 @@
 ghost use Rattle.std.specs.Prelude.{◌≡◌, None};
-ghost use Rattle.ps_io.specs.Contents.{IsWithin};
+ghost use Rattle.ps_io.specs.Contents.{IsWithin, ReadsAll};
 
 use crate::{FileFault, Files};
 use ps_values::Text;
@@ -27,7 +27,8 @@ impl<R: std::rt::Files + Drop> DiskFiles<R> {
 
 // Reads to the end, or until more than the limit was seen.
 fn read_within<F: Read>(alloc: Global, file: &mut F, limit: u64) -> Result<Vec<u8>, FileFault>
-    ensures { IsWithin limit result }
+    ensures within { IsWithin limit result }
+    ensures all { ReadsAll (F.remaining file.old) limit result }
 {
     let mut bytes = Vec::new(alloc);
     let mut buffer = [0u8; CHUNK];
@@ -37,7 +38,7 @@ fn read_within<F: Read>(alloc: Global, file: &mut F, limit: u64) -> Result<Vec<u
             Err(_) => return Err(FileFault::Failed),
         };
         if count == 0 {
-            break;
+            return Ok(bytes);
         }
         bytes.extend_from_slice(&buffer[..count])?;
         let seen = bytes.len() as u64;
@@ -45,7 +46,8 @@ fn read_within<F: Read>(alloc: Global, file: &mut F, limit: u64) -> Result<Vec<u
             return Err(FileFault::TooLong { seen });
         }
     }
-    Ok(bytes)
+    // No file has as many chunks.
+    Err(FileFault::Failed)
 }
 
 // Reads the file of that name.

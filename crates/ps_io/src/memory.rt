@@ -1,9 +1,10 @@
-ghost use Rattle.std.specs.Prelude.{◌≡◌, ◌≤◌, true, Some, None, [], length, Err, IfOk, IfErr, OnOk, OnErr, IsErr, MatchOption};
+ghost use Rattle.std.specs.Prelude.{◌≡◌, ◌≢◌, ◌≤◌, true, Some, None, [], length, Err, IfOk, IfErr, OnOk, OnErr, IsErr, MatchOption};
 ghost use Rattle.ps_io.specs.Contents.{content_of, sure_content_of, ExceedsBy, Reads, Gains, GainsFront};
 ghost use Rattle.ps_io.specs.Counts.{Rose};
-ghost use Rattle.ps_io.specs.Memory.{fails_next, IsCounted, Begins, RefusesRead, RefusesWrite, HasItsMemory};
+ghost use Rattle.ps_io.specs.Calls.{fails_next, IsCounted, Begins};
+ghost use Rattle.ps_io.specs.Memory.{RefusesRead, RefusesWrite, HasItsMemory};
 
-use crate::{Failed, FileFault, Files, Sink};
+use crate::{Calls, Failed, FileFault, Files, Sink};
 use ps_values::{Items, Memory, Text};
 use std::alloc::Global;
 
@@ -14,37 +15,6 @@ pub struct MemoryFile {
     pub name: Text,
     /// Its bytes.
     pub content: Items<u8>,
-}
-
-// The calls that are to fail, by their numbers from 1, and how many calls there were.
-#[derive(Debug, Drop)]
-struct Calls {
-    failing: Items<u64>,
-    made: u64,
-    faults: u64,
-}
-
-impl Calls {
-    fn new(failing: Items<u64>) -> Calls
-        ensures begins { Begins failing result }
-        ensures faults { result.faults ≡ 0 }
-    {
-        Calls {
-            failing,
-            made: 0,
-            faults: 0,
-        }
-    }
-
-    // Counts a call, and says whether it fails.
-    fn next_fails(&mut self) -> bool
-        ensures fails { result ≡ fails_next self.old }
-        ensures counts { IsCounted self.old self.new }
-        ensures faults { self.new.faults ≡ self.old.faults }
-    {
-        self.made = self.made.saturating_add(1);
-        self.failing.as_slice().contains(&self.made)
-    }
 }
 
 /// Files in memory, of which the calls with the given numbers fail.
@@ -94,7 +64,7 @@ fn copy_within(alloc: Global, content: &[u8], limit: u64) -> Result<Vec<u8>, Fil
 
 impl MemoryFiles {
     /// Files in memory. The calls of `read` whose numbers, from 1, are among `failing` fail.
-    pub fn new(files: Items<MemoryFile>, failing: Items<u64>) -> MemoryFiles
+    pub fn new(_alloc: Global, files: Items<MemoryFile>, failing: Items<u64>) -> MemoryFiles
         ensures held { ⟦<MemoryFiles as Files>⟧.held result ≡ Some (content_of files) }
         ensures faults { ⟦<MemoryFiles as Files>⟧.faults result ≡ 0 }
         ensures calls { Begins failing result.calls }
@@ -115,6 +85,7 @@ impl Files for MemoryFiles {
         ensures answer { Reads (Some (content_of self.old.files)) name.now limit self.old.calls.faults self.new.calls.faults result }
         ensures held { self.new.files ≡ self.old.files }
         ensures faults { self.old.calls.faults ≤ self.new.calls.faults }
+        ensures quiet { result ≢ Err FileFault.Failed → self.new.calls.faults ≡ self.old.calls.faults }
 
         // It fails where its number is to fail, and else only where there is no such file.
         ensures cause { result ≡ Err FileFault.Failed → RefusesRead self.old name.now }
@@ -122,11 +93,11 @@ impl Files for MemoryFiles {
         ensures calls { IsCounted self.old.calls self.new.calls }
     {
         if self.calls.next_fails() {
-            self.calls.faults = self.calls.faults.saturating_add(1);
+            self.calls.fail();
             return Err(FileFault::Failed);
         }
         let Some(file) = find_file(self.files.as_slice(), name) else {
-            self.calls.faults = self.calls.faults.saturating_add(1);
+            self.calls.fail();
             return Err(FileFault::Failed);
         };
         copy_within(alloc, file.content.as_slice(), limit)
@@ -139,7 +110,7 @@ impl Files for MemoryFiles {
 
 impl SureFiles {
     /// Files in memory that never fail.
-    pub fn new(files: Items<MemoryFile>) -> SureFiles
+    pub fn new(_alloc: Global, files: Items<MemoryFile>) -> SureFiles
         ensures held { ⟦<SureFiles as Files>⟧.held result ≡ Some (sure_content_of files) }
         ensures faults { ⟦<SureFiles as Files>⟧.faults result ≡ 0 }
     {
@@ -163,6 +134,10 @@ impl Files for SureFiles {
         0
     }
 }
+
+/// A sink that never fails: it takes all bytes and keeps none. So it does not tell what it has taken.
+#[derive(Clone, Copy, Debug, PartialEq, Eq)]
+pub struct SureSink;
 
 impl MemorySink {
     /// An empty sink with room for `room` bytes. The calls of `write` whose numbers, from 1, are among `failing` fail and take nothing.
@@ -201,6 +176,7 @@ impl Sink for MemorySink {
         ensures err { OnErr result (GainsFront (Some self.old.bytes.items) (Some self.new.bytes.items) bytes.now) }
         ensures failed { OnErr result (Rose self.old.calls.faults self.new.calls.faults) }
         ensures faults { self.old.calls.faults ≤ self.new.calls.faults }
+        ensures quiet { OnOk result (self.new.calls.faults ≡ self.old.calls.faults) }
 
         // It fails where its number is to fail, and then takes nothing, and else only where the bytes do not fit.
         ensures cause { OnErr result (HasItsMemory self.old → RefusesWrite self.old bytes.now) }
@@ -211,17 +187,17 @@ impl Sink for MemorySink {
         ensures calls { IsCounted self.old.calls self.new.calls }
     {
         if self.calls.next_fails() {
-            self.calls.faults = self.calls.faults.saturating_add(1);
+            self.calls.fail();
             return Err(Failed);
         }
         let left = self.room.saturating_sub(self.bytes.len());
         let fits = left.min(bytes.len());
         if self.bytes.extend_from_slice(&bytes[..fits]).is_err() {
-            self.calls.faults = self.calls.faults.saturating_add(1);
+            self.calls.fail();
             return Err(Failed);
         }
         if fits < bytes.len() {
-            self.calls.faults = self.calls.faults.saturating_add(1);
+            self.calls.fail();
             return Err(Failed);
         }
         Ok(())
@@ -229,5 +205,21 @@ impl Sink for MemorySink {
 
     fn write_faults(&self) -> u64 {
         self.calls.faults
+    }
+}
+
+impl Sink for SureSink {
+    ghost taken = { λ _. None };
+
+    ghost faults = { λ _. 0 };
+
+    ghost number = { λ _. 0 };
+
+    fn write(&mut self, _bytes: &[u8]) -> Result<(), Failed> {
+        Ok(())
+    }
+
+    fn write_faults(&self) -> u64 {
+        0
     }
 }

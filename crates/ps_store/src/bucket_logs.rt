@@ -54,7 +54,7 @@ impl BucketLogs {
             Some(log) => log,
             None => BucketLog::new(alloc),
         };
-        log.reserve(1)?;
+        log.reserve(alloc, 1)?;
         log.append(op);
         self.logs.insert(bucket, log)?;
         Ok(())

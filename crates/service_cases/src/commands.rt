@@ -62,7 +62,7 @@ fn do_command<F: Files>(
 
 // Does the command of words on the texts that they name.
 fn surely(alloc: Global, texts: &Texts, words: &str) -> Result<Answer, Stop> {
-    let mut files = SureFiles::new(files_of(alloc, texts, words)?);
+    let mut files = SureFiles::new(alloc, files_of(alloc, texts, words)?);
     do_command(alloc, words, &mut files, 4194304, Items::new(alloc))
 }
 
@@ -116,7 +116,7 @@ pub fn write_unread(
 ) -> Result<(), Stop> {
     let (call, words) = cut(words);
     let failing = failing(alloc, number(call)?)?;
-    let mut files = MemoryFiles::new(files_of(alloc, texts, words)?, failing);
+    let mut files = MemoryFiles::new(alloc, files_of(alloc, texts, words)?, failing);
     let answer = do_command(alloc, words, &mut files, 64, Items::new(alloc))?;
     write!(out, "status {}", answer.status)?;
     write_lines(out, "out", answer.printed.as_slice())?;
@@ -133,7 +133,7 @@ pub fn write_unwritten(
     let (room, words) = cut(words);
     let (call, words) = cut(words);
     let failing = failing(alloc, number(call)?)?;
-    let mut files = SureFiles::new(files_of(alloc, texts, words)?);
+    let mut files = SureFiles::new(alloc, files_of(alloc, texts, words)?);
     let answer = do_command(alloc, words, &mut files, room.parse::<usize>()?, failing)?;
     write!(
         out,

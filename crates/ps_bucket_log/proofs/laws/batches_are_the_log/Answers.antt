@@ -1,5 +1,5 @@
 use Rattle.ps_bucket_log.proofs.Fronts.{batch_rises, reads_longest_front, batches_are_the_log}
-use Rattle.ps_bucket_log.proofs.Entries.{reads_on}
+use Rattle.ps_bucket_log.proofs.Entries.{reads_on, target_within_level}
 use Rattle.ps_bucket_log.proofs.laws.batches_are_the_log.Goals as goal
 
 pub returns-clause-longest : goal.returns-clause-longest
@@ -13,3 +13,6 @@ returns-clause-on c = reads_on
 
 pub returns-clause-rising : goal.returns-clause-rising
 returns-clause-rising c = batch_rises
+
+pub returns-clause-target : goal.returns-clause-target
+returns-clause-target c = target_within_level
