@@ -7,8 +7,8 @@ ghost use Rattle.ps_bucket_log.specs.Logs.{IsLog};
 use crate::words::{cut, number};
 use ps_bucket_log::{
     Batch, BucketLog, Key, Log, Op, batches_are_the_log, batches_keep_readers_honest,
-    honest_readers_stay_honest, readers_are_whole_at_the_newest,
-    readers_need_no_targets, readers_stand_at_the_last_id, rising_ids_rise_on,
+    honest_readers_stay_honest, readers_are_whole_at_the_newest, readers_need_no_targets,
+    readers_stand_at_the_last_id, rising_ids_rise_on,
     standing_logs_have_the_sums_of_their_originals, standing_logs_stay_standing, the_last_decides,
     totals_are_sums, what_is_written_later_adds_nothing,
 };
