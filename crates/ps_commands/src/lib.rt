@@ -19,5 +19,6 @@ mod tables;
 
 pub use buckets::Bucket;
 pub use change_files::{Written, write_changes};
+pub use faults::{Fault, LineFault, RulesCause};
 pub use plain::run_plain;
 pub use streams::{checkpoint_line, complete_line, data_line};
