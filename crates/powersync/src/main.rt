@@ -1,23 +1,7 @@
-//! The program `powersync`: docs/FORMATS.md has its commands, and docs/CLAIMS.md what is proved of them.
+//! The program `powersync`, over `ps_commands`: the system's words, files and streams.
 #![tactic(auto)]
 
-mod answering;
-mod buckets;
-mod change_files;
-mod checking;
-mod checkpoints;
-mod claims;
-mod faults;
-mod loading;
-mod plain;
-mod printing;
-mod rules_faults;
-mod saying;
-mod sessions;
-mod streams;
-mod tables;
-
-use plain::run_plain;
+use ps_commands::run_plain;
 use ps_io::{DiskFiles, StdSink};
 use ps_values::Text;
 use std::process::ExitCode;

@@ -1,0 +1,359 @@
+//! What clients keep of operations.
+
+ghost use Rattle.std.specs.Prelude.{◌≡◌, ◌≤◌, IsTrue, IfOk};
+ghost use Rattle.std.specs.List.{IsDistinct};
+ghost use Rattle.ps_client_log.specs.Kept.{Kept};
+ghost use Rattle.ps_client_log.specs.Soundness.{IsSound, same_row};
+ghost use Rattle.ps_client_log.specs.Edits.{CanTake, CanMakeAll};
+
+use crate::words::number;
+use ps_bucket_log::{Key, Op};
+use ps_checksum::Sum;
+use ps_client_log::{ClientLog, Edit, KeepFault, Keeper, MemoryKeeper, Shown, SureKeeper, Target};
+use ps_values::{Items, Memory, OpId, Text};
+use std::alloc::Global;
+use std::test::Fail;
+
+fn key(alloc: Global, id: &str) -> Result<Key, Memory> {
+    Ok(Key {
+        kind: Text::from_str(alloc, "t")?,
+        id: Text::from_str(alloc, id)?,
+        subkey: Text::from_str(alloc, "s")?,
+    })
+}
+
+// A PUT of an object with this data.
+fn put(alloc: Global, id: u64, object: &str, content: &str) -> Result<Op, Memory> {
+    Ok(Op::Put {
+        id: OpId(id),
+        key: key(alloc, object)?,
+        content: Text::from_str(alloc, content)?,
+        sum: Sum(10),
+    })
+}
+
+fn remove(alloc: Global, id: u64, object: &str) -> Result<Op, Memory> {
+    Ok(Op::Remove {
+        id: OpId(id),
+        key: key(alloc, object)?,
+        sum: Sum(100),
+    })
+}
+
+fn move_op(id: u64) -> Op {
+    Op::Move {
+        id: OpId(id),
+        sum: Sum(1000),
+        target: OpId(id),
+    }
+}
+
+fn clear(id: u64) -> Op {
+    Op::Clear {
+        id: OpId(id),
+        sum: Sum(10000),
+        target: None,
+    }
+}
+
+// The operation of the history with this id.
+fn op_at(alloc: Global, id: u64) -> Result<Op, Memory> {
+    match id {
+        1 => put(alloc, id, "x", "1"),
+        2 => Ok(clear(id)),
+        3 => put(alloc, id, "x", "3"),
+        4 => put(alloc, id, "y", "4"),
+        5 => put(alloc, id, "y", "5"),
+        6 => remove(alloc, id, "x"),
+        7 => Ok(move_op(id)),
+        _ => put(alloc, id, "z", "8"),
+    }
+}
+
+// The operations of the history from one id on up to another. The whole has each kind, before a CLEAR and after it.
+fn history(alloc: Global, first: u64, past: u64) -> Result<Vec<Op>, Memory> {
+    let mut ops = Vec::new(alloc);
+    'ids: for id in first..past {
+        ops.push(op_at(alloc, id)?)?;
+    }
+    Ok(ops)
+}
+
+// Whether a bucket at this position can take the operations.
+#[tactic(auto, using(crate::proofs::Rising::take_rising, crate::proofs::Rising::can_take))]
+fn can_take(position: OpId, ops: &[Op]) -> bool
+    ensures { IsTrue result → CanTake position.0 ops.now }
+{
+    let mut last = position.0;
+    'ops: for op in ops {
+        if op.id().0 <= last {
+            return false;
+        }
+        last = op.id().0;
+    }
+    last <= 9223372036854775807
+}
+
+// Takes operations. Those whose ids do not rise are refused.
+fn take<K: Keeper>(
+    log: &mut ClientLog<K>,
+    alloc: Global,
+    bucket: &Text,
+    ops: Vec<Op>,
+) -> Result<(), KeepFault> {
+    if !can_take(log.position(bucket), ops.as_slice()) {
+        return Err(KeepFault::Failed);
+    }
+    log.take_ops(alloc, bucket, ops)
+}
+
+// Takes operations of the history.
+fn take_history<K: Keeper>(
+    log: &mut ClientLog<K>,
+    alloc: Global,
+    first: u64,
+    past: u64,
+) -> Result<(), KeepFault> {
+    let bucket = Text::from_str(alloc, "b")?;
+    take(log, alloc, &bucket, history(alloc, first, past)?)
+}
+
+fn opened<K: Keeper + Drop>(alloc: Global, keeper: K) -> Result<ClientLog<K>, KeepFault> {
+    match ClientLog::open(alloc, keeper) {
+        Ok(log) => Ok(log),
+        Err((_keeper, fault)) => Err(fault),
+    }
+}
+
+fn add_row(out: &mut String, row: &Shown) -> Result<(), Memory> {
+    Ok(write!(out, " {}={}", row.id.as_str(), row.content.as_str())?)
+}
+
+fn add_rows(out: &mut String, rows: &[Shown]) -> Result<(), Memory> {
+    'rows: for row in rows {
+        add_row(out, row)?;
+    }
+    Ok(())
+}
+
+fn add_bucket(out: &mut String, name: &str, position: u64, total: u32) -> Result<(), Memory> {
+    Ok(write!(out, "{name} {position} {total};")?)
+}
+
+fn add_buckets<K: Keeper>(
+    out: &mut String,
+    log: &ClientLog<K>,
+    names: &[Text],
+) -> Result<(), Memory> {
+    'names: for name in names {
+        add_bucket(out, name.as_str(), log.position(name).0, log.total(name).0)?;
+    }
+    Ok(())
+}
+
+// Adds the position and the total of each bucket, and then the rows.
+fn add_told<K: Keeper>(out: &mut String, log: &ClientLog<K>, alloc: Global) -> Result<(), Memory> {
+    let names = log.names(alloc)?;
+    add_buckets(out, log, names.as_slice())?;
+    let rows = log.held_rows(alloc)?;
+    add_rows(out, rows.as_slice())?;
+    Ok(out.push_str("|")?)
+}
+
+// What a log tells, and then what another tells that is opened with its keeper.
+fn told_twice<K: Keeper + Drop>(log: ClientLog<K>, alloc: Global) -> Result<String, KeepFault> {
+    let mut out = String::new(alloc);
+    add_told(&mut out, &log, alloc)?;
+    let again = opened(alloc, log.close())?;
+    add_told(&mut out, &again, alloc)?;
+    Ok(out)
+}
+
+// The history in two parts, of which the second begins with an id.
+fn told_of_parts(alloc: Global, middle: u64) -> Result<String, KeepFault> {
+    let mut log = opened(alloc, SureKeeper::new(alloc))?;
+    take_history(&mut log, alloc, 1, middle)?;
+    take_history(&mut log, alloc, middle, 9)?;
+    told_twice(log, alloc)
+}
+
+fn told_of_singles(alloc: Global) -> Result<String, KeepFault> {
+    let mut log = opened(alloc, SureKeeper::new(alloc))?;
+    'ids: for id in 1..9 {
+        take_history(&mut log, alloc, id, id + 1)?;
+    }
+    told_twice(log, alloc)
+}
+
+fn told_of_none(alloc: Global) -> Result<String, KeepFault> {
+    let mut log = opened(alloc, SureKeeper::new(alloc))?;
+    take_history(&mut log, alloc, 1, 1)?;
+    told_twice(log, alloc)
+}
+
+// A keeper of which the call with this number fails.
+fn failing(alloc: Global, call: u64) -> Result<MemoryKeeper, Memory> {
+    let mut calls = Items::new(alloc);
+    calls.push(call)?;
+    Ok(MemoryKeeper::new(alloc, calls))
+}
+
+// A keeper of which the load has failed.
+fn failed(alloc: Global) -> Result<MemoryKeeper, KeepFault> {
+    match ClientLog::open(alloc, failing(alloc, 1)?) {
+        Ok(_) => Err(KeepFault::Failed),
+        Err((keeper, _)) => Ok(keeper),
+    }
+}
+
+// A bucket takes a PUT of the one object.
+fn hold<K: Keeper>(
+    log: &mut ClientLog<K>,
+    alloc: Global,
+    bucket: &str,
+    id: u64,
+    content: &str,
+) -> Result<(), KeepFault> {
+    let bucket = Text::from_str(alloc, bucket)?;
+    let op = put(alloc, id, "x", content)?;
+    take(log, alloc, &bucket, vec![in alloc; op]?)
+}
+
+fn delete<K: Keeper>(log: &mut ClientLog<K>, alloc: Global, bucket: &str) -> Result<(), KeepFault> {
+    let bucket = Text::from_str(alloc, bucket)?;
+    log.delete_bucket(alloc, &bucket)
+}
+
+// Three steps, each of one commit: two buckets take an object, and the first goes.
+fn step<K: Keeper>(log: &mut ClientLog<K>, alloc: Global, call: u64) -> Result<(), KeepFault> {
+    match call {
+        2 => hold(log, alloc, "a", 1, "of a"),
+        3 => hold(log, alloc, "b", 2, "of b"),
+        _ => delete(log, alloc, "a"),
+    }
+}
+
+// Takes a step. Where it fails, adds what is told then, and takes it again.
+fn step_on<K: Keeper>(
+    out: &mut String,
+    log: &mut ClientLog<K>,
+    alloc: Global,
+    call: u64,
+) -> Result<(), KeepFault> {
+    if step(log, alloc, call).is_ok() {
+        return Ok(());
+    }
+    add_told(out, log, alloc)?;
+    step(log, alloc, call)
+}
+
+// What is told after the call that fails, and after all steps.
+fn told_of_failing(alloc: Global, call: u64) -> Result<String, KeepFault> {
+    let mut out = String::new(alloc);
+    let mut log = opened(alloc, failing(alloc, call)?)?;
+    'steps: for step in 2..5 {
+        step_on(&mut out, &mut log, alloc, step)?;
+    }
+    let last = told_twice(log, alloc)?;
+    out.push_str(last.as_str())?;
+    Ok(out)
+}
+
+// Two buckets hold one object: a copy with the greater id, one with the same id, and then one bucket goes.
+fn share<K: Keeper>(log: &mut ClientLog<K>, alloc: Global, step: u64) -> Result<(), KeepFault> {
+    match step {
+        0 => hold(log, alloc, "a", 5, "of a"),
+        1 => hold(log, alloc, "b", 3, "of b"),
+        2 => hold(log, alloc, "b", 5, "last"),
+        _ => delete(log, alloc, "b"),
+    }
+}
+
+fn told_of_shared(alloc: Global) -> Result<String, KeepFault> {
+    let mut out = String::new(alloc);
+    let mut log = opened(alloc, SureKeeper::new(alloc))?;
+    'steps: for step in 0..4 {
+        share(&mut log, alloc, step)?;
+        add_told(&mut out, &log, alloc)?;
+    }
+    Ok(out)
+}
+
+// The one row that is shown.
+#[tactic(auto, using(crate::proofs::Together::one_row))]
+fn row(alloc: Global) -> Result<Items<Shown>, Memory>
+    ensures { IfOk result (IsDistinct same_row) }
+{
+    let mut rows = Items::new(alloc);
+    rows.push(Shown {
+        kind: Text::from_str(alloc, "t")?,
+        id: Text::from_str(alloc, "x")?,
+        content: Text::from_str(alloc, "1")?,
+    })?;
+    Ok(rows)
+}
+
+// A number is aimed at, the bucket goes, and a row is shown.
+fn edits(alloc: Global) -> Result<Vec<Edit>, Memory>
+    ensures { IfOk result (λ edits. (kept : Kept) → IsSound kept → CanMakeAll kept edits.items) }
+{
+    let bucket = Text::from_str(alloc, "b")?;
+    let rows = row(alloc)?;
+    let target = Target::Number(7);
+    Ok(vec![in alloc;
+        Edit::Aim { target },
+        Edit::Delete { bucket },
+        Edit::Show { rows },
+    ]?)
+}
+
+// A log with a bucket, where those edits are made.
+fn edited(alloc: Global) -> Result<ClientLog<SureKeeper>, KeepFault> {
+    let mut log = opened(alloc, SureKeeper::new(alloc))?;
+    hold(&mut log, alloc, "b", 5, "of b")?;
+    let edits = edits(alloc)?;
+    let _target = log.target();
+    log.apply(alloc, edits)?;
+    Ok(log)
+}
+
+fn write_edited(alloc: Global, out: &mut String) -> Result<(), KeepFault> {
+    let log = edited(alloc)?;
+    let is_aimed = *log.target() == Target::Number(7);
+    write!(out, "{is_aimed} {} ", log.shown().len())?;
+    let told = told_twice(log, alloc)?;
+    Ok(out.push_str(told.as_str())?)
+}
+
+// What a log tells that is opened with a keeper of which the load has failed, and before it the keeper's faults.
+fn write_failed_load(alloc: Global, out: &mut String) -> Result<(), KeepFault> {
+    let keeper = failed(alloc)?;
+    write!(out, "{} ", keeper.keep_faults())?;
+    let log = opened(alloc, keeper)?;
+    let told = told_twice(log, alloc)?;
+    Ok(out.push_str(told.as_str())?)
+}
+
+/// What a client tells after the history in two parts, of which the second begins with an id.
+pub fn write_parts(alloc: Global, middle: &str, out: &mut String) -> Result<(), Fail> {
+    let told = told_of_parts(alloc, number(middle)?)?;
+    Ok(out.push_str(told.as_str())?)
+}
+
+/// What a client tells where a call of its keeper fails, once after that call and then after all.
+pub fn write_failing(alloc: Global, call: &str, out: &mut String) -> Result<(), Fail> {
+    let told = told_of_failing(alloc, number(call)?)?;
+    Ok(out.push_str(told.as_str())?)
+}
+
+/// What a client tells in a case that has a name.
+pub fn write_case(alloc: Global, name: &str, out: &mut String) -> Result<(), Fail> {
+    match name {
+        "singles" => Ok(out.push_str(told_of_singles(alloc)?.as_str())?),
+        "none" => Ok(out.push_str(told_of_none(alloc)?.as_str())?),
+        "shared" => Ok(out.push_str(told_of_shared(alloc)?.as_str())?),
+        "edited" => Ok(write_edited(alloc, out)?),
+        "failed-load" => Ok(write_failed_load(alloc, out)?),
+        _ => Err("no case".into()),
+    }
+}

@@ -1,0 +1,189 @@
+//! Logs of buckets: one with so many PUTs, and a compacted one.
+
+ghost use Rattle.std.specs.Prelude.{◌≡◌, false, IfOk};
+ghost use Rattle.ps_bucket_log.specs.Ops.{id_of, is_clear, newest};
+ghost use Rattle.ps_bucket_log.specs.Logs.{IsLog};
+
+use crate::words::{cut, number};
+use ps_bucket_log::{
+    Batch, BucketLog, Key, Log, Op, batches_are_the_log, batches_keep_readers_honest,
+    honest_readers_stay_honest, readers_are_whole_at_the_newest, readers_need_no_targets,
+    readers_stand_at_the_last_id, rising_ids_rise_on,
+    standing_logs_have_the_sums_of_their_originals, standing_logs_stay_standing, the_last_decides,
+    totals_are_sums, what_is_written_later_adds_nothing,
+};
+use ps_checksum::Sum;
+use ps_values::{Items, OpId, Text};
+use std::alloc::Global;
+use std::test::Fail;
+
+fn key(alloc: Global, id: &str) -> Result<Key, Fail> {
+    Ok(Key {
+        kind: Text::from_str(alloc, "t")?,
+        id: Text::from_str(alloc, id)?,
+        subkey: Text::from_str(alloc, "s")?,
+    })
+}
+
+// A PUT with so many bytes of data.
+fn put(alloc: Global, id: u64, size: usize) -> Result<Op, Fail>
+    ensures { IfOk result (λ op. (id_of op ≡ id) × (is_clear op ≡ false)) }
+{
+    let content = "a".repeat(alloc, size)?;
+    Ok(Op::Put {
+        id: OpId(id),
+        key: key(alloc, "r")?,
+        content: Text::from_string(content),
+        sum: Sum(1),
+    })
+}
+
+// Appends PUTs with the next ids, each of so many bytes of data.
+fn fill<L: Log>(log: &mut L, alloc: Global, count: u64, size: usize) -> Result<(), Fail>
+    requires { newest (L.ops log.old) ≡ 0 }
+{
+    'puts: for id in 0..count {
+        log.reserve(alloc, 1)?;
+        log.append(put(alloc, id + 1, size)?);
+    }
+    Ok(())
+}
+
+// CLEAR 4 that 6 puts right, MOVE 5 to 7, PUT 6.
+fn compacted_ops(alloc: Global) -> Result<Items<Op>, Fail>
+    ensures { IfOk result IsLog }
+{
+    let mut ops = Items::new(alloc);
+    ops.push(Op::Clear {
+        id: OpId(4),
+        sum: Sum(4294967295),
+        target: Some(OpId(6)),
+    })?;
+    ops.push(Op::Move {
+        id: OpId(5),
+        sum: Sum(2),
+        target: OpId(7),
+    })?;
+    ops.push(put(alloc, 6, 3)?)?;
+    Ok(ops)
+}
+
+fn write_id(out: &mut String, id: Option<OpId>) -> Result<(), Fail> {
+    match id {
+        Some(id) => Ok(write!(out, " {}", id.0)?),
+        None => Ok(out.push_str(" none")?),
+    }
+}
+
+// How many operations a batch has, whether there are more, their target, and the id of a CLEAR that is passed.
+fn write_batch(out: &mut String, batch: &Batch) -> Result<(), Fail> {
+    write!(out, "{} more {} target", batch.ops.len(), batch.has_more)?;
+    write_id(out, batch.target)?;
+    out.push_str(" passed")?;
+    write_id(out, batch.passed)
+}
+
+fn write_op(out: &mut String, op: &Op) -> Result<(), Fail> {
+    match op {
+        Op::Put {
+            id,
+            key,
+            content,
+            sum,
+        } => {
+            write!(
+                out,
+                "put {} {} {}",
+                id.0,
+                key.kind.as_str(),
+                key.id.as_str()
+            )?;
+            write!(
+                out,
+                " {} {} {};",
+                key.subkey.as_str(),
+                content.as_str(),
+                sum.0
+            )?;
+        }
+        Op::Remove { id, key, sum } => {
+            write!(out, "remove {} {} {};", id.0, key.id.as_str(), sum.0)?;
+        }
+        Op::Move { id, sum, target } => write!(out, "move {} {} {};", id.0, sum.0, target.0)?,
+        Op::Clear { id, sum, target } => {
+            write!(out, "clear {} {}", id.0, sum.0)?;
+            write_id(out, *target)?;
+            out.push_str(";")?;
+        }
+    }
+    Ok(())
+}
+
+fn write_ops(out: &mut String, ops: &[Op]) -> Result<(), Fail> {
+    'ops: for op in ops {
+        write_op(out, op)?;
+    }
+    Ok(())
+}
+
+fn write_read<L: Log>(alloc: Global, log: &L, words: &str, out: &mut String) -> Result<(), Fail> {
+    let (after, upto) = cut(words);
+    let batch = log.read(alloc, OpId(number(after)?), OpId(number(upto)?))?;
+    write_batch(out, &batch)
+}
+
+// What a log answers to a question.
+fn write_answer<L: Log>(alloc: Global, log: &L, words: &str, out: &mut String) -> Result<(), Fail> {
+    let (question, words) = cut(words);
+    match question {
+        "read" => write_read(alloc, log, words, out),
+        "count" => Ok(write!(out, "{}", log.count_upto(OpId(number(words)?)))?),
+        "newest" => Ok(write!(out, "{}", log.newest_upto(OpId(number(words)?)).0)?),
+        "sum" => Ok(write!(out, "{}", log.sum_upto(OpId(number(words)?)).0)?),
+        "ops" => write_ops(out, log.ops(alloc)?.as_slice()),
+        _ => Err("no question".into()),
+    }
+}
+
+/// What a log of so many PUTs of so many bytes each answers.
+pub fn write_of_filled(alloc: Global, words: &str, out: &mut String) -> Result<(), Fail> {
+    let (count, words) = cut(words);
+    let (size, words) = cut(words);
+    let mut log = BucketLog::new(alloc);
+    fill(&mut log, alloc, number(count)?, size.parse::<usize>()?)?;
+    write_answer(alloc, &log, words, out)
+}
+
+/// What the compacted log answers.
+pub fn write_of_compacted(alloc: Global, words: &str, out: &mut String) -> Result<(), Fail> {
+    let mut log = BucketLog::new(alloc);
+    log.rebuild(alloc, compacted_ops(alloc)?)?;
+    write_answer(alloc, &log, words, out)
+}
+
+/// Whether a PUT and a key of an id equal their copies, and whether that key equals one of another id.
+pub fn write_copies(alloc: Global, ids: &str, out: &mut String) -> Result<(), Fail> {
+    let (id, other) = cut(ids);
+    let op = put(alloc, 1, 3)?;
+    let same_op = op.copy(alloc)? == op;
+    let key_of_id = key(alloc, id)?;
+    let same_key = key_of_id.copy(alloc)?.equals(&key_of_id);
+    let equal = key_of_id.equals(&key(alloc, other)?);
+    Ok(write!(out, "{same_op} {same_key} {equal}")?)
+}
+
+/// Calls the laws, which do nothing.
+pub fn call_laws() {
+    the_last_decides();
+    batches_keep_readers_honest();
+    readers_are_whole_at_the_newest();
+    honest_readers_stay_honest();
+    standing_logs_stay_standing();
+    standing_logs_have_the_sums_of_their_originals();
+    totals_are_sums();
+    batches_are_the_log();
+    what_is_written_later_adds_nothing();
+    readers_stand_at_the_last_id();
+    readers_need_no_targets();
+    rising_ids_rise_on();
+}

@@ -1,0 +1,162 @@
+//! Files and sinks, in memory and in the system.
+
+use crate::words::{cut, number, numbers};
+use ps_checksum::first_four;
+use ps_io::{
+    DiskFiles, FileFault, Files, MemoryFile, MemoryFiles, MemorySink, Sink, StdSink, SureFiles,
+};
+use ps_values::{Items, Text};
+use std::alloc::Global;
+use std::io;
+use std::test::Fail;
+
+// A file of three bytes, one of none, and a second one of the first one's name.
+fn three_files(alloc: Global) -> Result<Items<MemoryFile>, Fail> {
+    let mut files = Items::new(alloc);
+    'files: for (name, content) in [("rules", "abc"), ("empty", ""), ("rules", "later")] {
+        let name = Text::from_str(alloc, name)?;
+        let content = Items::from_vec(Vec::from_slice(alloc, content.as_bytes())?);
+        files.push(MemoryFile { name, content })?;
+    }
+    Ok(files)
+}
+
+// What was read, in whole where it is short; else how many bytes it has and the first four of its SHA-256.
+fn write_content(out: &mut String, content: &[u8]) -> Result<(), Fail> {
+    if content.len() < 10 {
+        Ok(write!(out, " ok {}", str::from_utf8(content)?)?)
+    } else {
+        Ok(write!(out, " ok {} bytes {}", content.len(), first_four(content).0)?)
+    }
+}
+
+// Reads a file within a limit: the answer, and how many faults there were by then.
+fn write_read<F: Files>(
+    alloc: Global,
+    files: &mut F,
+    name: &str,
+    limit: u64,
+    out: &mut String,
+) -> Result<(), Fail> {
+    match files.read(alloc, &Text::from_str(alloc, name)?, limit) {
+        Ok(content) => write_content(out, content.as_slice())?,
+        Err(FileFault::Failed) => out.push_str(" failed")?,
+        Err(FileFault::TooLong { seen }) => write!(out, " long {seen}")?,
+        Err(FileFault::Memory) => return Err("no memory".into()),
+    }
+    Ok(write!(out, " {};", files.file_faults())?)
+}
+
+// Reads the files that words name, each within the limit behind its name.
+fn write_reads<F: Files>(
+    alloc: Global,
+    files: &mut F,
+    words: &str,
+    out: &mut String,
+) -> Result<(), Fail> {
+    write!(out, "{};", files.file_faults())?;
+    let mut name = None;
+    'words: for word in words.split(' ') {
+        match name.take() {
+            None => name = Some(word),
+            Some(name) => write_read(alloc, files, name, number(word)?, out)?,
+        }
+    }
+    Ok(())
+}
+
+/// What files in memory answer, of which the calls of some numbers fail.
+pub fn write_of_memory(alloc: Global, words: &str, out: &mut String) -> Result<(), Fail> {
+    let (failing, words) = cut(words);
+    let failing = Items::from_vec(numbers(alloc, failing)?);
+    let mut files = MemoryFiles::new(alloc, three_files(alloc)?, failing);
+    write_reads(alloc, &mut files, words, out)
+}
+
+/// What files in memory answer that never fail.
+pub fn write_of_sure(alloc: Global, words: &str, out: &mut String) -> Result<(), Fail> {
+    let mut files = SureFiles::new(alloc, three_files(alloc)?);
+    write_reads(alloc, &mut files, words, out)
+}
+
+/// What the system's files answer.
+pub fn write_of_disk(rt: &HostRuntime, words: &str, out: &mut String) -> Result<(), Fail> {
+    let mut files = DiskFiles::new(*rt);
+    write_reads(rt.alloc(), &mut files, words, out)
+}
+
+// Writes a piece: the answer, and how many faults there were by then. The piece `-` is empty.
+fn write_piece<S: Sink>(sink: &mut S, piece: &str, out: &mut String) -> Result<(), Fail> {
+    let piece = if piece == "-" { "" } else { piece };
+    let answer = match sink.write(piece.as_bytes()) {
+        Ok(()) => "ok",
+        Err(_) => "failed",
+    };
+    Ok(write!(out, " {answer} {}", sink.write_faults())?)
+}
+
+fn write_taken(out: &mut String, taken: &[u8]) -> Result<(), Fail> {
+    Ok(write!(out, " {};", str::from_utf8(taken)?)?)
+}
+
+/// What a sink in memory takes of pieces, with so much room, of which the calls of some numbers fail.
+pub fn write_of_sink(alloc: Global, words: &str, out: &mut String) -> Result<(), Fail> {
+    let (room, words) = cut(words);
+    let (failing, words) = cut(words);
+    let failing = Items::from_vec(numbers(alloc, failing)?);
+    let mut sink = MemorySink::new(alloc, room.parse::<usize>()?, failing)?;
+    write!(out, "{}", sink.write_faults())?;
+    write_taken(out, sink.bytes())?;
+    'pieces: for piece in words.split(' ') {
+        write_piece(&mut sink, piece, out)?;
+        write_taken(out, sink.bytes())?;
+    }
+    sink.end();
+    write!(out, " end {}", sink.write_faults())?;
+    write_taken(out, sink.bytes())
+}
+
+// A writer that takes two bytes at a time, and fails at its fifth call of `write` and its second of `flush`.
+#[derive(Drop)]
+struct Flaky {
+    taken: Vec<u8>,
+    writes: u8,
+    flushes: u8,
+}
+
+impl io::Write for Flaky {
+    fn write(&mut self, bytes: &[u8]) -> io::Result<usize> {
+        self.writes = self.writes.saturating_add(1);
+        let count = bytes.len().min(2);
+        if self.writes == 5 || self.taken.extend_from_slice(&bytes[..count]).is_err() {
+            return Err(io::Error::from(io::ErrorKind::BrokenPipe));
+        }
+        Ok(count)
+    }
+
+    fn flush(&mut self) -> io::Result<()> {
+        self.flushes = self.flushes.saturating_add(1);
+        if self.flushes == 2 {
+            return Err(io::Error::from(io::ErrorKind::BrokenPipe));
+        }
+        Ok(())
+    }
+}
+
+/// What a stream takes of pieces whose writer takes two bytes at a time and fails twice.
+pub fn write_of_stream(alloc: Global, words: &str, out: &mut String) -> Result<(), Fail> {
+    let mut writer = Flaky {
+        taken: Vec::new(alloc),
+        writes: 0,
+        flushes: 0,
+    };
+    let mut sink = StdSink::new(&mut writer);
+    write!(out, "{};", sink.write_faults())?;
+    'pieces: for piece in words.split(' ') {
+        write_piece(&mut sink, piece, out)?;
+        out.push_str(";")?;
+    }
+    sink.end();
+    drop(sink);
+    write_taken(out, writer.taken.as_slice())
+}

@@ -1,0 +1,46 @@
+//! The words of a line.
+
+use std::alloc::Global;
+use std::test::Fail;
+
+/// The first word, and what stands behind the space after it.
+pub fn cut(line: &str) -> (&str, &str) {
+    match line.split_once(' ') {
+        Some(parts) => parts,
+        None => (line, ""),
+    }
+}
+
+/// A number.
+pub fn number(word: &str) -> Result<u64, Fail> {
+    Ok(word.parse::<u64>()?)
+}
+
+/// The numbers between commas; none for `-`.
+pub fn numbers(alloc: Global, word: &str) -> Result<Vec<u64>, Fail> {
+    let mut all = Vec::new(alloc);
+    if word == "-" {
+        return Ok(all);
+    }
+    'numbers: for one in word.split(',') {
+        all.push(number(one)?)?;
+    }
+    Ok(all)
+}
+
+/// The bytes that hexadecimal digits spell, two for each.
+pub fn bytes(alloc: Global, digits: &str) -> Result<Vec<u8>, Fail> {
+    let mut all = Vec::new(alloc);
+    let mut before = None;
+    'digits: for digit in digits.chars() {
+        let digit = digit.to_digit(16).ok_or("no digit")?;
+        match before.take() {
+            None => before = Some(digit),
+            Some(high) => {
+                let byte = u32::wrapping_add(u32::wrapping_mul(high, 16), digit);
+                all.push(u8::try_from(byte)?)?;
+            }
+        }
+    }
+    Ok(all)
+}

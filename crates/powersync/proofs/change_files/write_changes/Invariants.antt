@@ -1,9 +1,0 @@
-use Rattle.powersync.specs.ReadingChanges.{HasWritten, bytes_left}
-use Rattle.powersync.proofs.change_files.write_changes.Given as goal
-
--- the lines before those that are left are written
-abbrev pub invariant-lines : goal.invariant-lines
-invariant-lines l = HasWritten l.rules l.changes l.number l.last.0 l.rest l.replica
-
-abbrev pub decreases-lines : goal.decreases-lines
-decreases-lines l = bytes_left l.rest

@@ -1,0 +1,10 @@
+use Rattle.std.proofs.Common.{◌≡◌, ◌∙◌, refl, sym, subst, inl}
+use Rattle.ps_commands.specs.declared.faults.Fault.TheVariants.{Rules}
+use Rattle.ps_commands.specs.Commands.{Tells, fault_line}
+use Rattle.ps_commands.proofs.FaultLines.{rules_line}
+use Rattle.ps_commands.proofs.saying.say_rules.Goals as goal
+
+pub returns-in-Ok : goal.returns-in-Ok
+returns-in-Ok g c =
+    let line : c.as_bytes.result.now ≡ fault_line (Rules c.args.line c.args.column c.args.why) = c.as_bytes.ensures.value ∙ c.as_str.ensures.value ∙ c.in-Ok.ensures ∙ sym (rules_line c.args.line c.args.column c.args.why) in
+    inl (record { is = refl; line = subst (λ text. Tells (g.E.Sink.taken c.args.err.now) (g.E.Sink.taken c.tell.new.err) (g.E.Sink.faults c.args.err.now) (g.E.Sink.faults c.tell.new.err) text) line c.tell.ensures })

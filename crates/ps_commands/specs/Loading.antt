@@ -1,0 +1,96 @@
+-- Loading what a file means.
+use Rattle.std.specs.Prelude.{◌≡◌, ℕ, ◌<◌, List, Option, Some, None, Result, Ok, Err, Vec}
+use Rattle.std.specs.declared.alloc.Global.{Global}
+use Rattle.ps_io.specs.Contents.{Contents, HoldsMore}
+use Rattle.ps_io.specs.Counts.{Rose}
+use Rattle.ps_changes.specs.declared.changes.Transaction.{Transaction}
+use Rattle.ps_commands.specs.declared.faults.Fault.{Fault}
+use Rattle.ps_commands.specs.declared.faults.Fault.TheVariants.{Usage, Rules, Change, LongLine, Claims, TooLong, CannotRead, CannotWrite, Memory}
+use Rattle.ps_rules.specs.RuleSets.{RuleSet}
+use Rattle.ps_sql_eval.specs.declared.askers.Asker.{Asker}
+use Rattle.ps_sql_eval.specs.Evaluated.{asker_of}
+use Rattle.ps_commands.specs.ChangeFiles.{transactions_of}
+use Rattle.ps_store.specs.Laws.{last_position}
+use Rattle.ps_commands.specs.Claims.{asker_of_claims}
+use Rattle.ps_commands.specs.Commands.{HoldsWithin}
+use Rattle.ps_commands.specs.Dues.{due}
+use Rattle.ps_commands.specs.RulesFaults.{rules_of_file}
+use Rattle.ps_commands.specs.Texts.{rows_text}
+
+-- loading a file within a limit: what was found in its bytes, why its bytes are refused, that it is longer, or that the files failed
+abbrev pub Loads : {X : Type 0} → Option Contents → List ℕ → ℕ → ℕ → ℕ → (X → List ℕ → Type 0) → (Fault → List ℕ → Type 0) → Result X Fault → Type 0
+Loads held name limit before now Finds Refuses (Ok x) = (bytes : List ℕ) × HoldsWithin held name limit bytes × Finds x bytes
+Loads held name limit before now Finds Refuses (Err Usage) = ⊥
+Loads held name limit before now Finds Refuses (Err (Rules line column why)) = (bytes : List ℕ) × HoldsWithin held name limit bytes × Refuses (Rules line column why) bytes
+Loads held name limit before now Finds Refuses (Err (Change line why)) = (bytes : List ℕ) × HoldsWithin held name limit bytes × Refuses (Change line why) bytes
+Loads held name limit before now Finds Refuses (Err (LongLine length)) = (bytes : List ℕ) × HoldsWithin held name limit bytes × Refuses (LongLine length) bytes
+Loads held name limit before now Finds Refuses (Err Claims) = (bytes : List ℕ) × HoldsWithin held name limit bytes × Refuses Claims bytes
+Loads held name limit before now Finds Refuses (Err (TooLong seen)) = (limit < seen) × HoldsMore held name limit
+Loads held name limit before now Finds Refuses (Err (CannotRead file)) = (file ≡ name) × Rose before now
+Loads held name limit before now Finds Refuses (Err CannotWrite) = ⊥
+Loads held name limit before now Finds Refuses (Err Memory) = Unit {0}
+
+-- bytes alone
+abbrev pub IsContent : Vec ℕ Global → List ℕ → Type 0
+IsContent read bytes = read.items ≡ bytes
+
+abbrev pub RefusesNothing : Fault → List ℕ → Type 0
+RefusesNothing fault bytes = ⊥
+
+-- the rules of a rules file
+abbrev pub FindsRules : RuleSet → List ℕ → Type 0
+FindsRules rules bytes = rules_of_file bytes ≡ Ok rules
+
+abbrev pub IsRulesFault : Fault → List ℕ → Type 0
+IsRulesFault (Rules line column why) bytes = rules_of_file bytes ≡ Err (Rules line column why)
+IsRulesFault Usage bytes = ⊥
+IsRulesFault (Change line why) bytes = ⊥
+IsRulesFault (LongLine length) bytes = ⊥
+IsRulesFault Claims bytes = ⊥
+IsRulesFault (TooLong seen) bytes = ⊥
+IsRulesFault (CannotRead name) bytes = ⊥
+IsRulesFault CannotWrite bytes = ⊥
+IsRulesFault Memory bytes = ⊥
+
+-- the asker of a claims file
+abbrev pub FindsAsker : Asker → List ℕ → Type 0
+FindsAsker asker bytes = asker_of_claims bytes ≡ Some (asker_of asker)
+
+abbrev pub IsClaimsFault : Fault → List ℕ → Type 0
+IsClaimsFault Claims bytes = asker_of_claims bytes ≡ None
+IsClaimsFault Usage bytes = ⊥
+IsClaimsFault (Rules line column why) bytes = ⊥
+IsClaimsFault (Change line why) bytes = ⊥
+IsClaimsFault (LongLine length) bytes = ⊥
+IsClaimsFault (TooLong seen) bytes = ⊥
+IsClaimsFault (CannotRead name) bytes = ⊥
+IsClaimsFault CannotWrite bytes = ⊥
+IsClaimsFault Memory bytes = ⊥
+
+-- the printed rows of a change file that are due to an asker
+abbrev pub FindsRows : RuleSet → Asker → Vec ℕ Global → List ℕ → Type 0
+FindsRows rules asker text bytes = (transactions : List Transaction) × (transactions_of bytes ≡ Ok transactions) × (text.items ≡ rows_text (due rules (asker_of asker) transactions (last_position 0 transactions)))
+
+abbrev pub RefusesLine : Fault → List ℕ → Type 0
+RefusesLine (Change line why) bytes = transactions_of bytes ≡ Err (Change line why)
+RefusesLine (LongLine length) bytes = transactions_of bytes ≡ Err (LongLine length)
+RefusesLine Usage bytes = ⊥
+RefusesLine (Rules line column why) bytes = ⊥
+RefusesLine Claims bytes = ⊥
+RefusesLine (TooLong seen) bytes = ⊥
+RefusesLine (CannotRead name) bytes = ⊥
+RefusesLine CannotWrite bytes = ⊥
+RefusesLine Memory bytes = ⊥
+
+-- the same, of bytes that were read
+abbrev pub Prepares : RuleSet → Asker → List ℕ → Result (Vec ℕ Global) Fault → Type 0
+Prepares rules asker bytes (Ok text) = FindsRows rules asker text bytes
+Prepares rules asker bytes (Err Memory) = Unit {0}
+Prepares rules asker bytes (Err (Change line why)) = RefusesLine (Change line why) bytes
+Prepares rules asker bytes (Err (LongLine length)) = RefusesLine (LongLine length) bytes
+Prepares rules asker bytes (Err Usage) = ⊥
+Prepares rules asker bytes (Err (Rules line column why)) = ⊥
+Prepares rules asker bytes (Err Claims) = ⊥
+Prepares rules asker bytes (Err (TooLong seen)) = ⊥
+Prepares rules asker bytes (Err (CannotRead name)) = ⊥
+Prepares rules asker bytes (Err CannotWrite) = ⊥

@@ -1,0 +1,132 @@
+use ps_values::{Memory, Text};
+use std::alloc::{AllocError, AllocFailed};
+
+/// Why a change line is refused: docs/FORMATS.md, "Change lines". Of several faults the one that stands first here is answered.
+#[derive(Clone, Copy, Debug, PartialEq, Eq)]
+pub enum LineFault {
+    /// It holds no JSON value.
+    BadJson,
+    /// A member is missing or of the wrong kind, a table is empty, or an operation is not known.
+    BadShape,
+    /// The position is no decimal text from 1 to 9223372036854775807.
+    BadPosition,
+    /// A number in a row, at any depth, is no whole number of signed 64 bits.
+    BadValue,
+    /// The position is not past that of the transaction before.
+    NotRising {
+        /// The position of the transaction before; 0 where there is none.
+        last: u64,
+        /// The line's position.
+        given: u64,
+    },
+}
+
+/// Why a rules file is refused: docs/FORMATS.md, "Faults of rules".
+#[derive(Clone, Copy, Debug, PartialEq, Eq)]
+pub enum RulesCause {
+    /// A line's indent fits no open map or list, or a tab stands in an indentation.
+    YamlIndent,
+    /// No scalar, no entry or no item of the profile.
+    YamlScalar,
+    /// A map has this name already.
+    YamlDuplicateKey,
+    /// YAML that the profile leaves out.
+    YamlUnsupported,
+    /// A name or a kind of node does not belong here, or a map lacks a name.
+    Shape,
+    /// No token of SQL begins at this byte of the query, counted from 0.
+    SqlToken { at: u32 },
+    /// The token at this byte of the query fits no rule of the grammar.
+    SqlUnexpected { at: u32 },
+    /// What begins at this byte of the query is SQL that the profile leaves out.
+    SqlUnsupported { at: u32 },
+    /// `bucket.q` where q is no parameter's name.
+    UnknownParameter,
+    /// A parameter is not matched in some branch, or stands where it is not matched.
+    UnmatchedParameter,
+    /// A data query without `*` and without an output `id`.
+    NoId,
+    /// A condition of more than 64 branches.
+    TooManyBranches,
+    /// Two outputs of one name.
+    DuplicateName,
+    /// A parameter query with other names than the first one.
+    MixedOutput,
+}
+
+/// Why the program did not do what it was asked: docs/FORMATS.md, "Fault texts".
+#[derive(Debug, Drop)]
+pub enum Fault {
+    /// The words are no command.
+    Usage,
+    /// The rules file is refused.
+    Rules {
+        /// The line of the first fault, counted from 1.
+        line: u32,
+        /// The column there, in bytes, counted from 1.
+        column: u32,
+        /// What is wrong there.
+        why: RulesCause,
+    },
+    /// A change line is no transaction, or its position does not rise.
+    Change {
+        /// The line's number, counted from 1.
+        line: u64,
+        /// What is wrong with it.
+        why: LineFault,
+    },
+    /// A change line is longer than a line may be.
+    LongLine {
+        /// How many bytes it has.
+        length: u64,
+    },
+    /// The claims file is not of its form.
+    Claims,
+    /// A file is longer than its limit.
+    TooLong {
+        /// How many bytes of it were seen.
+        seen: u64,
+    },
+    /// The faults of the files rose.
+    CannotRead {
+        /// The name of the file that was asked for.
+        name: Text,
+    },
+    /// The faults of the output rose.
+    CannotWrite,
+    /// Want of memory.
+    Memory,
+}
+
+impl From<Memory> for Fault {
+    ghost use Rattle.std.specs.Prelude.{◌≡◌};
+    ghost use Rattle.ps_commands.specs.declared.faults.Fault.TheVariants as faults;
+
+    ghost from_gives = { λ _ fault. fault ≡ faults.Memory };
+
+    fn from(_refused: Memory) -> Fault {
+        Fault::Memory
+    }
+}
+
+impl From<AllocError> for Fault {
+    ghost use Rattle.std.specs.Prelude.{◌≡◌};
+    ghost use Rattle.ps_commands.specs.declared.faults.Fault.TheVariants as faults;
+
+    ghost from_gives = { λ _ fault. fault ≡ faults.Memory };
+
+    fn from(_refused: AllocError) -> Fault {
+        Fault::Memory
+    }
+}
+
+impl<T: Drop> From<AllocFailed<T>> for Fault {
+    ghost use Rattle.std.specs.Prelude.{◌≡◌};
+    ghost use Rattle.ps_commands.specs.declared.faults.Fault.TheVariants as faults;
+
+    ghost from_gives = { λ _ fault. fault ≡ faults.Memory };
+
+    fn from(_refused: AllocFailed<T>) -> Fault {
+        Fault::Memory
+    }
+}

@@ -1,0 +1,87 @@
+ghost use Rattle.std.specs.Prelude.{◌≡◌, ◌≤◌, ◌<◌, ◌^◌, length};
+ghost use Rattle.ps_commands.specs.Loading.{Loads, IsContent, RefusesNothing, FindsRules, IsRulesFault, FindsAsker, IsClaimsFault, FindsRows, RefusesLine, Prepares};
+
+use crate::answering::due_rows;
+use crate::change_files::write_changes;
+use crate::claims::read_claims;
+use crate::faults::Fault;
+use crate::printing::print_rows;
+use crate::rules_faults::read_rules_file;
+use ps_io::{FileFault, Files};
+use ps_rules::Rules;
+use ps_sql_eval::Asker;
+use ps_values::Text;
+use std::alloc::Global;
+
+/// The greatest number of bytes of a rules file.
+pub const RULES_LIMIT: u64 = 1048576;
+
+/// The greatest number of bytes of any other file.
+pub const FILE_LIMIT: u64 = 268435456;
+
+// Reads a file within a limit.
+fn load<F: Files>(alloc: Global, files: &mut F, name: &Text, limit: u64) -> Result<Vec<u8>, Fault>
+    ensures loads { Loads (F.held files.old) name.now limit (F.faults files.old) (F.faults files.new) IsContent RefusesNothing result }
+    ensures held { F.held files.new ≡ F.held files.old }
+    ensures faults { F.faults files.old ≤ F.faults files.new }
+{
+    match files.read(alloc, name, limit) {
+        Ok(bytes) => Ok(bytes),
+        Err(FileFault::TooLong { seen }) => Err(Fault::TooLong { seen }),
+        Err(FileFault::Failed) => Err(Fault::CannotRead {
+            name: name.copy(alloc)?,
+        }),
+        Err(FileFault::Memory) => Err(Fault::Memory),
+    }
+}
+
+/// Loads the rules of a rules file.
+pub fn load_rules<F: Files>(alloc: Global, files: &mut F, name: &Text) -> Result<Rules, Fault>
+    ensures loads { Loads (F.held files.old) name.now RULES_LIMIT (F.faults files.old) (F.faults files.new) FindsRules IsRulesFault result }
+    ensures held { F.held files.new ≡ F.held files.old }
+    ensures faults { F.faults files.old ≤ F.faults files.new }
+{
+    let bytes = load(alloc, files, name, RULES_LIMIT)?;
+    read_rules_file(alloc, bytes.as_slice())
+}
+
+/// Loads the asker of a claims file.
+pub fn load_asker<F: Files>(alloc: Global, files: &mut F, name: &Text) -> Result<Asker, Fault>
+    ensures loads { Loads (F.held files.old) name.now FILE_LIMIT (F.faults files.old) (F.faults files.new) FindsAsker IsClaimsFault result }
+    ensures held { F.held files.new ≡ F.held files.old }
+    ensures faults { F.faults files.old ≤ F.faults files.new }
+{
+    let bytes = load(alloc, files, name, FILE_LIMIT)?;
+    match read_claims(alloc, bytes.as_slice())? {
+        Some(asker) => Ok(asker),
+        None => Err(Fault::Claims),
+    }
+}
+
+// The printed rows of a change file's bytes that are due to an asker.
+fn prepare(alloc: Global, rules: &Rules, asker: &Asker, changes: &[u8]) -> Result<Vec<u8>, Fault>
+    requires { length changes.now < 2 ^ 63 }
+    ensures { Prepares rules.now asker.now changes.now result }
+{
+    let written = write_changes(alloc, rules, changes)?;
+    let rows = due_rows(alloc, rules, asker, written)?;
+    let text = print_rows(alloc, rows.as_slice())?;
+    Ok(text)
+}
+
+/// Loads the printed rows of a change file that are due to an asker.
+pub fn load_rows<F: Files>(
+    alloc: Global,
+    files: &mut F,
+    name: &Text,
+    rules: &Rules,
+    asker: &Asker,
+) -> Result<Vec<u8>, Fault>
+    ensures loads { Loads (F.held files.old) name.now FILE_LIMIT (F.faults files.old) (F.faults files.new)
+        (FindsRows rules.now asker.now) RefusesLine result }
+    ensures held { F.held files.new ≡ F.held files.old }
+    ensures faults { F.faults files.old ≤ F.faults files.new }
+{
+    let bytes = load(alloc, files, name, FILE_LIMIT)?;
+    prepare(alloc, rules, asker, bytes.as_slice())
+}

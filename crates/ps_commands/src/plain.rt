@@ -1,0 +1,168 @@
+ghost use Rattle.std.specs.Prelude.{◌≡◌, ◌≢◌, ◌≤◌, ◌↔◌, ℕ, List, [], ◌∷◌, None, true, bytes_eq, codes};
+ghost use Rattle.ps_io.specs.Counts.{Rose};
+ghost use Rattle.ps_commands.specs.Commands.{command_of, Outcome, Prints, RefusesRules, RefusesChanges, RefusesClaims, ExceedsLimit, IsExact};
+ghost use Rattle.ps_commands.specs.Saying.{SaysCause};
+ghost use Rattle.ps_commands.specs.declared.faults.LineFault.{LineFault as LineFaultData};
+ghost use Rattle.ps_commands.specs.declared.faults.RulesCause.{RulesCause as RulesCauseData};
+
+use crate::checking::print_check;
+use crate::faults::Fault;
+use crate::loading::{load_asker, load_rows, load_rules};
+use crate::saying::say;
+use ps_io::{Files, Sink};
+use ps_values::{Memory, Text};
+use std::alloc::Global;
+
+// Does the command that the words are: docs/FORMATS.md, "Commands".
+fn command<F: Files, K: Sink>(
+    alloc: Global,
+    words: &[Text],
+    files: &mut F,
+    out: &mut K,
+) -> Result<(), Fault>
+    ensures { Outcome (record {
+      held = F.held files.old;
+      read_before = F.faults files.old;
+      read_now = F.faults files.new;
+      taken_before = K.taken out.old;
+      taken_now = K.taken out.new;
+      write_before = K.faults out.old;
+      write_now = K.faults out.new;
+    }) words.now result }
+{
+    match words {
+        [word, rules] => {
+            if word.as_str() != "check" {
+                return Err(Fault::Usage);
+            }
+            check(alloc, rules, files, out)
+        }
+        [word, rules, changes, claims] => {
+            if word.as_str() != "rows" {
+                return Err(Fault::Usage);
+            }
+            rows(alloc, rules, changes, claims, files, out)
+        }
+        _ => Err(Fault::Usage),
+    }
+}
+
+// Prints what rules have.
+fn check<F: Files, K: Sink>(
+    alloc: Global,
+    rules: &Text,
+    files: &mut F,
+    out: &mut K,
+) -> Result<(), Fault>
+    ensures { (word : List ℕ) → bytes_eq word (codes "check") ≡ true → Outcome (record {
+      held = F.held files.old;
+      read_before = F.faults files.old;
+      read_now = F.faults files.new;
+      taken_before = K.taken out.old;
+      taken_now = K.taken out.new;
+      write_before = K.faults out.old;
+      write_now = K.faults out.new;
+    })
+        (word ∷ rules.now ∷ []) result }
+{
+    let rules = match load_rules(alloc, files, rules) {
+        Ok(rules) => rules,
+        Err(fault) => return Err(fault),
+    };
+    let text = match print_check(alloc, &rules) {
+        Ok(text) => text,
+        Err(Memory) => return Err(Fault::Memory),
+    };
+    match out.write(text.as_slice()) {
+        Ok(()) => Ok(()),
+        Err(_) => Err(Fault::CannotWrite),
+    }
+}
+
+// Prints one user's rows.
+fn rows<F: Files, K: Sink>(
+    alloc: Global,
+    rules: &Text,
+    changes: &Text,
+    claims: &Text,
+    files: &mut F,
+    out: &mut K,
+) -> Result<(), Fault>
+    ensures { (word : List ℕ) → bytes_eq word (codes "rows") ≡ true → Outcome (record {
+      held = F.held files.old;
+      read_before = F.faults files.old;
+      read_now = F.faults files.new;
+      taken_before = K.taken out.old;
+      taken_now = K.taken out.new;
+      write_before = K.faults out.old;
+      write_now = K.faults out.new;
+    })
+        (word ∷ rules.now ∷ changes.now ∷ claims.now ∷ []) result }
+{
+    let rules = match load_rules(alloc, files, rules) {
+        Ok(rules) => rules,
+        Err(fault) => return Err(fault),
+    };
+    let asker = match load_asker(alloc, files, claims) {
+        Ok(asker) => asker,
+        Err(fault) => return Err(fault),
+    };
+    let text = match load_rows(alloc, files, changes, &rules, &asker) {
+        Ok(text) => text,
+        Err(fault) => return Err(fault),
+    };
+    match out.write(text.as_slice()) {
+        Ok(()) => Ok(()),
+        Err(_) => Err(Fault::CannotWrite),
+    }
+}
+
+/// Does a command that does not wait, and answers its status: docs/FORMATS.md, "Commands" and "Statuses".
+///
+/// The words are those after the program's name. `check RULES` prints what the rules have. `rows RULES CHANGES CLAIMS` prints the rows
+/// that are due to the asker of the claims over all transactions of the change file. Where anything is refused, nothing is printed.
+pub fn run_plain<F: Files, K: Sink, E: Sink>(
+    alloc: Global,
+    words: &[Text],
+    files: &mut F,
+    out: &mut K,
+    err: &mut E,
+) -> u8
+    // Status 0: exactly the lines of the rules or the rows that are due were printed, and nothing was said.
+    ensures done { result ≡ 0 → Prints (F.held files.old) words.now (K.taken out.old) (K.taken out.new) }
+    ensures quiet { result ≡ 0 → E.taken err.new ≡ E.taken err.old }
+
+    // Statuses 1 to 8, each by its cause.
+    ensures usage { (result ≡ 1) ↔ (command_of words.now ≡ None) }
+    ensures rules { result ≡ 2 → (line column : ℕ) × (why : RulesCauseData) × RefusesRules (F.held files.old) words.now (Fault.Rules line column why) }
+    ensures changes { result ≡ 3 → (line : ℕ) × (why : LineFaultData) × RefusesChanges (F.held files.old) words.now (Fault.Change line why) }
+    ensures claims { result ≡ 4 → RefusesClaims (F.held files.old) words.now }
+    ensures limits { result ≡ 5 → (seen : ℕ) × ExceedsLimit (F.held files.old) words.now seen }
+    ensures unread { result ≡ 6 → Rose (F.faults files.old) (F.faults files.new) }
+    ensures unwritten { result ≡ 7 → Rose (K.faults out.old) (K.faults out.new) }
+    ensures known { result ≤ 8 }
+
+    // Nothing is printed unless all went well: a failed write leaves a front of the text.
+    ensures kept { result ≢ 0 → result ≢ 7 → K.taken out.new ≡ K.taken out.old }
+
+    // What is said is the line of a fault that has its cause and that status.
+    ensures said { result ≢ 0 → SaysCause (record {
+      held = F.held files.old;
+      read_before = F.faults files.old;
+      read_now = F.faults files.new;
+      taken_before = K.taken out.old;
+      taken_now = K.taken out.new;
+      write_before = K.faults out.old;
+      write_now = K.faults out.new;
+    })
+        (record { old = E.taken err.old; new = E.taken err.new; before = E.faults err.old; now = E.faults err.new }) words.now result }
+
+    // Where files tell what they hold and no count rose, status and output are those that the files mean, or memory was wanting.
+    ensures exact { ¬ (Rose (F.faults files.old) (F.faults files.new)) → ¬ (Rose (K.faults out.old) (K.faults out.new))
+        → IsExact (F.held files.old) words.now (K.taken out.old) (K.taken out.new) result }
+{
+    match command(alloc, words, files, out) {
+        Ok(()) => 0,
+        Err(fault) => say(alloc, err, &fault),
+    }
+}

@@ -1,0 +1,32 @@
+ghost use Rattle.std.specs.Prelude.{◌≡◌, ◌++◌, ◌∷◌, [], IfOk, OnOk};
+ghost use Rattle.ps_commands.specs.Texts.{row_text, rows_text};
+
+use ps_changes::Shown;
+use ps_values::{Memory, quoted};
+use std::alloc::Global;
+
+// Prints a row.
+fn push_row(alloc: Global, out: &mut Vec<u8>, row: &Shown) -> Result<(), Memory>
+    ensures { OnOk result (out.new.items ≡ out.old.items ++ row_text row.now) }
+{
+    let kind = quoted(alloc, &row.kind)?;
+    let id = quoted(alloc, &row.id)?;
+    out.extend_from_slice(kind.bytes())?;
+    out.push(b' ')?;
+    out.extend_from_slice(id.bytes())?;
+    out.push(b' ')?;
+    out.extend_from_slice(row.content.bytes())?;
+    out.push(b'\n')?;
+    Ok(())
+}
+
+/// The printed rows, one after another: docs/FORMATS.md, "Printed rows".
+pub fn print_rows(alloc: Global, rows: &[Shown]) -> Result<Vec<u8>, Memory>
+    ensures { IfOk result (λ text. text.items ≡ rows_text rows.now) }
+{
+    let mut out = Vec::new(alloc);
+    'rows: for row in rows {
+        push_row(alloc, &mut out, row)?;
+    }
+    Ok(out)
+}

@@ -1,0 +1,199 @@
+//! Rules, changes and claims made by chance: the rows that the program prints are those that the definitions grant.
+
+use crate::commands::rows;
+use crate::granting::due_text;
+use crate::reading::{asker_of, rules_of, transactions_of};
+use crate::words::{Stop, cut, number};
+use ps_values::Memory;
+use std::alloc::Global;
+
+static PARAMETERS: [&str; 7] = [
+    "",
+    "    parameters: SELECT request.user_id() AS p\n",
+    "    parameters: SELECT id AS p FROM t WHERE v = request.user_id()\n",
+    "    parameters: SELECT v AS p FROM u WHERE request.user_id() IN w\n",
+    "    parameters: SELECT w AS p FROM t\n",
+    "    parameters: SELECT request.parameters() ->> 'k' AS p\n",
+    "    parameters:\n      - SELECT id AS p FROM u WHERE v IS NULL OR v = 1\n      - SELECT v AS p FROM t WHERE w = request.user_id() AND v != 2\n",
+];
+
+static OF_A_PARAMETER: [&str; 6] = [
+    "      - SELECT * FROM t WHERE v = bucket.p\n",
+    "      - SELECT id, v FROM u AS t WHERE bucket.p IN w\n",
+    "      - SELECT v AS id, w FROM t WHERE bucket.p = v OR w = bucket.p\n",
+    "      - SELECT * FROM u WHERE w = bucket.p AND v = 1\n",
+    "      - SELECT id, w AS v FROM t AS u WHERE id = bucket.p\n",
+    "      - SELECT * FROM t WHERE bucket.p IN w AND bucket.p = v\n",
+];
+
+static OF_NONE: [&str; 3] = [
+    "      - SELECT * FROM t\n",
+    "      - SELECT id, upper(v) AS v FROM u AS t WHERE w IS NOT NULL\n",
+    "      - SELECT w AS id, v FROM t WHERE v = 1\n",
+];
+
+static IDS: [&str; 4] = ["a", "b", "ann", "1"];
+
+static VALUES: [&str; 6] = ["1", "\"ann\"", "\"b\"", "null", "\"1\"", "2"];
+
+static LISTS: [&str; 6] = [
+    "[\"ann\",\"b\",1]",
+    "\"ann\"",
+    "null",
+    "1",
+    "\"[1,\\\"ann\\\"]\"",
+    "[null,\"1\"]",
+];
+
+// Users, and their parameters.
+static ASKERS: [(&str, &str); 4] = [
+    ("ann", "{\"k\":1}"),
+    ("b", "{\"k\":\"ann\"}"),
+    ("1", "{}"),
+    ("a", "{\"k\":null}"),
+];
+
+// Numbers that follow from a first one.
+#[derive(Drop)]
+struct Dice {
+    state: u64,
+}
+
+impl Dice {
+    fn roll(&mut self) -> usize {
+        self.state = self
+            .state
+            .wrapping_mul(6364136223846793005)
+            .wrapping_add(1442695040888963407);
+        (self.state / 8589934592) as usize
+    }
+
+    fn pick(&mut self, texts: &'static [&'static str]) -> &'static str {
+        if texts.is_empty() {
+            return "";
+        }
+        let place = self.roll() % texts.len();
+        texts[place]
+    }
+}
+
+fn push_definition(dice: &mut Dice, rules: &mut String, name: &str) -> Result<(), Memory> {
+    rules.push_str("  ")?;
+    rules.push_str(name)?;
+    rules.push_str(":\n")?;
+    let parameters = dice.pick(&PARAMETERS);
+    rules.push_str(parameters)?;
+    rules.push_str("    data:\n")?;
+    let queries: &'static [&'static str] = if parameters.is_empty() {
+        &OF_NONE
+    } else {
+        &OF_A_PARAMETER
+    };
+    rules.push_str(dice.pick(queries))?;
+    rules.push_str(dice.pick(queries))?;
+    Ok(())
+}
+
+fn random_rules(alloc: Global, dice: &mut Dice) -> Result<String, Memory> {
+    let mut rules = String::from_str(alloc, "bucket_definitions:\n")?;
+    push_definition(dice, &mut rules, "first")?;
+    push_definition(dice, &mut rules, "second")?;
+    Ok(rules)
+}
+
+fn push_change(dice: &mut Dice, changes: &mut String) -> Result<(), Memory> {
+    let table = if dice.roll() % 2 == 0 { "t" } else { "u" };
+    let is_delete = dice.roll() % 5 == 0;
+    changes.push_str(if is_delete {
+        "{\"op\":\"DELETE\",\"table\":\""
+    } else {
+        "{\"op\":\"PUT\",\"table\":\""
+    })?;
+    changes.push_str(table)?;
+    changes.push_str("\",\"id\":\"")?;
+    changes.push_str(dice.pick(&IDS))?;
+    changes.push_str("\",\"row\":{\"v\":")?;
+    changes.push_str(dice.pick(&VALUES))?;
+    changes.push_str(",\"w\":")?;
+    changes.push_str(dice.pick(&LISTS))?;
+    changes.push_str("}}")?;
+    Ok(())
+}
+
+fn random_changes(alloc: Global, dice: &mut Dice) -> Result<String, Memory> {
+    let mut changes = String::new(alloc);
+    'lines: for position in 1..15 {
+        changes.push_str("{\"pos\":\"")?;
+        changes.push_str(format!(in alloc; "{position}")?.as_str())?;
+        changes.push_str("\",\"changes\":[")?;
+        push_change(dice, &mut changes)?;
+        changes.push_str(",")?;
+        push_change(dice, &mut changes)?;
+        changes.push_str("]}\n")?;
+    }
+    Ok(changes)
+}
+
+// What came of as many tries as were made.
+#[derive(Drop)]
+struct Outcome {
+    same: u64,
+    different: u64,
+    without_rows: u64,
+}
+
+// Whether the program prints what the definitions grant, and whether that is anything.
+fn is_same(alloc: Global, dice: &mut Dice) -> Result<(bool, bool), Stop> {
+    let rules = random_rules(alloc, dice)?;
+    let changes = random_changes(alloc, dice)?;
+    let (user, parameters) = ASKERS[dice.roll() % 4];
+    let claims = format!(in alloc;
+        "{{\"token\":{{\"sub\":\"{user}\"}},\"parameters\":{parameters}}}"
+    )?;
+    let asker = asker_of(alloc, user, parameters)?;
+    let transactions = transactions_of(alloc, changes.as_str())?;
+    let wanted = due_text(
+        alloc,
+        &rules_of(alloc, rules.as_str())?,
+        &asker,
+        transactions.as_slice(),
+    )?;
+    match rows(alloc, rules.as_str(), changes.as_str(), claims.as_str())? {
+        Some(printed) => Ok((
+            printed.as_slice() == wanted.as_str().as_bytes(),
+            wanted.is_empty(),
+        )),
+        None => Ok((false, wanted.is_empty())),
+    }
+}
+
+/// So many tries, with dice that follow from a first number: SEED COUNT.
+pub fn write_tries(alloc: Global, words: &str, out: &mut String) -> Result<(), Stop> {
+    let (seed, count) = cut(words);
+    let mut dice = Dice {
+        state: number(seed)?,
+    };
+    let mut outcome = Outcome {
+        same: 0,
+        different: 0,
+        without_rows: 0,
+    };
+    'tries: for _ in 0..number(count)? {
+        let (is_same, is_empty) = is_same(alloc, &mut dice)?;
+        if is_same {
+            outcome.same = outcome.same.saturating_add(1);
+        } else {
+            outcome.different = outcome.different.saturating_add(1);
+        }
+        if is_empty {
+            outcome.without_rows = outcome.without_rows.saturating_add(1);
+        }
+    }
+    // At least one in three has rows, else there is little to be seen.
+    let is_telling = outcome.without_rows / 2 < outcome.same.saturating_sub(outcome.without_rows);
+    Ok(write!(
+        out,
+        "same {} different {} telling {is_telling}",
+        outcome.same, outcome.different
+    )?)
+}

@@ -1,0 +1,79 @@
+//! What rules grant, from the definitions alone.
+
+use crate::reading::{asker_of, rules_of, transactions_of};
+use crate::words::{Stop, Texts, cut, number};
+use ps_changes::{Shown, Transaction};
+use ps_grant::{Granted, grants_of, rows_of, source_at};
+use ps_rules::Rules;
+use ps_sql_eval::Asker;
+use ps_values::{Items, Memory, Position, quoted};
+use std::alloc::Global;
+
+// The copies that the rules of the first words grant to an asker: RULES CHANGES USER PARAMETERS POSITION.
+fn granted(alloc: Global, texts: &Texts, words: &str) -> Result<Items<Granted>, Stop> {
+    let (rules, words) = cut(words);
+    let (changes, words) = cut(words);
+    let (user, words) = cut(words);
+    let (parameters, position) = cut(words);
+    let all = transactions_of(alloc, texts.text(changes)?)?;
+    let source = source_at(alloc, all.as_slice(), Position(number(position)?))?;
+    let asker = asker_of(alloc, user, parameters)?;
+    let rules = rules_of(alloc, texts.text(rules)?)?;
+    Ok(grants_of(alloc, &rules, &asker, &source)?)
+}
+
+/// The rows that are due.
+pub fn write_due(alloc: Global, texts: &Texts, words: &str, out: &mut String) -> Result<(), Stop> {
+    let granted = granted(alloc, texts, words)?;
+    let rows = rows_of(alloc, granted.as_slice())?;
+    out.push_str("due")?;
+    'rows: for row in rows.as_slice() {
+        let (kind, id) = (row.kind.as_str(), row.id.as_str());
+        write!(out, "\n{kind} {id} {}", row.content.as_str())?;
+    }
+    Ok(())
+}
+
+/// The copies that are granted, each with its moment and the number of its query.
+pub fn write_copies(
+    alloc: Global,
+    texts: &Texts,
+    words: &str,
+    out: &mut String,
+) -> Result<(), Stop> {
+    let granted = granted(alloc, texts, words)?;
+    out.push_str("copies")?;
+    'copies: for copy in granted.as_slice() {
+        let (kind, id) = (copy.kind.as_str(), copy.id.as_str());
+        write!(
+            out,
+            "\n{kind} {id} {} {} {}",
+            copy.position.0, copy.index, copy.number
+        )?;
+    }
+    Ok(())
+}
+
+// Adds the line of a row.
+fn push_row(alloc: Global, text: &mut String, row: &Shown) -> Result<(), Memory> {
+    let (kind, id) = (quoted(alloc, &row.kind)?, quoted(alloc, &row.id)?);
+    let content = row.content.as_str();
+    Ok(write!(text, "{} {} {content}\n", kind.as_str(), id.as_str())?)
+}
+
+/// The lines of the rows that are due over all transactions.
+pub fn due_text(
+    alloc: Global,
+    rules: &Rules,
+    asker: &Asker,
+    transactions: &[Transaction],
+) -> Result<String, Memory> {
+    let source = source_at(alloc, transactions, Position(18446744073709551615))?;
+    let copies = grants_of(alloc, rules, asker, &source)?;
+    let rows = rows_of(alloc, copies.as_slice())?;
+    let mut text = String::new(alloc);
+    'rows: for row in rows.as_slice() {
+        push_row(alloc, &mut text, row)?;
+    }
+    Ok(text)
+}

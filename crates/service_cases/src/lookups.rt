@@ -1,0 +1,75 @@
+//! The buckets that an asker has.
+
+ghost use Rattle.std.specs.Prelude.{◌≡◌, ◌≤◌, OnOk};
+
+use crate::reading::{asker_of, rules_of};
+use crate::words::{Stop, Texts, cut, number};
+use ps_changes::{Transaction, read_line};
+use ps_params::ParameterIndex;
+use ps_values::{Memory, Position};
+use std::alloc::Global;
+
+// Notes the changes of a transaction.
+fn note(alloc: Global, index: &mut ParameterIndex, transaction: Transaction) -> Result<(), Memory>
+    requires { index.old.last ≤ transaction.position.0 }
+    ensures rules { index.new.rules ≡ index.old.rules }
+    ensures forgotten { index.new.forgotten ≡ index.old.forgotten }
+    ensures last { index.new.last ≤ transaction.position.0 }
+{
+    let at = transaction.position;
+    'changes: for change in transaction.changes.into_vec() {
+        index.reserve(alloc, 1)?;
+        index.note_row(at, change.table, change.id, change.row);
+    }
+    Ok(())
+}
+
+// Notes the changes of a text's lines that are in order.
+fn note_lines(alloc: Global, index: &mut ParameterIndex, text: &str) -> Result<(), Stop>
+    requires { index.old.last ≡ 0 }
+    ensures rules { index.new.rules ≡ index.old.rules }
+    ensures forgotten { index.new.forgotten ≡ index.old.forgotten }
+{
+    let mut last = 0;
+    'lines: for line in text.lines() {
+        let transaction = read_line(alloc, line.as_bytes())?;
+        let at = transaction.position.0;
+        if at < last {
+            return Err(Memory)?;
+        }
+        last = at;
+        note(alloc, index, transaction)?;
+    }
+    Ok(())
+}
+
+/// The names of an asker's buckets at a position, with all before another one forgotten: RULES CHANGES USER PARAMETERS
+/// FORGOTTEN POSITION.
+pub fn write_names(
+    alloc: Global,
+    texts: &Texts,
+    words: &str,
+    out: &mut String,
+) -> Result<(), Stop> {
+    let (rules, words) = cut(words);
+    let (changes, words) = cut(words);
+    let (user, words) = cut(words);
+    let (parameters, words) = cut(words);
+    let (forgotten, position) = cut(words);
+    let (forgotten, position) = (number(forgotten)?, number(position)?);
+    if position < forgotten {
+        return Err(Memory)?;
+    }
+    let asker = asker_of(alloc, user, parameters)?;
+    let rules = rules_of(alloc, texts.text(rules)?)?;
+    let mut index = ParameterIndex::new(alloc, &rules)?;
+    note_lines(alloc, &mut index, texts.text(changes)?)?;
+    index.forget(Position(forgotten));
+    index.reserve(alloc, 1)?;
+    let names = index.rows_for(alloc, &rules, &asker, Position(position))?;
+    out.push_str("names")?;
+    'names: for name in names.as_slice() {
+        write!(out, " {}", name.as_str())?;
+    }
+    Ok(())
+}

@@ -1,0 +1,135 @@
+//! The words of a line, and the texts that lines have made.
+
+use std::alloc::Global;
+use std::fmt::Debug;
+
+/// A line without an answer. It has no `Debug`, so that every error that has it becomes one.
+#[derive(Drop)]
+pub struct Stop;
+
+impl<E: Debug + Drop> From<E> for Stop {
+    fn from(_error: E) -> Stop {
+        Stop
+    }
+}
+
+/// The first word, and what stands behind the space after it.
+pub fn cut(line: &str) -> (&str, &str) {
+    match line.split_once(' ') {
+        Some(parts) => parts,
+        None => (line, ""),
+    }
+}
+
+/// A number.
+pub fn number(word: &str) -> Result<u64, Stop> {
+    Ok(word.parse::<u64>()?)
+}
+
+/// A text with a name.
+#[derive(Drop)]
+struct Named {
+    name: String,
+    text: String,
+}
+
+/// The texts that lines have made; of several with one name the last one counts.
+#[derive(Drop)]
+pub struct Texts {
+    all: Vec<Named>,
+}
+
+// Adds the lines of a template for the numbers from 1 on: `{n}` is the number, `{r}` the rest of it by 100, and `{o}` ann for
+// an even number, bob for an odd one.
+fn push_numbered(alloc: Global, text: &mut String, count: u64, template: &str) -> Result<(), Stop> {
+    'lines: for before in 0..count {
+        let number = before.wrapping_add(1);
+        let rest = number % 100;
+        let owner = if number % 2 == 0 { "ann" } else { "bob" };
+        'parts: for (index, part) in template.split('{').enumerate() {
+            if index == 0 {
+                text.push_str(part)?;
+                continue;
+            }
+            match part.split_once('}') {
+                Some(("n", behind)) => {
+                    text.push_str(format!(in alloc; "{number}{behind}")?.as_str())?;
+                }
+                Some(("r", behind)) => {
+                    text.push_str(format!(in alloc; "{rest}{behind}")?.as_str())?;
+                }
+                Some(("o", behind)) => {
+                    text.push_str(owner)?;
+                    text.push_str(behind)?;
+                }
+                _ => {
+                    text.push_str("{")?;
+                    text.push_str(part)?;
+                }
+            }
+        }
+        text.push_str("\n")?;
+    }
+    Ok(())
+}
+
+impl Texts {
+    /// No texts.
+    pub fn new(alloc: Global) -> Texts {
+        Texts {
+            all: Vec::new(alloc),
+        }
+    }
+
+    /// Begins a text.
+    pub fn begin(&mut self, alloc: Global, name: &str) -> Result<(), Stop> {
+        let name = String::from_str(alloc, name)?;
+        let text = String::new(alloc);
+        Ok(self.all.push(Named { name, text })?)
+    }
+
+    /// Adds to the text that was begun last.
+    pub fn push(&mut self, more: &str) -> Result<(), Stop> {
+        let last = self.all.last_mut().ok_or("no text")?;
+        Ok(last.text.push_str(more)?)
+    }
+
+    /// Adds what a line says to the text that was begun last: behind `|` a line, behind `>` a part of one, behind `*` and a
+    /// number a part so many times, behind `+` and a number so many lines of a template. False for other lines.
+    pub fn add(&mut self, alloc: Global, line: &str) -> Result<bool, Stop> {
+        if let Some(more) = line.strip_prefix('|') {
+            self.push(more)?;
+            self.push("\n")?;
+        } else if let Some(more) = line.strip_prefix('>') {
+            self.push(more)?;
+        } else if let Some(more) = line.strip_prefix('*') {
+            let (count, part) = cut(more);
+            'parts: for _ in 0..number(count)? {
+                self.push(part)?;
+            }
+        } else if let Some(more) = line.strip_prefix('+') {
+            let (count, template) = cut(more);
+            let last = self.all.last_mut().ok_or("no text")?;
+            push_numbered(alloc, &mut last.text, number(count)?, template)?;
+        } else {
+            return Ok(false);
+        }
+        Ok(true)
+    }
+
+    /// The text of a name; None where there is none.
+    pub fn get(&self, name: &str) -> Option<&str> {
+        let mut found = None;
+        'texts: for named in self.all.as_slice() {
+            if named.name.as_str() == name {
+                found = Some(named.text.as_str());
+            }
+        }
+        found
+    }
+
+    /// The text of a name.
+    pub fn text(&self, name: &str) -> Result<&str, Stop> {
+        Ok(self.get(name).ok_or("no text of that name")?)
+    }
+}
