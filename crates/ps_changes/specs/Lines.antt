@@ -1,5 +1,5 @@
 -- The transaction that a change line is, and the first fault of a line that is none: docs/FORMATS.md, "Change lines".
-use Rattle.std.specs.Prelude.{ℕ, List, [], ◌∷◌, ◌++◌, Bool, nat_lt, nat_le, length, bytes_eq, codes, Option, Some, None, is_none, option_and_then, if◌then◌else◌, Result, Ok, Err}
+use Rattle.std.specs.Prelude.{ℕ, ◌<◌, ◌≡◌, List, [], ◌∷◌, ◌++◌, Bool, nat_lt, nat_le, length, bytes_eq, codes, Option, Some, None, is_none, option_and_then, if◌then◌else◌, Result, Ok, Err}
 use Rattle.serde_json.specs.Data.{Data as Json, Items, no_items, item, Members, no_members, member}
 use Rattle.serde_json.specs.Find.{get, as_str, as_array, as_object}
 use Rattle.ps_values.specs.declared.columns.Column.{Column}
@@ -97,6 +97,10 @@ longest = 16777216
 -- bytes that are no more than a line may have
 abbrev pub short : List ℕ → Result (List ℕ) ChangeFault
 short bytes = if nat_le (length bytes) longest then Ok bytes else Err (LineTooLong (length bytes))
+
+-- what is too long is refused so, and no want of memory stands in its place: this refusal needs none
+abbrev pub RefusesLong : {X : Type 0} → List ℕ → Result X ChangeFault → Type 0
+RefusesLong bytes result = longest < length bytes → result ≡ Err (LineTooLong (length bytes))
 
 -- JSON of such a shape
 abbrev pub shaped : (Json → Bool) → Json → Result Json ChangeFault

@@ -2,7 +2,7 @@ ghost use Rattle.std.specs.Prelude.{List, IfOk, Ok};
 ghost use Rattle.serde_json.specs.View.{view};
 ghost use Rattle.ps_changes.specs.Types.{Transaction as TransactionData, Change as ChangeData};
 ghost use Rattle.ps_changes.specs.Members.{Reads, seen_by};
-ghost use Rattle.ps_changes.specs.Lines.{json_within, line_of, body_of, lone_change_of};
+ghost use Rattle.ps_changes.specs.Lines.{RefusesLong, json_within, line_of, body_of, lone_change_of};
 ghost use Rattle.ps_changes.specs.Grammar.{IsLine, IsBody, IsLoneChange};
 
 use crate::readers::{read_list, read_object, read_transaction};
@@ -27,6 +27,8 @@ pub fn read_line(alloc: Global, bytes: &[u8]) -> Result<Transaction, ChangeFault
     ensures only { (meant : TransactionData) → IsLine bytes.now meant → Reads result (Ok meant) }
     // Which fault is the first.
     ensures exact { Reads result (line_of bytes.now) }
+    // A line that is too long is refused before any memory is asked for.
+    ensures long { RefusesLong bytes.now result }
 {
     decimals_read_back();
     line(alloc, bytes)
@@ -42,6 +44,8 @@ pub fn read_changes(alloc: Global, bytes: &[u8]) -> Result<Items<Change>, Change
     ensures only { (meant : List ChangeData) → IsBody bytes.now meant → Reads result (Ok meant) }
     // Which fault is the first.
     ensures exact { Reads result (body_of bytes.now) }
+    // A line that is too long is refused before any memory is asked for.
+    ensures long { RefusesLong bytes.now result }
 {
     body(alloc, bytes)
 }
@@ -56,13 +60,16 @@ pub fn read_change(alloc: Global, bytes: &[u8]) -> Result<Change, ChangeFault>
     ensures only { (meant : ChangeData) → IsLoneChange bytes.now meant → Reads result (Ok meant) }
     // Which fault is the first.
     ensures exact { Reads result (lone_change_of bytes.now) }
+    // A line that is too long is refused before any memory is asked for.
+    ensures long { RefusesLong bytes.now result }
 {
     lone_change(alloc, bytes)
 }
 
 // The JSON of bytes that are no more than a line may have.
 fn json_of_line(alloc: Global, bytes: &[u8]) -> Result<Json, ChangeFault>
-    ensures { Reads (seen_by view result) (json_within bytes.now) }
+    ensures exact { Reads (seen_by view result) (json_within bytes.now) }
+    ensures long { RefusesLong bytes.now result }
 {
     if bytes.len() > LONGEST {
         let length = bytes.len() as u64;
@@ -76,7 +83,8 @@ fn json_of_line(alloc: Global, bytes: &[u8]) -> Result<Json, ChangeFault>
 
 #[tactic(auto, unfolding(crate::specs::Lines::line_of))]
 fn line(alloc: Global, bytes: &[u8]) -> Result<Transaction, ChangeFault>
-    ensures { Reads result (line_of bytes.now) }
+    ensures exact { Reads result (line_of bytes.now) }
+    ensures long { RefusesLong bytes.now result }
 {
     let json = json_of_line(alloc, bytes)?;
     if !is_transaction(&json) {
@@ -87,7 +95,8 @@ fn line(alloc: Global, bytes: &[u8]) -> Result<Transaction, ChangeFault>
 
 #[tactic(auto, unfolding(crate::specs::Lines::body_of))]
 fn body(alloc: Global, bytes: &[u8]) -> Result<Items<Change>, ChangeFault>
-    ensures { Reads result (body_of bytes.now) }
+    ensures exact { Reads result (body_of bytes.now) }
+    ensures long { RefusesLong bytes.now result }
 {
     let json = json_of_line(alloc, bytes)?;
     if !has_changes(&json) {
@@ -98,7 +107,8 @@ fn body(alloc: Global, bytes: &[u8]) -> Result<Items<Change>, ChangeFault>
 
 #[tactic(auto, unfolding(crate::specs::Lines::lone_change_of))]
 fn lone_change(alloc: Global, bytes: &[u8]) -> Result<Change, ChangeFault>
-    ensures { Reads result (lone_change_of bytes.now) }
+    ensures exact { Reads result (lone_change_of bytes.now) }
+    ensures long { RefusesLong bytes.now result }
 {
     let json = json_of_line(alloc, bytes)?;
     if !is_change(&json) {

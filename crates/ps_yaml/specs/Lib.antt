@@ -1,6 +1,7 @@
 pub mod Faults
 pub mod Grammar
 pub mod Lines
+pub mod Refusals
 pub mod ScalarGrammar
 pub mod Scalars
 pub mod Trees

@@ -5,6 +5,7 @@ ghost use Rattle.ps_yaml.specs.declared.nodes.Node.{Node as NodeData};
 ghost use Rattle.ps_yaml.specs.Faults.{Reads};
 ghost use Rattle.ps_yaml.specs.Grammar.{Spells};
 ghost use Rattle.ps_yaml.specs.Lines as lines_of;
+ghost use Rattle.ps_yaml.specs.Refusals.{RefusesOtherBytes};
 ghost use Rattle.ps_yaml.specs.Trees as words;
 
 use crate::entries::{is_entry, is_item, is_nested, name_len};
@@ -294,7 +295,8 @@ fn is_text(bytes: &[u8]) -> bool
 #[tactic(auto, unfolding(crate::specs::Trees::document_of, crate::specs::Lines::lines_of))]
 fn document(alloc: Global, bytes: &[u8]) -> Result<Node, YamlFault>
     requires { length bytes.now < 4294967295 }
-    ensures { Reads (λ node. node) result (words.document_of bytes.now) }
+    ensures exact { Reads (λ node. node) result (words.document_of bytes.now) }
+    ensures other_bytes { RefusesOtherBytes bytes.now result }
 {
     if !is_text(bytes) {
         return Err(YamlFault::BadScalar { line: 1, column: 1 });
@@ -315,6 +317,8 @@ pub fn read_yaml(alloc: Global, bytes: &[u8]) -> Result<Node, YamlFault>
     ensures only { (node : NodeData) → Spells bytes.now node → Reads (λ read. read) result (Ok node) }
     // Which fault is the first.
     ensures exact { Reads (λ node. node) result (words.document_of bytes.now) }
+    // Bytes that are no text are refused before any memory is asked for.
+    ensures other_bytes { RefusesOtherBytes bytes.now result }
 {
     document(alloc, bytes)
 }
