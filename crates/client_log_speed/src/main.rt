@@ -7,7 +7,7 @@ ghost use Rattle.std.specs.Prelude.{◌≡◌, ◌+◌, ◌≤◌, IfOk};
 ghost use Rattle.ps_bucket_log.specs.Ops.{id_of};
 ghost use Rattle.ps_client_log.specs.Edits.{CanTake};
 
-use ps_bucket_log::{Key, Op};
+use ps_bucket_log::{Key, Op, rising_ids_rise_on};
 use ps_checksum::Sum;
 use ps_client_log::{ClientLog, SureKeeper};
 use ps_values::{Memory, OpId, Text};
@@ -38,13 +38,14 @@ fn put(alloc: Global, id: u64, row: u64) -> Result<Op, Memory>
 }
 
 // PUTs of 1,000 rows from one on, with the ids after a position.
-#[tactic(auto, using(ps_client_log::proofs::Rising::can_take))]
+#[tactic(auto, using(crate::proofs::Rising::can_take))]
 fn puts(alloc: Global, after: u64, first: u64) -> Result<Vec<Op>, Memory>
     requires { after + 1000 ≤ 9223372036854775807 }
     ensures { IfOk result (λ ops. CanTake after ops.items) }
 {
     let mut ops = Vec::new(alloc);
     'ops: for before in 0..1000 {
+        rising_ids_rise_on();
         ops.push(put(alloc, after + before + 1, first.wrapping_add(before))?)?;
     }
     Ok(ops)

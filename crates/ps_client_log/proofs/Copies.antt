@@ -9,27 +9,27 @@ use Rattle.std.specs.FinMap.Entries.{find, below_all, is_sorted}
 use Rattle.std.specs.List.{AllByRecursion, IsDistinct, list_any}
 use Rattle.std.specs.List.Sorted.{IsStrictlySortedBy}
 use Rattle.std.specs.Map.{lookup, keys_of}
-use Rattle.std.specs.Ordering.{nat_cmp, is_eq, is_lt, is_le, eq_by_cmp}
+use Rattle.std.specs.Ordering.{nat_cmp, is_eq, is_lt, eq_by_cmp}
+use Rattle.std.proofs.lemmas.Bool.{and_parts, both_ways, false_from_ne_true}
 use Rattle.std.proofs.lemmas.Cmp.{tied_itself}
 use Rattle.std.proofs.lemmas.Map.Keys.{IsDistinct-head, IsDistinct-tail}
 use Rattle.std.proofs.lemmas.Slice.Eq.{bytes_eq-Decides}
 use Rattle.ps_bucket_log.specs.declared.ops.Key.{Key}
 use Rattle.ps_bucket_log.specs.declared.ops.Op.{Op}
-use Rattle.ps_bucket_log.specs.Ops.{same_key}
 use Rattle.ps_bucket_log.specs.Buckets.{Bucket, fresh}
 use Rattle.ps_changes.specs.declared.shown.Shown.{Shown}
 use Rattle.ps_changes.specs.Source.{Key as Object, key_cmp}
 use Rattle.ps_changes.proofs.Sources.{keys_total, keys_exact}
-use Rattle.ps_client_log.specs.declared.buckets.Buckets.{Buckets}
 use Rattle.ps_client_log.specs.declared.holdings.Holdings.{Holdings}
 use Rattle.ps_client_log.specs.declared.images.Entry.{Entry}
 use Rattle.ps_client_log.specs.declared.images.Image.{Image}
 use Rattle.ps_client_log.specs.declared.rows.Latest.{Latest}
 use Rattle.ps_client_log.specs.declared.slots.Slot.{Slot}
-use Rattle.ps_client_log.specs.Images.{key_eq, put_at, image_of, slot_bucket, bucket_found}
+use Rattle.ps_client_log.specs.Images.{key_eq, put_at, image_of, slot_bucket}
 use Rattle.ps_client_log.specs.Kept.{Kept, bucket_at}
 use Rattle.ps_client_log.specs.Rooms.{kept_by}
-use Rattle.ps_client_log.specs.Rows.{HeldCopy, Holds, object_of, place_of, place_cmp, IsLatest, IsLatestContent, by_object, AreInOrder, row_at}
+use Rattle.ps_client_log.specs.Rows.{HeldCopy, Holds, object_of, place_of, IsLatestContent, by_object, AreInOrder, row_at}
+use Rattle.ps_client_log.specs.Soundness.{same_row}
 use Rattle.ps_client_log.specs.Seeing.{copy_of, copies_in, copies_at, copies_of, HoldsKeysOnce, note_of, all_seen, is_there}
 use Rattle.ps_client_log.proofs.Keys.{key_eq-same, key_eq-same_key, same_key-true}
 use Rattle.ps_client_log.proofs.Latest.{Reaches, reaches_each, kept_all}
@@ -298,6 +298,30 @@ module _ (holdings : Holdings) (distinct : IsDistinct bytes_eq (keys_of holdings
 
 pub rows_in_order : (es : List (Object × Latest)) (rows : List Shown) → by_object rows ≡ map row_of es → IsStrictlySortedBy key_cmp (keys_of es) → AreInOrder rows
 rows_in_order es rows listed sorted = ap (is_sorted key_cmp) listed ∙ sorted_rows es sorted
+
+-- of rows that rise, none has the kind and the id of another
+apart : (a b : Shown) → is_lt (key_cmp (a.kind, a.id) (b.kind, b.id)) ≡ true → same_row a b ≡ false
+apart a b below = false_from_ne_true (same_row a b) (λ same.
+    let parts = and_parts (bytes_eq a.kind b.kind) (bytes_eq a.id b.id) same in
+    let kind : a.kind ≡ b.kind = (bytes_eq-Decides a.kind b.kind).0 parts.0 in
+    let id : a.id ≡ b.id = (bytes_eq-Decides a.id b.id).0 parts.1 in
+    let tied : key_cmp (a.kind, a.id) (b.kind, b.id) ≡ Equal =
+    ap (λ (k : List ℕ). key_cmp (a.kind, a.id) (k, b.id)) (sym kind) ∙ ap (λ (i : List ℕ). key_cmp (a.kind, a.id) (a.kind, i)) (sym id)
+    ∙ tied_itself keys_total (a.kind, a.id) in
+    both_ways (is_lt (key_cmp (a.kind, a.id) (b.kind, b.id))) (ap is_lt tied) below)
+
+apart_all : (row : Shown) (rows : List Shown) → below_all key_cmp (row.kind, row.id) (by_object rows) ≡ true → AllByRecursion (λ other. same_row row other ≡ false) rows
+apart_all row [] below = tt
+apart_all row (other ∷ rows) below =
+    let parts = and_parts (is_lt (key_cmp (row.kind, row.id) (other.kind, other.id))) (below_all key_cmp (row.kind, row.id) (by_object rows)) below in
+    (apart row other parts.0, apart_all row rows parts.1)
+
+pub rows_distinct : (rows : List Shown) → AreInOrder rows → IsDistinct same_row rows
+unfolding IsDistinct
+rows_distinct [] sorted = tt
+rows_distinct (row ∷ rows) sorted =
+    let parts = and_parts (below_all key_cmp (row.kind, row.id) (by_object rows)) (is_sorted key_cmp (by_object rows)) sorted in
+    (apart_all row rows parts.0, rows_distinct rows parts.1)
 
 -- a name is added
 pub name_added : (there : Bool) (name key other : List ℕ) (old : Bool) → there ≡ true → key ≡ name

@@ -1,10 +1,9 @@
 -- What a map of entries holds of each key, after an entry is put in or taken out.
-use Rattle.std.proofs.Common.{◌≡◌, ℕ, Bool, true, false, cond, Option, Some, None, refl, sym, ap, ◌∙◌}
+use Rattle.std.proofs.Common.{◌≡◌, Bool, true, false, cond, Some, None, refl, ap}
 use Rattle.std.specs.Prelude.{option_map}
 use Rattle.indexmap.specs.IndexMap.{IndexMap, get}
 use Rattle.ps_checksum.specs.declared.sums.Sum.{Sum}
 use Rattle.ps_bucket_log.specs.declared.ops.Key.{Key}
-use Rattle.ps_bucket_log.specs.declared.ops.Op.{Op}
 use Rattle.ps_bucket_log.specs.declared.ops.Op.TheVariants.{Put, Remove}
 use Rattle.ps_bucket_log.specs.Ops.{same_key}
 use Rattle.ps_bucket_log.specs.Buckets.{held_after}

@@ -5,6 +5,5 @@ pub mod Making
 pub mod Telling
 pub mod Listings
 pub mod Sound
-pub mod Rising
 pub mod Latest
 pub mod Copies

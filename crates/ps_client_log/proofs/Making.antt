@@ -1,5 +1,5 @@
 -- What is kept depends on no room, and what room edits leave.
-use Rattle.std.proofs.Common.{◌≡◌, ℕ, ◌+◌, ◌≤◌, List, [], ◌∷◌, length, refl, arith, vec_len, vec_capacity}
+use Rattle.std.proofs.Common.{◌≡◌, ℕ, ◌+◌, ◌≤◌, List, [], ◌∷◌, length, arith}
 use Rattle.std.specs.Prelude.{sum_by}
 use Rattle.std.proofs.lemmas.List.Sums.{sum_by-cons}
 use Rattle.ps_client_log.specs.declared.edits.Edit.{Edit}
@@ -41,8 +41,8 @@ HasRoom-first holdings edit edits room = record {
 -- and once it is made, for the others
 pub HasRoom-rest : (old new : Holdings) (edit : Edit) (edits : List Edit) → HasRoom old (edit ∷ edits)
     → ((name : List ℕ) → room_for old.buckets name ≤ room_for new.buckets name + brings name edit)
-    → vec_len new.queue ≤ vec_len old.queue + pushes edit → vec_capacity old.queue ≤ vec_capacity new.queue → HasRoom new edits
-HasRoom-rest old new edit edits room entries queued queue = record {
+    → old.queue.room ≤ new.queue.room + pushes edit → HasRoom new edits
+HasRoom-rest old new edit edits room entries queue = record {
   entries = λ name. omega (arith, sum_by-cons (brings name) edit edits, room.entries name, entries name);
-  queue = omega (arith, sum_by-cons pushes edit edits, room.queue);
+  queue = omega (arith, sum_by-cons pushes edit edits, room.queue, queue);
 }

@@ -1,25 +1,27 @@
 -- What can be made leaves what is sound.
-use Rattle.std.proofs.Common.{◌≡◌, ℕ, ◌<◌, ◌≤◌, Bool, true, false, cond, List, [], ◌∷◌, Option, Some, None, refl, sym, ap, subst, ◌∙◌, arith}
+use Rattle.std.proofs.Common.{◌≡◌, ◌≢◌, ℕ, ◌≤◌, Bool, true, false, cond, List, [], ◌∷◌, Option, Some, None, sym, ap, subst, ◌∙◌, arith}
 use Rattle.std.specs.Prelude.{fold, bytes_eq, IfSome, unwrap_or, ◌++◌}
 use Rattle.std.specs.Option.{option_map}
 use Rattle.std.proofs.lemmas.List.{append-nil}
+use Rattle.std.proofs.lemmas.List.Elements.{All-push, All-drop}
 use Rattle.std.proofs.lemmas.List.Sums.{fold-append}
+use Rattle.ps_changes.specs.declared.changes.Change.{Change}
 use Rattle.std.specs.Cmp.Lexicographic.{nat_list_eq_equiv}
 use Rattle.ps_bucket_log.specs.declared.ops.Key.{Key}
 use Rattle.ps_bucket_log.specs.declared.ops.Op.{Op}
 use Rattle.ps_bucket_log.specs.declared.ops.Op.TheVariants.{Put, Remove, Move, Clear}
-use Rattle.ps_bucket_log.specs.Ops.{id_of, same_key, newest}
+use Rattle.ps_bucket_log.specs.Ops.{id_of, same_key}
 use Rattle.ps_bucket_log.specs.Buckets.{Bucket, after, fresh, held_after, bucket_of}
 use Rattle.ps_bucket_log.specs.Logs.{IsRising}
 use Rattle.ps_client_log.specs.declared.edits.Edit.{Edit}
-use Rattle.ps_client_log.specs.declared.edits.Edit.TheVariants.{Take, Delete}
+use Rattle.ps_client_log.specs.declared.edits.Edit.TheVariants.{Take, Delete, Push, Pop, Aim, Show}
 use Rattle.std.specs.List.{IsDistinct}
 use Rattle.ps_client_log.specs.declared.holdings.Holdings.{Holdings}
 use Rattle.ps_client_log.specs.Rooms.{kept_by}
 use Rattle.ps_client_log.specs.Logs.{IsHeld}
 use Rattle.ps_client_log.specs.Kept.{Kept, bucket_at, nothing_kept}
 use Rattle.ps_client_log.specs.Soundness.{greatest, same_row, IsSound, IsSoundBucket}
-use Rattle.ps_client_log.specs.Edits.{CanTake, CanMakeAll, with_bucket, with_taken, with_edit, with_edits}
+use Rattle.ps_client_log.specs.Edits.{CanTake, CanMake, CanMakeAll, with_bucket, with_taken, with_edit, with_edits}
 use Rattle.ps_client_log.specs.Keeping.{Tells}
 
 held_sound : (key : Key) (held : Option Op) (op : Op) → IfSome held (λ one. id_of one ≤ greatest) → id_of op ≤ greatest
@@ -81,6 +83,22 @@ with_taken-sound name (op ∷ ops) kept sound can =
 pub with_edits-sound : (edits : List Edit) (kept : Kept) → IsSound kept → CanMakeAll kept edits → IsSound (with_edits kept edits)
 with_edits-sound [] kept sound can = sound
 with_edits-sound (edit ∷ edits) kept sound can = with_edits-sound edits (with_edit kept edit) can.1 can.2
+
+pub with_edit-sound : (kept : Kept) (edit : Edit) → IsSound kept → CanMake kept edit → IsSound (with_edit kept edit)
+with_edit-sound kept (Take bucket ops) sound can = with_taken-sound bucket ops kept sound can
+with_edit-sound kept (Delete bucket) sound can = with_bucket-sound bucket None kept sound tt
+with_edit-sound kept (Push change) sound can = record {
+  buckets = sound.buckets;
+  queue = All-push (λ (write : Change). write.table ≢ []) kept.queue change sound.queue can;
+  target = sound.target;
+}
+with_edit-sound kept Pop sound can = record {
+  buckets = sound.buckets;
+  queue = All-drop (λ (write : Change). write.table ≢ []) 1 kept.queue sound.queue;
+  target = sound.target;
+}
+with_edit-sound kept (Aim target) sound can = record { buckets = sound.buckets; queue = sound.queue; target = can }
+with_edit-sound kept (Show rows) sound can = record { buckets = sound.buckets; queue = sound.queue; target = sound.target }
 
 -- the bucket's image becomes that of all the operations
 pub with_taken-image : (name : List ℕ) (ops before : List Op) (kept : Kept) → bucket_at kept name ≡ bucket_of before

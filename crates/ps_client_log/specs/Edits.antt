@@ -1,7 +1,6 @@
 -- What each edit makes of what is kept, and when it can be made.
-use Rattle.std.specs.Prelude.{◌≡◌, ◌≢◌, ℕ, ◌≤◌, if◌then◌else◌, List, [], ◌∷◌, ◌++◌, Option, Some, None, fold, drop, bytes_eq}
+use Rattle.std.specs.Prelude.{◌≢◌, ℕ, ◌≤◌, if◌then◌else◌, List, [], ◌∷◌, ◌++◌, Option, Some, None, fold, drop, bytes_eq}
 use Rattle.std.specs.List.{IsDistinct}
-use Rattle.ps_bucket_log.specs.declared.ops.Key.{Key}
 use Rattle.ps_bucket_log.specs.declared.ops.Op.{Op}
 use Rattle.ps_bucket_log.specs.Ops.{newest}
 use Rattle.ps_bucket_log.specs.Buckets.{Bucket, after}

@@ -1,12 +1,11 @@
 -- What a keeper answers.
-use Rattle.std.specs.Prelude.{◌≡◌, ℕ, Bool, true, false, Option, Some, None, Result, Ok, Err, IfSome}
+use Rattle.std.specs.Prelude.{◌≡◌, ℕ, Bool, true, false, Option, Result, Ok, Err, IfSome}
 use Rattle.ps_io.specs.declared.calls.Calls.{Calls}
 use Rattle.ps_io.specs.Counts.{Rose}
-use Rattle.ps_client_log.specs.declared.states.State.{State}
 use Rattle.ps_client_log.specs.declared.holdings.Holdings.{Holdings}
 use Rattle.ps_client_log.specs.declared.faults.KeepFault.{KeepFault}
 use Rattle.ps_client_log.specs.declared.faults.KeepFault.TheVariants.{Failed, Memory}
-use Rattle.ps_client_log.specs.Kept.{Kept, kept_of}
+use Rattle.ps_client_log.specs.Kept.{Kept}
 
 -- a keeper fails only where its count of faults rises
 abbrev pub RoseAt : KeepFault → ℕ → ℕ → Type 0

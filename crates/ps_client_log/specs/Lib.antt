@@ -9,3 +9,5 @@ pub mod Logs
 pub mod Rows
 pub mod Seeing
 pub mod Types
+pub mod Laws
+pub mod Queues

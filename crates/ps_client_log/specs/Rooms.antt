@@ -1,5 +1,5 @@
 -- What the program keeps, and the room that edits want.
-use Rattle.std.specs.Prelude.{◌≡◌, ℕ, ◌+◌, ◌≤◌, if◌then◌else◌, List, [], ◌∷◌, Option, bytes_eq, length, vec_len, vec_capacity, sum_by, unwrap_or}
+use Rattle.std.specs.Prelude.{ℕ, ◌≤◌, if◌then◌else◌, List, bytes_eq, length, sum_by, unwrap_or}
 use Rattle.indexmap.specs.IndexMap.{IndexMap, get}
 use Rattle.ps_client_log.specs.declared.edits.Edit.{Edit}
 use Rattle.ps_client_log.specs.declared.edits.Edit.TheVariants.{Take, Delete, Push, Pop, Aim, Show}
@@ -36,7 +36,7 @@ pushes (Show rows) = 0
 -- there is room for all that the edits bring
 pub record HasRoom (holdings : Holdings) (edits : List Edit) : Type 0 where
   pub entries : (name : List ℕ) → sum_by (brings name) edits ≤ room_for holdings.buckets name
-  pub queue : vec_len holdings.queue + sum_by pushes edits ≤ vec_capacity holdings.queue
+  pub queue : sum_by pushes edits ≤ holdings.queue.room
 
 -- the room that a map gives to a name
 abbrev pub given : {S : Type 0} → IndexMap (List ℕ) ℕ S → List ℕ → ℕ

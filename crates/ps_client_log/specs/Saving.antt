@@ -1,5 +1,5 @@
 -- The states that tell what is held in memory.
-use Rattle.std.specs.Prelude.{◌≡◌, ℕ, List, [], ◌∷◌, ◌++◌, map, bytes_eq}
+use Rattle.std.specs.Prelude.{◌≡◌, ℕ, List, [], ◌∷◌, ◌++◌, map}
 use Rattle.std.specs.List.{IsDistinct}
 use Rattle.std.specs.Option.{MatchOption}
 use Rattle.ps_bucket_log.specs.declared.ops.Key.{Key}

@@ -1,15 +1,11 @@
 -- Which states are sound.
-use Rattle.std.specs.Prelude.{◌≡◌, ◌≢◌, ℕ, ◌≤◌, Bool, false, ◌&&◌, List, [], map, IfSome, bytes_eq, Option, Some, None}
+use Rattle.std.specs.Prelude.{◌≢◌, ℕ, ◌≤◌, Bool, ◌&&◌, List, [], map, IfSome, bytes_eq}
 use Rattle.std.specs.List.{All, IsDistinct}
 use Rattle.ps_bucket_log.specs.declared.ops.Key.{Key}
-use Rattle.ps_bucket_log.specs.declared.ops.Op.{Op}
 use Rattle.ps_bucket_log.specs.Ops.{id_of, same_key}
 use Rattle.ps_bucket_log.specs.Buckets.{Bucket}
 use Rattle.ps_changes.specs.declared.shown.Shown.{Shown}
-use Rattle.ps_changes.specs.declared.changes.Change.{Change}
 use Rattle.ps_client_log.specs.declared.states.State.{State}
-use Rattle.ps_client_log.specs.declared.states.BucketState.{BucketState}
-use Rattle.ps_client_log.specs.declared.states.Held.{Held}
 use Rattle.ps_client_log.specs.declared.states.Target.{Target}
 use Rattle.ps_client_log.specs.declared.states.Target.TheVariants.{Free, Pending, Number}
 use Rattle.ps_client_log.specs.Kept.{Kept, kept_of}

@@ -197,6 +197,7 @@ impl<K: Keeper> ClientLog<K> {
     /// id of an operation, and among those with the same id the one of the last bucket by name, and there of the last subkey.
     pub fn held_rows(&self, alloc: Global) -> Result<Vec<Shown>, Memory>
         ensures in_order { IfOk result (λ rows. AreInOrder rows.items) }
+        ensures distinct { IfOk result (λ rows. IsDistinct same_row rows.items) }
         ensures latest { IfOk result (λ rows. (object : Object) → IfSome (row_at object rows.items) (IsLatestContent (kept self.now) object)) }
         ensures all { IfOk result (λ rows. (copy : HeldCopy) → Holds (kept self.now) copy → IsSome (row_at (object_of copy) rows.items)) }
     {

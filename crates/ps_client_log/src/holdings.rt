@@ -1,4 +1,4 @@
-ghost use Rattle.std.specs.Prelude.{◌≡◌, ℕ, ◌≤◌, List, ◌∷◌, [], OnOk, OnErr, IfOk, ◌+◌, vec_len, vec_capacity};
+ghost use Rattle.std.specs.Prelude.{◌≡◌, ℕ, ◌≤◌, List, ◌∷◌, [], OnOk, OnErr, IfOk, ◌+◌};
 ghost use Rattle.ps_client_log.specs.Edits.{CanMake, CanMakeAll, with_edit, with_edits};
 ghost use Rattle.ps_client_log.specs.Rooms.{kept_by, given, brings, pushes, HasRoom};
 ghost use Rattle.ps_client_log.specs.Images.{room_for};
@@ -9,10 +9,11 @@ ghost use Rattle.std.specs.List.{IsDistinct};
 
 use crate::buckets::Buckets;
 use crate::edits::edits_copied;
+use crate::queues::Queue;
 use crate::rooms::rooms_for;
 use crate::{Edit, State, Target};
 use indexmap::IndexMap;
-use ps_changes::{Change, Shown};
+use ps_changes::Shown;
 use ps_values::{Items, Memory, Text};
 use std::alloc::Global;
 
@@ -20,7 +21,7 @@ use std::alloc::Global;
 #[derive(Drop)]
 pub struct Holdings {
     pub buckets: Buckets,
-    pub queue: Vec<Change>,
+    pub queue: Queue,
     pub target: Target,
     pub shown: Items<Shown>,
 }
@@ -33,7 +34,7 @@ impl Holdings {
     {
         Holdings {
             buckets: Buckets::new(alloc),
-            queue: Vec::new(alloc),
+            queue: Queue::new(alloc),
             target: Target::Free,
             shown: Items::new(alloc),
         }
@@ -52,7 +53,7 @@ impl Holdings {
         } = state;
         Ok(Holdings {
             buckets: Buckets::from_states(alloc, buckets)?,
-            queue: queue.into_vec(),
+            queue: Queue::from_vec(queue.into_vec()),
             target,
             shown,
         })
@@ -68,7 +69,7 @@ impl Holdings {
         ensures kept { kept_by self.new ≡ kept_by self.old }
         ensures shown { self.new.shown ≡ self.old.shown }
         ensures entries { OnOk result ((name : List ℕ) → given rooms.now name ≤ room_for self.new.buckets name) }
-        ensures queue { OnOk result (vec_len self.new.queue + pushed ≤ vec_capacity self.new.queue) }
+        ensures queue { OnOk result (pushed ≤ self.new.queue.room) }
     {
         self.queue.reserve(pushed)?;
         self.buckets.reserve_all(alloc, rooms)
@@ -89,8 +90,7 @@ impl Holdings {
         ensures kept { kept_by self.new ≡ with_edit (kept_by self.old) edit }
         ensures shown { IsDistinct same_row self.old.shown → IsDistinct same_row self.new.shown }
         ensures entries { (name : List ℕ) → room_for self.old.buckets name ≤ room_for self.new.buckets name + brings name edit }
-        ensures queued { vec_len self.new.queue ≤ vec_len self.old.queue + pushes edit }
-        ensures queue { vec_capacity self.old.queue ≤ vec_capacity self.new.queue }
+        ensures queue { self.old.queue.room ≤ self.new.queue.room + pushes edit }
     {
         match edit {
             Edit::Take { bucket, ops } => {
@@ -99,10 +99,8 @@ impl Holdings {
                 }
             }
             Edit::Delete { bucket } => self.buckets.leave(&bucket),
-            Edit::Push { change } => self.queue.push_reserved(change),
-            Edit::Pop => {
-                let _oldest = self.queue.remove(0);
-            }
+            Edit::Push { change } => self.queue.push(change),
+            Edit::Pop => self.queue.pop(),
             Edit::Aim { target } => self.target = target,
             Edit::Show { rows } => self.shown = rows,
         }

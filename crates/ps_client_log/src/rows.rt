@@ -12,6 +12,7 @@ ghost use Rattle.ps_changes.specs.Source.{Key as Object, key_cmp};
 ghost use Rattle.ps_client_log.specs.Images.{key_eq};
 ghost use Rattle.ps_client_log.specs.Rooms.{kept_by};
 ghost use Rattle.ps_client_log.specs.Rows.{HeldCopy, Holds, object_of, place_cmp, IsLatestContent, by_object, AreInOrder, row_at};
+ghost use Rattle.ps_client_log.specs.Soundness.{same_row};
 ghost use Rattle.ps_client_log.specs.Seeing.{copy_of, copies_in, copies_at, copies_of, HoldsKeysOnce, noted_place, is_past, seen, all_seen, is_there};
 
 use crate::Shown;
@@ -153,6 +154,7 @@ fn rows_of(alloc: Global, latest: BTreeMap<(Text, Text), Latest>) -> Result<Vec<
 // The rows that the buckets hold, in order.
 pub fn held_rows(alloc: Global, holdings: &Holdings) -> Result<Vec<Shown>, Memory>
     ensures in_order { IfOk result (λ rows. AreInOrder rows.items) }
+    ensures distinct { IfOk result (λ rows. IsDistinct same_row rows.items) }
     ensures latest { IfOk result (λ rows. (object : Object) → IfSome (row_at object rows.items) (IsLatestContent (kept_by holdings.now) object)) }
     ensures all { IfOk result (λ rows. (copy : HeldCopy) → Holds (kept_by holdings.now) copy → IsSome (row_at (object_of copy) rows.items)) }
 {

@@ -2,7 +2,6 @@ use Rattle.std.proofs.Common.{◌≡◌, ◌+◌, ◌%◌, ◌^◌, List, sym, a
 use Rattle.std.specs.List.{IsDistinct}
 use Rattle.std.specs.Prelude.{map}
 use Rattle.std.specs.Map.{keys_of}
-use Rattle.ps_bucket_log.specs.declared.ops.Key.{Key}
 use Rattle.ps_bucket_log.specs.Ops.{same_key}
 use Rattle.ps_client_log.specs.declared.states.Held.{Held}
 use Rattle.ps_client_log.specs.Kept.{held_in, held_sum}

@@ -14,6 +14,6 @@ edits-preserved c =
     ap (with_edits (kept_by c.edits.self)) (sym is) ∙ c.edits.invariant.0 in (
       ap (λ kept. with_edits kept rest) c.make.ensures.kept ∙ here,
       subst (λ kept. CanMakeAll kept rest) (sym c.make.ensures.kept) can.2,
-      HasRoom-rest c.edits.self c.make.new.self c.in-Some.edit rest room c.make.ensures.entries c.make.ensures.queued c.make.ensures.queue,
+      HasRoom-rest c.edits.self c.make.new.self c.in-Some.edit rest room c.make.ensures.entries c.make.ensures.queue,
       λ distinct. c.make.ensures.shown (c.edits.invariant.3 distinct),
     )

@@ -11,7 +11,7 @@ returns-clause-held c =
     let made : Holdings = record { buckets = c.new.result; queue = c.new-2.result; target = Free; shown = c.new-3.result } in
     let is : kept_by made ≡ nothing_kept = λ i. record {
       bucket = λ name. c.new.ensures name i;
-      queue = c.new-2.ensures.items i;
+      queue = c.new-2.ensures i;
       target = Free;
       shown = shown_in (c.new-3.ensures i);
     } in

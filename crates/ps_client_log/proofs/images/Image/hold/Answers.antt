@@ -1,4 +1,3 @@
-use Rattle.std.proofs.Common.{◌≡◌}
 use Rattle.ps_client_log.proofs.Holding.{held-insert}
 use Rattle.ps_client_log.proofs.images.Image.hold.Goals as goal
 

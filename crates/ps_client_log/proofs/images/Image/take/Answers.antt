@@ -1,5 +1,3 @@
-use Rattle.std.proofs.Common.{◌≡◌, ap}
-use Rattle.std.proofs.lemmas.Result.{on_ok_weaker}
 use Rattle.ps_client_log.proofs.Holding.{held-insert, held-remove}
 use Rattle.ps_client_log.proofs.Outcomes.{on_ok}
 use Rattle.ps_client_log.proofs.images.Image.take.Goals as goal
