@@ -67,8 +67,9 @@ impl Asking {
     }
 
     fn take(&mut self, change: Change) {
-        if let Some(row) = change.row {
-            self.id = change.id;
+        let Change { table: _, id, row } = change;
+        if let Some(row) = row {
+            self.id = id;
             self.row = row;
         }
     }

@@ -21,8 +21,8 @@ mod yaml;
 use cases::answers;
 use std::{io, thread};
 
-// As in the service, the stack is that of the deepest file.
-const STACK: usize = 1073741824;
+// Twice the stack of the service: another compiler may make larger frames.
+const STACK: usize = 2147483648;
 
 fn main(rt: HostRuntime) -> io::Result<()> {
     let alloc = rt.alloc();

@@ -21,10 +21,10 @@ pub fn pairs_of(alloc: Global, bytes: &[u8]) -> Result<String, Memory> {
     if bytes.len() >= 4294967295 {
         return Ok(out);
     }
-    match read_yaml(alloc, bytes) {
+    match &read_yaml(alloc, bytes) {
         Ok(Node::Map { pairs, .. }) => write!(out, "{}", pairs.len())?,
         Ok(_) => write!(out, "no map")?,
-        Err(fault) => show_fault(&mut out, &fault)?,
+        Err(fault) => show_fault(&mut out, fault)?,
     }
     Ok(out)
 }
