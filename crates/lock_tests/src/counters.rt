@@ -89,11 +89,11 @@ pub fn add_by_two<R: Threads + Wait + Sync>(
         rt,
         || -> Seat<Counter>
             requires { IsSeatOf lock.now seat }
-            ensures { IsSeatOf lock.now result }
+            ensures { IsSeatOf lock.entry.now result }
         { add_often(rt, lock, seat, times) },
         || -> Seat<Counter>
             requires { IsSeatOf lock.now other }
-            ensures { IsSeatOf lock.now result }
+            ensures { IsSeatOf lock.entry.now result }
         { add_often(rt, lock, other, times) },
     );
     lock.join_in(&mut seat, other);
@@ -115,11 +115,11 @@ pub fn add_by_four<R: Threads + Wait + Sync>(
         rt,
         || -> Option<Seat<Counter>>
             requires { IsSeatOf lock.now seat }
-            ensures { IfSome result (λ s. IsSeatOf lock.now s) }
+            ensures { IfSome result (λ s. IsSeatOf lock.entry.now s) }
         { add_by_two(rt, lock, seat, times) },
         || -> Option<Seat<Counter>>
             requires { IsSeatOf lock.now other }
-            ensures { IfSome result (λ s. IsSeatOf lock.now s) }
+            ensures { IfSome result (λ s. IsSeatOf lock.entry.now s) }
         { add_by_two(rt, lock, other, times) },
     );
     let mut seat = seat?;
