@@ -28,14 +28,20 @@ impl Kept for Counter {
     ghost stands = { λ _ counter history. counter.count ≡ length history };
 }
 
-/// What one thread does: it sleeps, and then takes its turns, and sleeps in each.
+/// What a seat is to do: to sleep, and then to take its turns, and to sleep in each.
+#[derive(Clone, Copy)]
+pub struct Plan {
+    turns: u64,
+    before: Duration,
+    inside: Duration,
+}
+
+/// A seat, and what it is to do in a thread of its own.
 #[derive(Drop)]
 pub struct Worker<'a> {
     lock: &'a StoreLock<Counter>,
     seat: Seat<Counter>,
-    turns: u64,
-    before: Duration,
-    inside: Duration,
+    plan: Plan,
     ghost seated: { IsSeatOf lock.now seat },
 }
 
@@ -61,21 +67,15 @@ fn count_once<R: Wait + Clock>(
     turn.leave_with(())
 }
 
-// The seat after the worker's turns.
+// How long the history is that the worker's seat has seen after its turns.
 fn work<R: Wait + Clock>(rt: &R, worker: Worker) -> u64 {
-    let Worker {
-        lock,
-        seat,
-        turns,
-        before,
-        inside,
-    } = worker;
-    if before > Duration::ZERO {
-        sleep(rt, before);
+    let Worker { lock, seat, plan } = worker;
+    if plan.before > Duration::ZERO {
+        sleep(rt, plan.before);
     }
     let mut seat = seat;
-    'turns: for _ in 0..turns {
-        seat = count_once(rt, lock, seat, inside);
+    'turns: for _ in 0..plan.turns {
+        seat = count_once(rt, lock, seat, plan.inside);
     }
     seat.seen()
 }
@@ -84,9 +84,7 @@ fn work<R: Wait + Clock>(rt: &R, worker: Worker) -> u64 {
 fn worker_of<'a>(
     lock: &'a StoreLock<Counter>,
     seat: &mut Seat<Counter>,
-    turns: u64,
-    before: Duration,
-    inside: Duration,
+    plan: Plan,
 ) -> Option<Worker<'a>>
     requires { IsSeatOf lock.now seat.old }
     ensures { IsSeatOf lock.now seat.new }
@@ -95,10 +93,52 @@ fn worker_of<'a>(
     Some(Worker {
         lock,
         seat: own,
-        turns,
-        before,
-        inside,
+        plan,
     })
+}
+
+// So many workers, of which the first has a plan of its own.
+fn workers_of<'a>(
+    alloc: Global,
+    lock: &'a StoreLock<Counter>,
+    seat: Seat<Counter>,
+    seats: u32,
+    plans: (Plan, Plan),
+) -> Option<Vec<Worker<'a>>>
+    requires { IsSeatOf lock.now seat }
+{
+    let (first, others) = plans;
+    let mut seat = seat;
+    let mut workers = Vec::new(alloc);
+    workers.push(worker_of(lock, &mut seat, first)?).ok()?;
+    'workers: for _ in 1..seats {
+        workers.push(worker_of(lock, &mut seat, others)?).ok()?;
+    }
+    Some(workers)
+}
+
+// The plans of the first seat and of the others, if the word is one of this program's.
+fn plans_for(kind: &str, amount: u32) -> Option<(Plan, Plan)> {
+    let turns = Plan {
+        turns: amount as u64,
+        before: Duration::ZERO,
+        inside: Duration::ZERO,
+    };
+    let long = Plan {
+        turns: 1,
+        before: Duration::ZERO,
+        inside: Duration::from_millis(amount as u64),
+    };
+    let late = Plan {
+        turns: 1,
+        before: Duration::from_millis(100),
+        inside: Duration::ZERO,
+    };
+    match kind {
+        "turns" => Some((turns, turns)),
+        "wait" => Some((long, late)),
+        _ => None,
+    }
 }
 
 // How many entries there are after the work that the words ask for, if they are such words and there is memory.
@@ -111,48 +151,12 @@ fn count_for<R: Threads + Wait + Clock + Sync>(
 ) -> Option<u64> {
     let seats = seats.parse::<u32>().ok()?;
     let amount = amount.parse::<u32>().ok()?;
-    let (lock, mut seat) = open_lock(alloc, Counter { count: 0 }).ok()?;
-    let mut workers = Vec::new(alloc);
-    let first = match kind {
-        "turns" => worker_of(
-            &lock,
-            &mut seat,
-            amount as u64,
-            Duration::ZERO,
-            Duration::ZERO,
-        )?,
-        "wait" => worker_of(
-            &lock,
-            &mut seat,
-            1,
-            Duration::ZERO,
-            Duration::from_millis(amount as u64),
-        )?,
-        _ => return None,
-    };
-    workers.push(first).ok()?;
-    'workers: for _ in 1..seats {
-        let next = match kind {
-            "turns" => worker_of(
-                &lock,
-                &mut seat,
-                amount as u64,
-                Duration::ZERO,
-                Duration::ZERO,
-            )?,
-            _ => worker_of(
-                &lock,
-                &mut seat,
-                1,
-                Duration::from_millis(100),
-                Duration::ZERO,
-            )?,
-        };
-        workers.push(next).ok()?;
-    }
-    map_vec(rt, workers, &|worker| work(rt, worker)).ok()?;
-    let seat = lock.turn(rt, seat).leave();
-    Some(seat.seen())
+    let plans = plans_for(kind, amount)?;
+    let (lock, seat) = open_lock(alloc, Counter { count: 0 }).ok()?;
+    let seat = seat;
+    let workers = workers_of(alloc, &lock, seat, seats, plans)?;
+    let places = map_vec(rt, workers, &|worker| work(rt, worker)).ok()?;
+    places.iter().copied().max()
 }
 
 fn main(rt: HostRuntime) -> io::Result<()> {
