@@ -1,5 +1,5 @@
 // A counter under a lock, and what several threads add to it.
-ghost use Rattle.std.specs.Prelude.{◌≡◌, ◌+◌, ◌≤◌, [], ◌∷◌, ◌++◌, length, sum, IfSome, MatchBool};
+ghost use Rattle.std.specs.Prelude.{◌≡◌, ◌≤◌, [], ◌∷◌, ◌++◌, length, sum, IfSome, MatchBool};
 ghost use mathlib.Core.List.{IsPrefix};
 ghost use Rattle.lock_tests.specs.Two.{HasMade, IsHistoryOf};
 ghost use Rattle.ps_lock.specs.Words.{IsSeatOf, seen_by, own_entries_of};
