@@ -1,0 +1,4 @@
+pub mod Bytes
+pub mod KeyLaws
+pub mod Entries
+pub mod Cuts
