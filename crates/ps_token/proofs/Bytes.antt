@@ -25,23 +25,25 @@ SameUpto difference i code other = (difference ≡ 0 → take i other ≡ take i
 
 pub same_more : (d i : ℕ) (code other : List ℕ) → i < length code → i < length other → SameUpto d i code other
     → SameUpto (bit_or d (bit_xor (get_or code i 0) (get_or other i 0))) (i + 1) code other
-same_more d i code other within beside same =
-    (λ h.
-    let parts = or_is_zero d (bit_xor (get_or code i 0) (get_or other i 0)) h in
-    rw add-one (take-suc other i 0 beside ∙ ap (λ (front : List ℕ). front ++ get_or other i 0 ∷ []) (same.0 parts.0)
-    ∙ ap (λ (x : ℕ). take i code ++ x ∷ []) (sym (xor_is_zero _ _ parts.1)) ∙ sym (take-suc code i 0 within)),
-    λ h.
-    let next : take (suc i) other ≡ take (suc i) code = rw (← add-one) h in
-    let here : get_or code i 0 ≡ get_or other i 0 = sym (get_or-take (suc i) code i 0 (omega arith)) ∙ ap (λ (xs : List ℕ). get_or xs i 0) (sym next) ∙ get_or-take (suc i) other i 0 (omega arith) in
-    let front : take i other ≡ take i code = sym (take_twice i other) ∙ ap (λ (xs : List ℕ). take i xs) next ∙ take_twice i code in
-    ap (λ (x : ℕ). bit_or x (bit_xor (get_or code i 0) (get_or other i 0))) (same.1 front)
-    ∙ ap (λ (x : ℕ). bit_or 0 (bit_xor x (get_or other i 0))) here ∙ ap (λ (x : ℕ). bit_or 0 x) (xor_self (get_or other i 0)) ∙ or_self 0)
+same_more d i code other within beside same = (
+  λ h.
+      let parts = or_is_zero d (bit_xor (get_or code i 0) (get_or other i 0)) h in
+      rw add-one (take-suc other i 0 beside ∙ ap (λ (front : List ℕ). front ++ get_or other i 0 ∷ []) (same.0 parts.0)
+      ∙ ap (λ (x : ℕ). take i code ++ x ∷ []) (sym (xor_is_zero _ _ parts.1)) ∙ sym (take-suc code i 0 within)),
+  λ h.
+      let next : take (suc i) other ≡ take (suc i) code = rw (← add-one) h in
+      let here : get_or code i 0 ≡ get_or other i 0 = sym (get_or-take (suc i) code i 0 (omega arith)) ∙ ap (λ (xs : List ℕ). get_or xs i 0) (sym next) ∙ get_or-take (suc i) other i 0 (omega arith) in
+      let front : take i other ≡ take i code = sym (take_twice i other) ∙ ap (λ (xs : List ℕ). take i xs) next ∙ take_twice i code in
+      ap (λ (x : ℕ). bit_or x (bit_xor (get_or code i 0) (get_or other i 0))) (same.1 front)
+      ∙ ap (λ (x : ℕ). bit_or 0 (bit_xor x (get_or other i 0))) here ∙ ap (λ (x : ℕ). bit_or 0 x) (xor_self (get_or other i 0)) ∙ or_self 0,
+)
 
 pub same_all : (d i : ℕ) (code other : List ℕ) → length code ≤ i → length other ≤ i → SameUpto d i code other
     → (IsTrue (nat_eq d 0) → other ≡ code) × (other ≡ code → IsTrue (nat_eq d 0))
-same_all d i code other past beyond same =
-    (λ h. sym (take_all i other beyond) ∙ same.0 (eqb-true d 0 h) ∙ take_all i code past,
-    λ h. eq-eqb d 0 (same.1 (ap (λ (xs : List ℕ). take i xs) h)))
+same_all d i code other past beyond same = (
+  λ h. sym (take_all i other beyond) ∙ same.0 (eqb-true d 0 h) ∙ take_all i code past,
+  λ h. eq-eqb d 0 (same.1 (ap (λ (xs : List ℕ). take i xs) h)),
+)
 
 -- a byte between those that were combined and those that are left
 mid : (f : ℕ → ℕ) (done : List ℕ) (b : ℕ) (rest : List ℕ) (i : ℕ) → length done ≡ i → set (done ++ b ∷ rest) i (f (get_or (done ++ b ∷ rest) i 0)) ≡ done ++ f b ∷ rest

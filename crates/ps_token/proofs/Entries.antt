@@ -22,7 +22,7 @@ all_left ds = refl
 none_left : (keys : List Key) → are_distinct keys ≡ true → left keys no_items ≡ Some keys
 none_left keys h = ap distinct_keys (append-nil keys) ∙ ap (λ (b : Bool). cond b (Some keys) None) h
 
-kept : (keys more : List Key) → distinct_keys keys ≡ Some more → (are_distinct keys ≡ true) × (keys ≡ more)
+pub kept : (keys more : List Key) → distinct_keys keys ≡ Some more → (are_distinct keys ≡ true) × (keys ≡ more)
 kept keys more h = by (are_distinct keys) refl h
   where
     by : (b : Bool) → are_distinct keys ≡ b → cond b (Some keys) None ≡ Some more → (are_distinct keys ≡ true) × (keys ≡ more)
@@ -66,14 +66,16 @@ taken keys more d ds distinct h = by (is_oct_key d) refl (oct_key d) refl h
         → (are_distinct more ≡ true) × (left keys (item d ds) ≡ left more ds)
     by None e k is g = absurd (cc)
     by (Some false) e k is g =
-        let same : keys ≡ more = cc in
-        (ap are_distinct (sym same) ∙ distinct,
-        rw e (passed keys ds ∙ ap (λ (ks : List Key). left ks ds) same))
+        let same : keys ≡ more = cc in (
+          ap are_distinct (sym same) ∙ distinct,
+          rw e (passed keys ds ∙ ap (λ (ks : List Key). left ks ds) same),
+        )
     by (Some true) e None is g = absurd (cc)
     by (Some true) e (Some key) is g =
-        let own = kept (keys ++ key ∷ []) more g in
-        (ap are_distinct (sym own.1) ∙ own.0,
-        rw (e, is) (grown keys key ds ∙ ap (λ (ks : List Key). left ks ds) own.1))
+        let own = kept (keys ++ key ∷ []) more g in (
+          ap are_distinct (sym own.1) ∙ own.0,
+          rw (e, is) (grown keys key ds ∙ ap (λ (ks : List Key). left ks ds) own.1),
+        )
 
 -- an entry that is refused
 refused : (keys : List Key) (d : Json) (ds : Items) → one_more keys d ≡ None → left keys (item d ds) ≡ None
@@ -87,7 +89,7 @@ refused keys d ds h = by (is_oct_key d) refl (oct_key d) refl h
     by (Some true) e None is g = rw (e, is) refl
     by (Some true) e (Some key) is g = rw (e, is) (grown keys key ds ∙ never (keys ++ key ∷ []) ds (lost (keys ++ key ∷ []) g))
 
-read : {A : Type 0} (o : Option A) (x : A) → or_fault BadShape o ≡ Ok x → o ≡ Some x
+pub read : {A : Type 0} (o : Option A) (x : A) → or_fault BadShape o ≡ Ok x → o ≡ Some x
 read None x h = absurd (cc)
 read (Some y) x h = cc
 

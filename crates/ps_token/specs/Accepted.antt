@@ -8,7 +8,7 @@ use Rattle.ps_token.specs.declared.claim_sets.Claims.{Claims}
 use Rattle.ps_token.specs.declared.key_lists.Key.{Key}
 use Rattle.ps_token.specs.KeyFiles.{Has}
 use Rattle.ps_token.specs.Macs.{hmac}
-use Rattle.ps_token.specs.Parts.{part_of, joined}
+use Rattle.ps_token.specs.Parts.{bytes_of, joined}
 use Rattle.serde_json.specs.Find.{get}
 
 -- a header names a key of the list: by its kid, or it has none and that is the only key
@@ -23,13 +23,23 @@ pub record IsHeader (keys : List Key) (bytes : List ℕ) (key : Key) : Type 0 wh
   pub algorithm : Has (codes "alg") (string (codes "HS256")) json
   pub names : Names keys (get (codes "kid") json) key
 
+-- a text is the base64url of bytes
+abbrev pub IsPart : List ℕ → List ℕ → Type 0
+IsPart text bytes = bytes_of text ≡ Some bytes
+
 -- three base64url parts with dots between them: of a header, of a payload, and of a signature, which is the code of the first two parts
 -- with their dot under the key that the header names
 pub record IsSigned (keys : List Key) (token payload : List ℕ) : Type 0 where
+  pub first : List ℕ
+  pub second : List ℕ
+  pub third : List ℕ
+  pub spelled : token ≡ joined (joined first second) third
   pub header : List ℕ
+  pub header_is : IsPart first header
+  pub payload_is : IsPart second payload
   pub key : Key
   pub names : IsHeader keys header key
-  pub spelled : let signed = joined (part_of header) (part_of payload) in token ≡ joined signed (part_of (hmac key.bytes signed))
+  pub signature_is : IsPart third (hmac key.bytes (joined first second))
 
 -- bytes are a payload that makes these claims
 pub record Claimed (bytes : List ℕ) (claims : Claims) : Type 0 where

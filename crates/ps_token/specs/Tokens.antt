@@ -1,7 +1,8 @@
 -- Which tokens are accepted, which refusal is the first, and which token is signed.
-use Rattle.std.specs.Prelude.{ℕ, nat_lt, List, [], ◌∷◌, codes, bytes_eq, Option, Some, None, Result, Ok, Err}
+use Rattle.std.specs.Prelude.{◌≡◌, ℕ, nat_lt, List, [], ◌∷◌, codes, bytes_eq, Option, Some, None, Result, Ok, Err}
 use Rattle.serde_json.specs.Data.{Data as Json, string, object, no_members, member}
 use Rattle.serde_json.specs.Written.{compact_text}
+use Rattle.ps_values.specs.Documents.{json_of}
 use Rattle.ps_token.specs.declared.claim_sets.Claims.{Claims}
 use Rattle.ps_token.specs.declared.key_lists.Key.{Key}
 use Rattle.ps_token.specs.declared.faults.TokenFault.{TokenFault}
@@ -56,6 +57,13 @@ unsigned_token kid payload = joined (part_of (header_text kid)) (part_of payload
 -- a payload with its header, signed with a key
 abbrev pub signed_token : Key → List ℕ → List ℕ → List ℕ
 signed_token key kid payload = joined (unsigned_token kid payload) (part_of (hmac key.bytes (unsigned_token kid payload)))
+
+-- what is written into a token is read again
+pub record IsReadAgain (kid payload signature : List ℕ) : Type 0 where
+  pub header_json_is : json_of (header_text kid) ≡ Some (header_json kid)
+  pub header_is : bytes_of (part_of (header_text kid)) ≡ Some (header_text kid)
+  pub payload_is : bytes_of (part_of payload) ≡ Some payload
+  pub signature_is : bytes_of (part_of signature) ≡ Some signature
 
 -- a payload signed with the key of a kid
 unfoldable pub token_of : List Key → List ℕ → List ℕ → Result (List ℕ) SignFault

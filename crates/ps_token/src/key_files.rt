@@ -1,8 +1,9 @@
-ghost use Rattle.std.specs.Prelude.{[], ◌∷◌, ◌++◌};
+ghost use Rattle.std.specs.Prelude.{List, [], ◌∷◌, ◌++◌, IfOk, Ok};
+ghost use Rattle.ps_token.specs.Types.{Key as KeyData};
 ghost use Rattle.serde_json.specs.View.{view, items_view};
 ghost use Rattle.ps_token.specs.declared.faults.KeysFault.TheVariants.{BadShape};
 ghost use Rattle.ps_token.specs.Members.{ReadsKeys, or_fault};
-ghost use Rattle.ps_token.specs.KeyFiles.{text_at, is_oct_key, oct_key, distinct_keys, one_more, keys_in, keys_from, keys_of_file};
+ghost use Rattle.ps_token.specs.KeyFiles.{text_at, is_oct_key, oct_key, distinct_keys, one_more, keys_in, keys_from, keys_of_file, IsKeyFile};
 
 use crate::parts::decoded;
 use crate::{Key, Keys, KeysFault};
@@ -12,8 +13,19 @@ use std::alloc::Global;
 
 /// Reads a key file (RFC 7517): docs/FORMATS.md, "Keys". Keys of another type than `oct` are passed over.
 /// Fails with `BadJson` where the bytes hold no JSON value, and else with `BadShape` where they are no key file.
-#[tactic(auto, unfolding(crate::specs::KeyFiles::keys_of_file))]
 pub fn read_keys(alloc: Global, bytes: &[u8]) -> Result<Keys, KeysFault>
+    // What is read is a key file of these keys.
+    ensures found { IfOk result (λ read. IsKeyFile bytes.now read) }
+    // A key file is read, unless memory runs out.
+    ensures only { (meant : List KeyData) → IsKeyFile bytes.now meant → ReadsKeys result (Ok meant) }
+    // Which fault is the first.
+    ensures exact { ReadsKeys result (keys_of_file bytes.now) }
+{
+    read_file(alloc, bytes)
+}
+
+#[tactic(auto, unfolding(crate::specs::KeyFiles::keys_of_file))]
+fn read_file(alloc: Global, bytes: &[u8]) -> Result<Keys, KeysFault>
     ensures { ReadsKeys result (keys_of_file bytes.now) }
 {
     match read_json(alloc, bytes)? {

@@ -83,6 +83,13 @@ impl Keys {
         self.keys.get(*place)
     }
 
+    /// A law: no kid stands twice.
+    pub(crate) fn kids_are_distinct(&self)
+        ensures { HaveDistinctKids self.now }
+    {
+        let _keys = self.as_slice();
+    }
+
     /// The key that a header names by its kid: where it has none, the only key.
     pub(crate) fn named(&self, kid: &Option<Text>) -> Option<&Key>
         ensures { option_copied result ≡ key_named kid.now self.now }

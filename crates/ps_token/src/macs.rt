@@ -9,6 +9,7 @@ const BLOCK: usize = 64;
 
 // RFC 2104, section 2: the bytes of the inner and of the outer pad.
 const INNER: u8 = 0x36;
+
 const OUTER: u8 = 0x5c;
 
 /// The message authentication code HMAC (RFC 2104) with SHA-256 of a message under a key. A key longer than a block of 64 bytes is

@@ -1,4 +1,4 @@
-ghost use Rattle.std.specs.Prelude.{◌≡◌, ◌+◌, length, IfOk, IfSome, option_map, string_bytes};
+ghost use Rattle.std.specs.Prelude.{◌≡◌, ◌+◌, Some, length, IfOk, IfSome, option_map, string_bytes};
 ghost use Rattle.ps_token.specs.Parts.{part_of, bytes_of, cut as cut_at_dot};
 ghost use Rattle.ps_token.specs.Seen.{IsSplit};
 
@@ -21,9 +21,10 @@ pub(crate) struct Parts<'a> {
 }
 
 /// The base64url text of bytes, without padding.
-#[tactic(auto, unfolding(crate::specs::Parts::part_of))]
+#[tactic(auto, unfolding(crate::specs::Parts::part_of, crate::specs::Parts::bytes_of))]
 pub(crate) fn encoded(alloc: Global, bytes: &[u8]) -> Result<String, Memory>
-    ensures { IfOk result (λ text. string_bytes text ≡ part_of bytes.now) }
+    ensures text { IfOk result (λ text. string_bytes text ≡ part_of bytes.now) }
+    ensures back { IfOk result (λ _. bytes_of (part_of bytes.now) ≡ Some bytes.now) }
 {
     Ok(URL_SAFE_NO_PAD.encode(alloc, bytes)?)
 }

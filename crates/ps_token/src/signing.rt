@@ -1,12 +1,16 @@
-ghost use Rattle.std.specs.Prelude.{◌≡◌, IfOk, string_bytes};
+ghost use Rattle.std.specs.Prelude.{◌≡◌, ◌<◌, ℕ, Some, IfOk, string_bytes};
 ghost use Rattle.serde_json.specs.View.{view};
+ghost use Rattle.ps_values.specs.Documents.{json_of};
+ghost use Rattle.ps_token.specs.Accepted.{Claimed};
+ghost use Rattle.ps_token.specs.Macs.{hmac};
 ghost use Rattle.ps_token.specs.Members.{Signs};
-ghost use Rattle.ps_token.specs.Tokens.{header_json, header_text as text_of_header, signed_token, token_of};
+ghost use Rattle.ps_token.specs.Tokens.{header_json, header_text as text_of_header, unsigned_token, signed_token, token_of, accepts, IsReadAgain};
+ghost use Rattle.ps_token.specs.Types.{Claims as ClaimsData};
 
 use crate::macs::mac;
 use crate::parts::encoded;
 use crate::{Key, Keys, SignFault};
-use ps_values::{Memory, Text, text_of_json};
+use ps_values::{Memory, Text};
 use serde_json::{Value as Json, json};
 use std::alloc::Global;
 
@@ -14,12 +18,18 @@ use std::alloc::Global;
 /// and the payload stands in it as it is given. Fails with `UnknownKey` exactly where no key has that kid.
 #[tactic(auto, unfolding(crate::specs::Tokens::token_of))]
 pub fn sign(alloc: Global, keys: &Keys, kid: &Text, payload: &Text) -> Result<Text, SignFault>
-    ensures { Signs result (token_of keys.now kid.now payload.now) }
+    // Exactly that token, or the refusal.
+    ensures exact { Signs result (token_of keys.now kid.now payload.now) }
+    // Under the same keys it is accepted at each second before its expiry, where the payload has one and a subject.
+    ensures accepted { IfOk result (λ token. (claims : ClaimsData) (now : ℕ) → Claimed payload.now claims → now < claims.exp
+        → accepts keys.now token now ≡ Ok claims) }
 {
-    match keys.find(kid) {
-        Some(key) => Ok(signed(alloc, key, kid, payload)?),
-        None => Err(SignFault::UnknownKey),
-    }
+    let Some(key) = keys.find(kid) else {
+        return Err(SignFault::UnknownKey);
+    };
+    keys.kids_are_distinct();
+    let token = signed(alloc, key, kid, payload)?;
+    Ok(token)
 }
 
 // The header of a token that is signed with the key of a kid.
@@ -30,25 +40,28 @@ fn header_of(alloc: Global, kid: &Text) -> Result<Json, Memory>
     Ok(json!(in alloc; {"alg": "HS256", "kid": kid, "typ": "JWT"})?)
 }
 
-#[tactic(auto, unfolding(crate::specs::Tokens::header_text))]
-fn header_text(alloc: Global, kid: &Text) -> Result<Text, Memory>
-    ensures { IfOk result (λ text. text ≡ text_of_header kid.now) }
+fn header_text(alloc: Global, kid: &Text) -> Result<String, Memory>
+    ensures text { IfOk result (λ text. string_bytes text ≡ text_of_header kid.now) }
+    ensures read_again { IfOk result (λ text. json_of (string_bytes text) ≡ Some (header_json kid.now)) }
 {
     let header = header_of(alloc, kid)?;
-    let text = text_of_json(alloc, &header)?;
+    let text = header.to_string(alloc)?;
     Ok(text)
 }
 
 // A payload with its header, signed with a key.
 fn signed(alloc: Global, key: &Key, kid: &Text, payload: &Text) -> Result<Text, Memory>
-    ensures { IfOk result (λ token. token ≡ signed_token key.now kid.now payload.now) }
+    ensures text { IfOk result (λ token. token ≡ signed_token key.now kid.now payload.now) }
+    ensures read_again { IfOk result (λ _. IsReadAgain kid.now payload.now (hmac key.now.bytes (unsigned_token kid.now payload.now))) }
 {
     let header = header_text(alloc, kid)?;
-    let mut token = encoded(alloc, header.bytes())?;
+    let mut token = encoded(alloc, header.as_bytes())?;
+    let content = encoded(alloc, payload.bytes())?;
     token.push_str(".")?;
-    token.push_str(encoded(alloc, payload.bytes())?.as_str())?;
+    token.push_str(content.as_str())?;
     let code = mac(key.bytes.as_slice(), token.as_bytes());
+    let signature = encoded(alloc, &code)?;
     token.push_str(".")?;
-    token.push_str(encoded(alloc, &code)?.as_str())?;
+    token.push_str(signature.as_str())?;
     Ok(Text::from_string(token))
 }

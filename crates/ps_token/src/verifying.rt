@@ -17,8 +17,20 @@ use std::alloc::Global;
 /// Verifies a token (RFC 7519, signed as RFC 7515 says with HS256) at a second that is counted from the beginning of 1970:
 /// docs/FORMATS.md, "Tokens". Answers what it says, where it is signed with a key of the list and its `exp` is not reached.
 /// Fails by the first that applies: `Malformed`, `UnknownKey`, `BadSignature`, `Expired`, `NoSubject`.
-#[tactic(auto, unfolding(crate::specs::Tokens::accepts))]
 pub fn verify(alloc: Global, keys: &Keys, token: &[u8], now: u64) -> Result<Claims, TokenFault>
+    // What is accepted is signed with a key of the list, not expired, and has a subject.
+    ensures found { IfOk result (λ claims. IsAccepted keys.now token.now now claims) }
+    // Such a token is accepted, unless memory runs out.
+    ensures only { (claims : ClaimsData) → IsAccepted keys.now token.now now claims → Verifies result (Ok claims) }
+    // Which refusal is the first.
+    ensures exact { Verifies result (accepts keys.now token.now now) }
+{
+    keys.kids_are_distinct();
+    verify_token(alloc, keys, token, now)
+}
+
+#[tactic(auto, unfolding(crate::specs::Tokens::accepts))]
+fn verify_token(alloc: Global, keys: &Keys, token: &[u8], now: u64) -> Result<Claims, TokenFault>
     ensures { Verifies result (accepts keys.now token.now now) }
 {
     match parts_of(token) {
@@ -27,7 +39,12 @@ pub fn verify(alloc: Global, keys: &Keys, token: &[u8], now: u64) -> Result<Clai
     }
 }
 
-fn verify_parts(alloc: Global, keys: &Keys, parts: Parts<'_>, now: u64) -> Result<Claims, TokenFault>
+fn verify_parts(
+    alloc: Global,
+    keys: &Keys,
+    parts: Parts<'_>,
+    now: u64,
+) -> Result<Claims, TokenFault>
     requires { parts.signed.now ≡ signed_of (seen parts) }
     ensures { Verifies result (accepts_parts keys.now (seen parts.entry) now) }
 {
