@@ -1,5 +1,5 @@
 -- The laws between what is read and what is spelled, at an answer.
-use Rattle.std.proofs.Common.{◌≡◌, ℕ, List, Result, Ok, Err, IfOk, subst}
+use Rattle.std.proofs.Common.{ℕ, List, Result, Ok, Err, IfOk, subst}
 use Rattle.base64.specs.GeneralPurpose.{IsBytes}
 use Rattle.ps_token.specs.Types.{Key, KeysFault, Claims, TokenFault}
 use Rattle.ps_token.specs.Members.{ReadsKeys, Verifies}

@@ -1,17 +1,14 @@
 -- Key files: what is read is spelled so by the grammar, and what it spells is read.
-use Rattle.std.proofs.Common.{◌≡◌, ◌≢◌, ℕ, Bool, true, false, cond, List, [], ◌∷◌, ◌++◌, codes, Option, Some, None, Result, Ok, Err, bytes_eq, refl, sym, ap, ◌∙◌, subst}
+use Rattle.std.proofs.Common.{◌≡◌, ℕ, Bool, true, false, cond, List, [], ◌∷◌, ◌++◌, codes, Option, Some, None, Ok, bytes_eq, refl, sym, ap, ◌∙◌, subst}
 use Rattle.std.specs.Prelude.{option_map, option_and_then}
 use Rattle.std.proofs.lemmas.Slice.Eq.{bytes_eq-Decides}
 use Rattle.serde_json.specs.Data.{Data as Json, null, boolean, number, string, array, object, Items, no_items, item}
 use Rattle.serde_json.specs.Find.{get, as_str, as_array}
 use Rattle.ps_values.specs.Documents.{json_of}
 use Rattle.ps_token.specs.declared.key_lists.Key.{Key}
-use Rattle.ps_token.specs.declared.faults.KeysFault.{KeysFault}
-use Rattle.ps_token.specs.declared.faults.KeysFault.TheVariants.{BadShape}
-use Rattle.ps_token.specs.Members.{or_fault}
 use Rattle.ps_token.specs.KeyLists.{are_distinct}
 use Rattle.ps_token.specs.Parts.{bytes_of}
-use Rattle.ps_token.specs.KeyFiles.{Has, text_at, is_oct_key, oct_key, key_in, keys_of, distinct_keys, keys_from, keys_in, keys_of_json, keys_of_file, IsKey, IsOther, AreKeys, no_keys, with_key, passed_over, IsKeyFile}
+use Rattle.ps_token.specs.KeyFiles.{text_at, is_oct_key, oct_key, key_in, keys_of, distinct_keys, keys_from, keys_in, keys_of_json, keys_of_file, IsKey, IsOther, AreKeys, no_keys, with_key, passed_over, IsKeyFile}
 use Rattle.ps_token.proofs.KeyLaws.{distinct_kids, kids_distinct}
 use Rattle.ps_token.proofs.Entries.{read, kept}
 

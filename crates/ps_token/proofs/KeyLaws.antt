@@ -1,12 +1,12 @@
 -- Keys, one more behind them.
-use Rattle.std.proofs.Common.{◌≡◌, ◌≢◌, ℕ, zero, suc, ◌+◌, ◌<◌, ◌≤◌, Bool, true, false, cond, List, [], ◌∷◌, ◌++◌, length, get_or, Option, Some, None, bytes_eq, nat_cmp, refl, sym, ap, ◌∙◌, arith}
+use Rattle.std.proofs.Common.{◌≡◌, ◌≢◌, ℕ, zero, suc, ◌<◌, Bool, true, false, cond, List, [], ◌∷◌, ◌++◌, length, get_or, Option, Some, None, bytes_eq, nat_cmp, refl, sym, ap, ◌∙◌, arith}
 use Rattle.std.specs.Prelude.{not, ◌&&◌, is_some, option_map, option_and_then, slice_get, Contains}
 use Rattle.std.specs.Cmp.Lexicographic.{slice_cmp, nat_list_eq_equiv}
 use Rattle.std.specs.BTreeMap.{BTreeMap, get, Updates}
 use Rattle.std.proofs.lemmas.Map.Text.{is_eq-slice_cmp}
 use Rattle.std.proofs.lemmas.Slice.Eq.{bytes_eq-Decides}
 use Rattle.ps_token.specs.declared.key_lists.Key.{Key}
-use Rattle.ps_token.specs.KeyLists.{has_kid, key_of, place_of, are_distinct, HaveDistinctKids, Finds, AreIndexed}
+use Rattle.ps_token.specs.KeyLists.{has_kid, key_of, place_of, are_distinct, HaveDistinctKids, AreIndexed}
 
 -- the key at the place of a kid
 pub at_place : (kid : List ℕ) (keys : List Key) → option_and_then (slice_get keys) (place_of kid keys) ≡ key_of kid keys

@@ -1,9 +1,9 @@
 -- Tokens: what is accepted is signed, fresh and has a subject, and what is so is accepted.
-use Rattle.std.proofs.Common.{◌≡◌, ◌≢◌, ℕ, ◌<◌, Bool, true, false, List, [], ◌∷◌, ◌++◌, codes, Option, Some, None, Result, Ok, Err, bytes_eq, refl, sym, ap, ◌∙◌, arith, append_assoc, subst, lt-ltb}
-use Rattle.std.specs.Prelude.{nat_lt, option_map, option_and_then, Contains}
+use Rattle.std.proofs.Common.{◌≡◌, ℕ, ◌<◌, Bool, true, false, List, [], ◌∷◌, codes, Option, Some, None, Result, Ok, Err, bytes_eq, refl, sym, ap, ◌∙◌, append_assoc, subst, lt-ltb}
+use Rattle.std.specs.Prelude.{nat_lt, option_and_then}
 use Rattle.std.proofs.lemmas.Bool.{ltb-true}
 use Rattle.std.proofs.lemmas.Slice.Eq.{bytes_eq-Decides}
-use Rattle.serde_json.specs.Data.{Data as Json, null, boolean, number, string, array, object, Num, unsigned, negative, float}
+use Rattle.serde_json.specs.Data.{Data as Json, null, boolean, number, string, array, object, unsigned, negative, float}
 use Rattle.serde_json.specs.Find.{get, as_str, as_number, as_u64}
 use Rattle.serde_json.specs.Written.{compact_text}
 use Rattle.base64.specs.GeneralPurpose.{IsBytes}
@@ -15,12 +15,11 @@ use Rattle.ps_token.specs.declared.faults.TokenFault.{TokenFault}
 use Rattle.ps_token.specs.declared.faults.TokenFault.TheVariants.{Malformed, UnknownKey, BadSignature, Expired, NoSubject}
 use Rattle.ps_token.specs.Macs.{hmac}
 use Rattle.ps_token.specs.Members.{◌>>=◌, or_fault, holds}
-use Rattle.ps_token.specs.KeyFiles.{Has}
 use Rattle.ps_token.specs.KeyLists.{key_of, only_key, key_named, HaveDistinctKids}
-use Rattle.ps_token.specs.Parts.{Parts, part_of, bytes_of, joined, cut, parts_of, signed_of}
+use Rattle.ps_token.specs.Parts.{Parts, part_of, bytes_of, joined, parts_of, signed_of}
 use Rattle.ps_token.specs.Payloads.{json_of_part, is_text, kid_in, kid_of, exp_of, claims_of}
 use Rattle.ps_token.specs.Tokens.{in_time, accepts_parts, accepts, header_json, header_text, unsigned_token, signed_token, IsReadAgain}
-use Rattle.ps_token.specs.Accepted.{Names, IsHeader, IsPart, IsSigned, Claimed, IsAccepted}
+use Rattle.ps_token.specs.Accepted.{Names, IsHeader, IsSigned, Claimed, IsAccepted}
 use Rattle.ps_token.proofs.KeyLaws.{key_found, key_only}
 use Rattle.ps_token.proofs.KeyFiles.{text_there}
 use Rattle.ps_token.proofs.Cuts.{no_dots, cut_at, parts_are, parts_spelled}

@@ -1,6 +1,6 @@
 -- What the header and the payload of a token say: docs/FORMATS.md, "Tokens".
-use Rattle.std.specs.Prelude.{ℕ, Bool, true, false, if◌then◌else◌, List, codes, bytes_eq, Option, Some, None, option_and_then, option_map, Result, Ok, Err}
-use Rattle.serde_json.specs.Data.{Data as Json, string}
+use Rattle.std.specs.Prelude.{ℕ, Bool, false, List, codes, bytes_eq, Option, Some, None, option_and_then, Result, Ok}
+use Rattle.serde_json.specs.Data.{Data as Json}
 use Rattle.serde_json.specs.Find.{get, as_str, as_number, as_u64}
 use Rattle.serde_json.specs.Written.{compact_text}
 use Rattle.ps_values.specs.Conversions.{plain_of}

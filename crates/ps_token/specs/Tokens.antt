@@ -1,5 +1,5 @@
 -- Which tokens are accepted, which refusal is the first, and which token is signed.
-use Rattle.std.specs.Prelude.{◌≡◌, ℕ, nat_lt, List, [], ◌∷◌, codes, bytes_eq, Option, Some, None, Result, Ok, Err}
+use Rattle.std.specs.Prelude.{◌≡◌, ℕ, nat_lt, List, codes, bytes_eq, Some, Result, Ok}
 use Rattle.serde_json.specs.Data.{Data as Json, string, object, no_members, member}
 use Rattle.serde_json.specs.Written.{compact_text}
 use Rattle.ps_values.specs.Documents.{json_of}

@@ -1,4 +1,4 @@
-use Rattle.std.proofs.Common.{◌<◌, ◌≤◌, length, refl, arith}
+use Rattle.std.proofs.Common.{refl, arith}
 use Rattle.ps_token.proofs.Bytes.{same_more, same_all}
 use Rattle.ps_token.proofs.macs.same_code.Goals as goal
 
