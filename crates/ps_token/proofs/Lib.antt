@@ -1,0 +1,9 @@
+pub mod Bytes
+pub mod KeyLaws
+pub mod Entries
+pub mod Cuts
+pub mod Alphabet
+pub mod Headers
+pub mod KeyFiles
+pub mod Tokens
+pub mod Answering

@@ -1,0 +1,10 @@
+pub mod Types
+pub mod Members
+pub mod Macs
+pub mod KeyLists
+pub mod KeyFiles
+pub mod Parts
+pub mod Seen
+pub mod Payloads
+pub mod Tokens
+pub mod Accepted
