@@ -5,6 +5,7 @@ pub mod Laws
 pub mod Meeting
 pub mod Names
 pub mod Reading
+pub mod Refusals
 pub mod RuleSets
 pub mod Shapes
 pub mod Types

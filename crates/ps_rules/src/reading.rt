@@ -2,6 +2,7 @@ ghost use Rattle.std.specs.Prelude.{◌≡◌, ℕ, ◌<◌, ◌+◌, length, If
 ghost use Rattle.ps_yaml.specs.Trees.{document_of};
 ghost use Rattle.ps_rules.specs.Faults.{Reads, yaml};
 ghost use Rattle.ps_rules.specs.Reading.{rules_from, rules_of, rules_in, no_rules};
+ghost use Rattle.ps_rules.specs.Refusals.{RefusesOtherBytes};
 ghost use Rattle.ps_rules.specs.RuleSets.{AreDrafts};
 
 use crate::checks::check;
@@ -24,7 +25,8 @@ fn numbered(before: u32, count: usize) -> Option<u32>
 // The document of a text.
 fn document(alloc: Global, bytes: &[u8]) -> Result<Node, RulesFault>
     requires { length bytes.now < 4294967295 }
-    ensures { Reads result (yaml (document_of bytes.now)) }
+    ensures exact { Reads result (yaml (document_of bytes.now)) }
+    ensures other_bytes { RefusesOtherBytes bytes.now result }
 {
     match read_yaml(alloc, bytes) {
         Ok(node) => Ok(node),
@@ -88,6 +90,8 @@ fn check_all(alloc: Global, drafts: Items<Draft>) -> Result<Rules, RulesFault>
 pub fn read_rules(alloc: Global, bytes: &[u8]) -> Result<Rules, RulesFault>
     requires { length bytes.now < 4294967295 }
     ensures exact { Reads result (rules_in bytes.now) }
+    // Bytes that are no text are refused before any memory is asked for.
+    ensures other_bytes { RefusesOtherBytes bytes.now result }
 {
     let node = document(alloc, bytes)?;
     let drafts = drafts_in(alloc, node)?;
