@@ -1,6 +1,7 @@
 -- Which states are sound.
 use Rattle.std.specs.Prelude.{◌≢◌, ℕ, ◌≤◌, Bool, ◌&&◌, List, [], map, IfSome, bytes_eq}
 use Rattle.std.specs.List.{All, IsDistinct}
+pub use Rattle.ps_values.specs.Numbers.{greatest}
 use Rattle.ps_bucket_log.specs.declared.ops.Key.{Key}
 use Rattle.ps_bucket_log.specs.Ops.{id_of, same_key}
 use Rattle.ps_bucket_log.specs.Buckets.{Bucket}
@@ -9,10 +10,6 @@ use Rattle.ps_client_log.specs.declared.states.State.{State}
 use Rattle.ps_client_log.specs.declared.states.Target.{Target}
 use Rattle.ps_client_log.specs.declared.states.Target.TheVariants.{Free, Pending, Number}
 use Rattle.ps_client_log.specs.Kept.{Kept, kept_of}
-
--- the greatest id, position and number
-abbrev pub greatest : ℕ
-greatest = 9223372036854775807
 
 -- two rows of one kind and one id
 abbrev pub same_row : Shown → Shown → Bool
