@@ -1,3 +1,5 @@
 pub mod Contents
 pub mod Counts
 pub mod Memory
+pub mod MemorySources
+pub mod Sources

@@ -18,14 +18,14 @@ pub struct MemoryFile {
 
 // The calls that are to fail, by their numbers from 1, and how many calls there were.
 #[derive(Debug, Drop)]
-struct Calls {
+pub(crate) struct Calls {
     failing: Items<u64>,
     made: u64,
-    faults: u64,
+    pub(crate) faults: u64,
 }
 
 impl Calls {
-    fn new(failing: Items<u64>) -> Calls
+    pub(crate) fn new(failing: Items<u64>) -> Calls
         ensures begins { Begins failing result }
         ensures faults { result.faults ≡ 0 }
     {
@@ -37,7 +37,7 @@ impl Calls {
     }
 
     // Counts a call, and says whether it fails.
-    fn next_fails(&mut self) -> bool
+    pub(crate) fn next_fails(&mut self) -> bool
         ensures fails { result ≡ fails_next self.old }
         ensures counts { IsCounted self.old self.new }
         ensures faults { self.new.faults ≡ self.old.faults }
