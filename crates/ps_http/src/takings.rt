@@ -1,0 +1,111 @@
+ghost use Rattle.std.specs.Prelude.{◌≡◌, ◌≤◌};
+ghost use Rattle.httparse.specs.Grammar.{HasNoRequest};
+ghost use Rattle.ps_http.specs.Heads.{Reads};
+ghost use Rattle.ps_http.specs.Takings.{is_newline as is_line_byte, IsNext, IsJudged, IsRefused, ends_empty};
+
+use crate::parts::read_parts;
+use crate::{FIELD_LIMIT, HEAD_LIMIT, Head, HeadFault};
+use httparse::spans::{EMPTY_HEADER_SPAN, parse_request};
+use httparse::{Error, Status};
+use ps_io::Source;
+use std::alloc::Global;
+
+// What a source gives next.
+#[derive(Clone, Copy, Debug)]
+pub(crate) enum Next {
+    Byte(u8),
+    End,
+    Fault,
+}
+
+// The next byte of a source.
+fn next_byte<S: Source>(from: &mut S) -> Next
+    ensures next { IsNext (S.input from.old) (S.input from.new) (S.faults from.old) (S.faults from.new) result }
+    ensures faults { S.faults from.old ≤ S.faults from.new }
+    ensures number { S.number from.new ≡ S.number from.old }
+{
+    let mut one = [0u8; 1];
+    match from.read(&mut one) {
+        Ok(0) => Next::End,
+        Ok(_) => Next::Byte(one[0]),
+        Err(_) => Next::Fault,
+    }
+}
+
+// Whether a byte ends a line, or stands before one that does.
+fn is_newline(byte: u8) -> bool
+    ensures { result ≡ is_line_byte byte }
+{
+    byte == b'\r' || byte == b'\n'
+}
+
+// Whether the bytes end in an empty line.
+fn ends_empty_line(bytes: &[u8]) -> bool
+    ensures { result ≡ ends_empty bytes.now }
+{
+    bytes.ends_with(b"\n\n") || bytes.ends_with(b"\n\r\n")
+}
+
+// What the bytes are that may be a whole head.
+fn judge(alloc: Global, bytes: &[u8]) -> Result<Option<Head>, HeadFault>
+    ensures { IsJudged bytes.now result }
+{
+    let mut headers = [EMPTY_HEADER_SPAN; FIELD_LIMIT];
+    match parse_request(bytes, &mut headers) {
+        Ok(Status::Complete(spans)) => {
+            let method = spans.method.of(bytes);
+            let target = spans.path.of(bytes);
+            Ok(Some(read_parts(
+                alloc,
+                method,
+                target,
+                bytes,
+                &headers[..spans.headers],
+            )?))
+        }
+        Ok(Status::Partial) => Ok(None),
+        Err(_) => Err(HeadFault::BadHead),
+    }
+}
+
+// Why no head was read: that the bytes begin none, or else the other fault.
+fn refusal(bytes: &[u8], otherwise: HeadFault) -> HeadFault
+    requires { HasNoRequest bytes.now }
+    ensures { IsRefused bytes.now otherwise result }
+{
+    let mut headers = [EMPTY_HEADER_SPAN; FIELD_LIMIT];
+    match parse_request(bytes, &mut headers) {
+        Ok(_) => otherwise,
+        Err(_) => HeadFault::BadHead,
+    }
+}
+
+/// Reads the head of a request, and takes exactly its bytes from the source, one at a time.
+///
+/// After every answer, want of memory among them, the source has handed out a first part of what was left, of at most
+/// 16,384 bytes. A head that is cut, too long or broken off by a fault is `BadHead` where what was taken can be no head.
+/// Empty lines before the first line are skipped (RFC 9112, section 2.2).
+pub fn read_head<S: Source>(alloc: Global, from: &mut S) -> Result<Head, HeadFault>
+    ensures answer { Reads (S.input from.old) (S.input from.new) (S.faults from.old) (S.faults from.new) result }
+    ensures faults { S.faults from.old ≤ S.faults from.new }
+    ensures number { S.number from.new ≡ S.number from.old }
+{
+    let mut taken = Vec::new(alloc);
+    let mut started = false;
+    'bytes: for _ in 0..HEAD_LIMIT {
+        let byte = match next_byte(from) {
+            Next::Byte(byte) => byte,
+            Next::End => return Err(refusal(taken.as_slice(), HeadFault::CutShort)),
+            Next::Fault => return Err(refusal(taken.as_slice(), HeadFault::ReadFault)),
+        };
+        taken.push(byte)?;
+        started = started || !is_newline(byte);
+        if !started || !ends_empty_line(taken.as_slice()) {
+            continue;
+        }
+        if let Some(head) = judge(alloc, taken.as_slice())? {
+            return Ok(head);
+        }
+    }
+    Err(refusal(taken.as_slice(), HeadFault::HeadTooLong))
+}
