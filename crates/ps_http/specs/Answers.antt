@@ -25,16 +25,30 @@ status_line status =
 abbrev pub is_status : ℕ → Bool
 is_status status = is_some (status_line status)
 
--- the fields that say what the body is: a stream's lines, or so many bytes, which only an answer of status 200 has
-abbrev pub body_fields : ℕ → Option ℕ → List ℕ
-body_fields status None = codes "Content-Type: application/x-ndjson" ++ line_end
-body_fields status (Some count) =
-    (if status == 200 then codes "Content-Type: application/json" ++ line_end else [])
-    ++ (codes "Content-Length: " ++ decimal count ++ line_end)
+-- the line that says how long the body is
+unfoldable pub length_line : ℕ → List ℕ
+length_line count = codes "Content-Length: " ++ (decimal count ++ line_end)
 
--- the lines of the head, each with its end, and the empty line
+-- the line that says that the body is lines of JSON
+unfoldable pub stream_line : List ℕ
+stream_line = codes "Content-Type: application/x-ndjson" ++ line_end
+
+-- the line that says that the body is JSON
+unfoldable pub json_line : List ℕ
+json_line = codes "Content-Type: application/json" ++ line_end
+
+-- the lines that say what the body is: a stream, or so many bytes, which are JSON where the status is 200
+abbrev pub body_fields : ℕ → Option ℕ → List ℕ
+body_fields status None = stream_line
+body_fields status (Some count) = if status == 200 then json_line ++ length_line count else length_line count
+
+-- the line that says that no other request is read on the connection, and the empty line
+unfoldable pub last_lines : List ℕ
+last_lines = codes "Connection: close" ++ line_end ++ line_end
+
+-- the first line with its end, the lines that say what the body is, and the last lines
 unfoldable pub head_text : List ℕ → List ℕ → List ℕ
-head_text first fields = first ++ line_end ++ fields ++ codes "Connection: close" ++ line_end ++ line_end
+head_text first fields = first ++ line_end ++ fields ++ last_lines
 
 -- the head of an answer with that status
 abbrev pub answer_head : ℕ → Option ℕ → Option (List ℕ)

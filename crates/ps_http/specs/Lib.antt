@@ -2,6 +2,7 @@ pub mod Answers
 pub mod Bodies
 pub mod Fields
 pub mod Heads
+pub mod Numbers
 pub mod Parts
 pub mod Queries
 pub mod Takings

@@ -1,0 +1,3 @@
+pub mod Givings
+pub mod Pairs
+pub mod Digits
