@@ -1,7 +1,8 @@
 -- Where a head ends: behind an empty line, and only where a byte stands that is no part of a line end.
 use Rattle.std.proofs.Common.{◌≡◌, ℕ, ◌-◌, ◌<◌, Bool, true, false, List, [], ◌∷◌, ◌++◌, length, take, drop, All, refl, sym, ap, subst, ◌∙◌, arith, append_assoc, length-append, inl, inr, ◌⊎◌, get_or}
 use Rattle.std.specs.Prelude.{◌||◌, nat_eq}
-use Rattle.std.specs.List.{ends_with, pointwise, flat_map}
+use Rattle.std.specs.List.{ends_with, flat_map}
+use Rattle.std.specs.Cmp.Lexicographic.{pointwise}
 use Rattle.std.proofs.lemmas.Bool.{true≢false}
 use Rattle.std.proofs.lemmas.List.{append-nil, take_at, drop_at, get_or_at}
 use Rattle.httparse.specs.Grammar.{LineEnd, crlf, lf, print_end, print_blank, print_version, print_section, print_field, print_request, Field, RequestHead, ReadsRequest, HasNoRequest}

@@ -1,4 +1,4 @@
-ghost use Rattle.std.specs.Prelude.{◌≡◌, ◌≤◌};
+ghost use Rattle.std.specs.Prelude.{◌≡◌, ◌≤◌, ◌||◌, ◌&&◌, not, [], ◌∷◌, ◌++◌, OnOk};
 ghost use Rattle.httparse.specs.Grammar.{HasNoRequest};
 ghost use Rattle.ps_http.specs.Heads.{Reads};
 ghost use Rattle.ps_http.specs.Takings.{is_newline as is_line_byte, IsNext, IsJudged, IsRefused, ends_empty};
@@ -8,6 +8,7 @@ use crate::{FIELD_LIMIT, HEAD_LIMIT, Head, HeadFault};
 use httparse::spans::{EMPTY_HEADER_SPAN, parse_request};
 use httparse::{Error, Status};
 use ps_io::Source;
+use ps_values::Memory;
 use std::alloc::Global;
 
 // What a source gives next.
@@ -39,11 +40,26 @@ fn is_newline(byte: u8) -> bool
     byte == b'\r' || byte == b'\n'
 }
 
-// Whether the bytes end in an empty line.
-fn ends_empty_line(bytes: &[u8]) -> bool
-    ensures { result ≡ ends_empty bytes.now }
+// Whether a byte that is no line end has come.
+fn has_started(started: bool, byte: u8) -> bool
+    ensures { result ≡ (started || not (is_line_byte byte)) }
 {
-    bytes.ends_with(b"\n\n") || bytes.ends_with(b"\n\r\n")
+    started || !is_newline(byte)
+}
+
+// Whether the bytes may be a whole head: they end in an empty line, and not all of them are line ends.
+fn may_end(started: bool, bytes: &[u8]) -> bool
+    ensures { result ≡ (started && ends_empty bytes.now) }
+{
+    started && (bytes.ends_with(b"\n\n") || bytes.ends_with(b"\n\r\n"))
+}
+
+// Puts a byte behind the others.
+fn push_byte(taken: &mut Vec<u8>, byte: u8) -> Result<(), Memory>
+    ensures { OnOk result (taken.new.items ≡ taken.old.items ++ byte ∷ []) }
+{
+    taken.push(byte)?;
+    Ok(())
 }
 
 // What the bytes are that may be a whole head.
@@ -98,13 +114,17 @@ pub fn read_head<S: Source>(alloc: Global, from: &mut S) -> Result<Head, HeadFau
             Next::End => return Err(refusal(taken.as_slice(), HeadFault::CutShort)),
             Next::Fault => return Err(refusal(taken.as_slice(), HeadFault::ReadFault)),
         };
-        taken.push(byte)?;
-        started = started || !is_newline(byte);
-        if !started || !ends_empty_line(taken.as_slice()) {
+        let Ok(()) = push_byte(&mut taken, byte) else {
+            return Err(HeadFault::Memory);
+        };
+        started = has_started(started, byte);
+        if !may_end(started, taken.as_slice()) {
             continue;
         }
-        if let Some(head) = judge(alloc, taken.as_slice())? {
-            return Ok(head);
+        match judge(alloc, taken.as_slice()) {
+            Ok(Some(head)) => return Ok(head),
+            Ok(None) => {}
+            Err(fault) => return Err(fault),
         }
     }
     Err(refusal(taken.as_slice(), HeadFault::HeadTooLong))

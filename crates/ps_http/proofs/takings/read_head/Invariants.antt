@@ -10,6 +10,7 @@ invariant-bytes g l = record {
   given : Gives (g.S.Source.input l.initial.from) (g.S.Source.input l.from) l.taken.items;
   none : HasNoRequest l.taken.items;
   blank : l.started ≡ false → All (λ byte. is_newline byte ≡ true) l.taken.items;
+  long : length l.taken.items ≡ l.counter;
   faults : g.S.Source.faults l.initial.from ≤ g.S.Source.faults l.from;
   number : g.S.Source.number l.from ≡ g.S.Source.number l.initial.from;
 }
