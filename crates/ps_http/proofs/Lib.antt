@@ -1,6 +1,4 @@
 pub mod Givings
 pub mod Pairs
 pub mod Digits
-pub mod Ends
 pub mod Fillings
-pub mod Steps
