@@ -54,7 +54,9 @@ fn number_of(digits: &[u8]) -> Option<u64>
         if !digit.is_ascii_digit() {
             return None;
         }
-        number = number.saturating_mul(10).saturating_add((*digit - b'0') as u64);
+        number = number
+            .saturating_mul(10)
+            .saturating_add((*digit - b'0') as u64);
     }
     Some(number)
 }

@@ -70,13 +70,7 @@ fn judge(alloc: Global, bytes: &[u8]) -> Result<Option<Head>, HeadFault>
         Ok(Status::Complete(spans)) => {
             let method = spans.method.of(bytes);
             let target = spans.path.of(bytes);
-            Ok(Some(read_parts(
-                alloc,
-                method,
-                target,
-                bytes,
-                &headers[..spans.headers],
-            )?))
+            Ok(Some(read_parts(alloc, method, target, bytes, &headers[..spans.headers])?))
         }
         Ok(Status::Partial) => Ok(None),
         Err(_) => Err(HeadFault::BadHead),

@@ -29,8 +29,8 @@ parts-preserved g c =
       within = omega (arith, c.parts.invariant.long);
       long = length-filled into c.read.new.into filled within part ∙ c.parts.invariant.long;
       given = subst (λ bytes. Gives (g.S.Source.input c.args.from.now) (g.S.Source.input c.read.new.self) bytes)
-        (sym (take-filled into c.read.new.into filled c.in-Ok.count within fits))
-        (Gives-append _ _ _ _ _ c.parts.invariant.given (c.in-Ok.ensures.next some));
+          (sym (take-filled into c.read.new.into filled c.in-Ok.count within fits))
+          (Gives-append _ _ _ _ _ c.parts.invariant.given (c.in-Ok.ensures.next some));
       faults = omega (arith, c.read.ensures.faults, c.parts.invariant.faults);
       number = c.read.ensures.number ∙ c.parts.invariant.number;
     }
