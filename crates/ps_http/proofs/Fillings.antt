@@ -1,6 +1,6 @@
 -- A buffer whose front is filled.
-use Rattle.std.proofs.Common.{◌≡◌, ℕ, ◌+◌, ◌-◌, ◌≤◌, List, ◌++◌, length, take, drop, sym, ap, ◌∙◌, arith, length-append, rules}
-use Rattle.std.proofs.lemmas.List.{take-append-le, length-take-le, length-drop, length-take, places}
+use Rattle.std.proofs.Common.{◌≡◌, ℕ, ◌+◌, ◌-◌, ◌≤◌, List, ◌++◌, length, take, sym, ap, ◌∙◌, rules}
+use Rattle.std.proofs.lemmas.List.{take-append-le, length-take-le, places}
 use Rattle.std.proofs.Math.Seq.{take-append-add}
 use borrow.Rule.Slice.PartMut.{put_mid, post_of}
 

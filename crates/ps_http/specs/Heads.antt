@@ -1,7 +1,7 @@
 -- The head of a request: what its bytes are, by the grammar of RFC 9112, and why bytes are refused.
-use Rattle.std.specs.Prelude.{◌≡◌, ◌⊎◌, ℕ, ◌≤◌, ◌==◌, Bool, true, List, [], length, map, Option, Some, None, Result, Ok, Err, IsUtf8, codes}
+use Rattle.std.specs.Prelude.{◌≡◌, ◌⊎◌, ℕ, ◌≤◌, ◌==◌, Bool, List, [], length, map, Option, Some, None, Result, Ok, Err, IsUtf8, codes}
 use Rattle.std.specs.List.{before_first, after_first}
-use Rattle.httparse.specs.Grammar.{Field, RequestHead, ReadsRequest, HasNoRequest, NeverHasRequest, MayBecomeRequest}
+use Rattle.httparse.specs.Grammar.{RequestHead, ReadsRequest, HasNoRequest, NeverHasRequest, MayBecomeRequest}
 use Rattle.httparse.specs.Spans.{RequestExceeds, name_and_value}
 use Rattle.ps_io.specs.Counts.{Rose}
 use Rattle.ps_io.specs.Sources.{Input, Gives, GivesAll}

@@ -1,5 +1,5 @@
 -- Each read adds to the front of the buffer what the source hands out.
-use Rattle.std.proofs.Common.{◌≡◌, ◌+◌, ◌-◌, ◌<◌, ◌≤◌, length, take, drop, arith, rules, sym, ap, subst, ◌∙◌}
+use Rattle.std.proofs.Common.{◌≡◌, ◌-◌, ◌<◌, ◌≤◌, length, take, drop, arith, sym, subst, ◌∙◌}
 use Rattle.std.proofs.lemmas.List.{length-take-le, length-take, length-drop}
 use Rattle.ps_io.specs.Sources.{Gives}
 use Rattle.ps_http.proofs.Givings.{Gives-append, GivesAll-append}

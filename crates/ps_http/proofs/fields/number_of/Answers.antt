@@ -1,10 +1,8 @@
 -- Each digit is put behind the number so far.
-use Rattle.std.proofs.Common.{◌≡◌, ◌∙◌, sym, ap, arith, rules, get_or, drop, true, false, length, ◌<◌, ◌+◌, ◌*◌, ◌-◌, ◌^◌, min, []}
+use Rattle.std.proofs.Common.{◌∙◌, sym, arith, rules, get_or, drop, ◌+◌}
 use Rattle.std.proofs.lemmas.List.{at_drop_more, at_drop_all}
 use Rattle.std.proofs.lemmas.Str.{digit_value_digit}
-use Rattle.std.proofs.lemmas.Grind.{common_steps}
 use Rattle.std.proofs.lemmas.Bool.Decides.{nat_tests}
-use Rattle.std.specs.Char.{is_ascii_digit, digit_value}
 use Rattle.ps_http.specs.Numbers.{number_after}
 use Rattle.ps_http.proofs.Digits.{number_of-empty, number_of-after, number_after-bad, number_after-more, number_after-none}
 use Rattle.ps_http.proofs.fields.number_of.Goals as goal

@@ -2,7 +2,6 @@
 use Rattle.std.proofs.Common.{◌≡◌, ◌∙◌, sym, ap, true, false, Some}
 use Rattle.std.specs.Prelude.{bytes_eq}
 use Rattle.std.specs.Cow.{cow_str_bytes}
-use Rattle.form_urlencoded.specs.Parse.{pairs_left}
 use Rattle.ps_http.proofs.Pairs.{value_of-found, value_of-passed}
 use Rattle.ps_http.proofs.queries.query_value.Goals as goal
 

@@ -1,5 +1,4 @@
-use Rattle.std.proofs.Common.{◌≡◌, ◌≤◌, length}
-use Rattle.form_urlencoded.specs.Form.{raw_pairs}
+use Rattle.std.proofs.Common.{◌≡◌}
 use Rattle.form_urlencoded.specs.Parse.{pairs_left}
 use Rattle.ps_http.specs.Queries.{value_of, query_value_of}
 use Rattle.ps_http.proofs.queries.query_value.Given as goal

@@ -1,7 +1,6 @@
 -- The head that the parser found is the one that is read.
-use Rattle.std.proofs.Common.{◌≡◌, ◌≤◌, ◌∙◌, sym, ap, arith, rules, length, drop, take, map}
+use Rattle.std.proofs.Common.{◌≤◌, ◌∙◌, sym, ap, arith, length, drop, take}
 use Rattle.std.proofs.lemmas.List.{length-map, length-take}
-use Rattle.std.proofs.lemmas.Grind.{common_steps}
 use Rattle.httparse.specs.Spans.{header_bytes, name_and_value}
 use Rattle.ps_http.proofs.takings.judge.Goals as goal
 
