@@ -1,0 +1,4 @@
+pub mod Givings
+pub mod Pairs
+pub mod Digits
+pub mod Fillings

@@ -1,0 +1,90 @@
+ghost use Rattle.std.specs.Prelude.{◌≡◌, ◌≤◌, ◌||◌, ◌&&◌, not, [], ◌∷◌, ◌++◌, OnOk};
+ghost use Rattle.httparse.specs.Grammar.{HasNoRequest};
+ghost use Rattle.ps_http.specs.Takings.{is_newline as is_line_byte, IsNext, IsJudged, IsRefused, ends_empty};
+
+use crate::parts::read_parts;
+use crate::{FIELD_LIMIT, Head, HeadFault};
+use httparse::spans::{EMPTY_HEADER_SPAN, parse_request};
+use httparse::{Error, Status};
+use ps_io::Source;
+use ps_values::Memory;
+use std::alloc::Global;
+
+// What a source gives next.
+#[derive(Clone, Copy, Debug)]
+pub(crate) enum Next {
+    Byte(u8),
+    End,
+    Fault,
+}
+
+// The next byte of a source.
+fn next_byte<S: Source>(from: &mut S) -> Next
+    ensures next { IsNext (S.input from.old) (S.input from.new) (S.faults from.old) (S.faults from.new) result }
+    ensures faults { S.faults from.old ≤ S.faults from.new }
+    ensures number { S.number from.new ≡ S.number from.old }
+{
+    let mut one = [0u8; 1];
+    match from.read(&mut one) {
+        Ok(0) => Next::End,
+        Ok(_) => Next::Byte(one[0]),
+        Err(_) => Next::Fault,
+    }
+}
+
+// Whether a byte ends a line, or stands before one that does.
+fn is_newline(byte: u8) -> bool
+    ensures { result ≡ is_line_byte byte }
+{
+    byte == b'\r' || byte == b'\n'
+}
+
+// Whether a byte that is no line end has come.
+fn has_started(started: bool, byte: u8) -> bool
+    ensures { result ≡ (started || not (is_line_byte byte)) }
+{
+    started || !is_newline(byte)
+}
+
+// Whether the bytes may be a whole head: they end in an empty line, and not all of them are line ends.
+fn may_end(started: bool, bytes: &[u8]) -> bool
+    ensures { result ≡ (started && ends_empty bytes.now) }
+{
+    started && (bytes.ends_with(b"\n\n") || bytes.ends_with(b"\n\r\n"))
+}
+
+// Puts a byte behind the others.
+fn push_byte(taken: &mut Vec<u8>, byte: u8) -> Result<(), Memory>
+    ensures { OnOk result (taken.new.items ≡ taken.old.items ++ byte ∷ []) }
+{
+    taken.push(byte)?;
+    Ok(())
+}
+
+// What the bytes are that may be a whole head.
+fn judge(alloc: Global, bytes: &[u8]) -> Result<Option<Head>, HeadFault>
+    ensures { IsJudged bytes.now result }
+{
+    let mut headers = [EMPTY_HEADER_SPAN; FIELD_LIMIT];
+    match parse_request(bytes, &mut headers) {
+        Ok(Status::Complete(spans)) => {
+            let method = spans.method.of(bytes);
+            let target = spans.path.of(bytes);
+            Ok(Some(read_parts(alloc, method, target, bytes, &headers[..spans.headers])?))
+        }
+        Ok(Status::Partial) => Ok(None),
+        Err(_) => Err(HeadFault::BadHead),
+    }
+}
+
+// Why no head was read: that the bytes begin none, or else the other fault.
+fn refusal(bytes: &[u8], otherwise: HeadFault) -> HeadFault
+    requires { HasNoRequest bytes.now }
+    ensures { IsRefused bytes.now otherwise result }
+{
+    let mut headers = [EMPTY_HEADER_SPAN; FIELD_LIMIT];
+    match parse_request(bytes, &mut headers) {
+        Ok(_) => otherwise,
+        Err(_) => HeadFault::BadHead,
+    }
+}
