@@ -1,0 +1,5 @@
+pub mod Steps
+pub mod Keys
+pub mod Kept
+pub mod Counts
+pub mod Twice
