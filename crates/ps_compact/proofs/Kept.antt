@@ -46,7 +46,7 @@ is_clear-moved_to : (target : Option OpId) (op : Op) → is_clear op ≡ false �
 is_clear-moved_to None op no_clear = no_clear
 is_clear-moved_to (Some target) op no_clear = refl
 
-has_clear-moved : (front back : List Op) → has_clear (front ++ back) ≡ false → has_clear (moved front ++ back) ≡ false
+pub has_clear-moved : (front back : List Op) → has_clear (front ++ back) ≡ false → has_clear (moved front ++ back) ≡ false
 has_clear-moved [] back no_clear = no_clear
 has_clear-moved (op ∷ ops) back no_clear =
     let parts = or_parts (is_clear op) (has_clear (ops ++ back)) no_clear in

@@ -3,3 +3,5 @@ pub mod Keys
 pub mod Kept
 pub mod Counts
 pub mod Twice
+pub mod Moving
+pub mod Clearing
