@@ -1,5 +1,5 @@
 -- A CLEAR in place of a front stands.
-use Rattle.std.proofs.Common.{◌≡◌, ◌≢◌, ℕ, zero, suc, ◌<◌, ◌≤◌, true, false, cond, ltb, leb, eqb, ◌&&◌, inl, inr, Option, Some, None, IfSome, List, [], ◌∷◌, ◌++◌, take, drop, length, fold, refl, sym, ap, subst, ◌∙◌, arith}
+use Rattle.std.proofs.Common.{◌≡◌, ℕ, zero, suc, ◌<◌, ◌≤◌, true, false, cond, ltb, leb, eqb, ◌&&◌, inl, inr, Option, Some, None, IfSome, List, [], ◌∷◌, ◌++◌, take, drop, length, fold, refl, sym, ap, subst, ◌∙◌, arith}
 use Rattle.std.proofs.lemmas.Bool.{cases_Bool, cases_lt, lt-ltb, le-ltb, lt-leb, le-leb, or_left, or_right, or_parts, or_from, and_right, eq-eqb}
 use Rattle.std.proofs.lemmas.List.{append-nil}
 use Rattle.std.specs.List.{AllZip, list_any}
@@ -12,7 +12,7 @@ use Rattle.ps_bucket_log.specs.Buckets.{Bucket, held_after, after, fresh, bucket
 use Rattle.ps_bucket_log.specs.Logs.{IsRising, AreEntries, IsLog, cleared, rest}
 use Rattle.ps_bucket_log.specs.Standing.{Matches, ClearStands, StandsFor, IsHonestUpTo}
 use Rattle.ps_bucket_log.specs.Laws.{StaysHonestUpTo, FreshIsHonest, StandsForItself, StandingIsLog, WithinLevel, SameSums, TotalIsSum, StandsAfter}
-use Rattle.ps_compact.specs.Compaction.{moved, front_count, target_past, clear_for, with_clear, compacted}
+use Rattle.ps_compact.specs.Compaction.{moved, front_count, target_past, clear_for, compacted}
 use Rattle.ps_compact.proofs.Kept.{past-rising, upto-rising, upto-past, IsLog-moved, front_count-within}
 use Rattle.ps_compact.proofs.Moving.{id_of-Matches, moved_stands}
 use Rattle.ps_compact.proofs.Twice.{place-take, AreUpto-front}

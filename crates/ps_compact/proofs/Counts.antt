@@ -1,7 +1,7 @@
 -- Counts of lists that were built from the end, and cuts at a count.
-use Rattle.std.proofs.Common.{◌≡◌, ℕ, ◌+◌, ◌≤◌, Bool, true, false, cond, inl, inr, Option, List, [], ◌∷◌, ◌++◌, take, drop, length, filter, is_some, reverse, refl, sym, ap, ◌∙◌, arith}
+use Rattle.std.proofs.Common.{◌≡◌, ℕ, ◌+◌, ◌≤◌, inl, inr, Option, List, [], ◌∷◌, ◌++◌, take, drop, length, filter, is_some, reverse, refl, sym, ap, ◌∙◌, arith}
 use Rattle.std.proofs.lemmas.Bool.{cases_lt, lt-leb, le-leb}
-use Rattle.std.proofs.lemmas.List.{reverse-append, reverse-reverse, length-append, take_at, drop_at}
+use Rattle.std.proofs.lemmas.List.{reverse-append, length-append, take_at, drop_at}
 use Rattle.std.proofs.lemmas.List.Elements.{filter-append}
 use Rattle.ps_values.specs.declared.ids.OpId.{OpId}
 use Rattle.ps_bucket_log.specs.declared.ops.Op.{Op}

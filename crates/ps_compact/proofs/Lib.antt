@@ -5,3 +5,4 @@ pub mod Counts
 pub mod Twice
 pub mod Moving
 pub mod Clearing
+pub mod Examples

@@ -1,5 +1,5 @@
 -- What is moved stands as what it was made of.
-use Rattle.std.proofs.Common.{◌≡◌, ℕ, ◌<◌, ◌≤◌, true, false, ltb, leb, eqb, ◌&&◌, inl, inr, Option, Some, None, List, [], ◌∷◌, ◌++◌, refl, sym, ap, subst, ◌∙◌, arith}
+use Rattle.std.proofs.Common.{◌≡◌, ℕ, ◌<◌, ◌≤◌, true, false, eqb, ◌&&◌, inl, inr, Option, Some, None, List, [], ◌∷◌, ◌++◌, refl, sym, ap, subst, ◌∙◌, arith}
 use Rattle.std.proofs.lemmas.Bool.{cases_Bool, cases_lt, lt-ltb, le-ltb, lt-leb, le-leb, or_left, or_right, or_parts, both_ways, eq-eqb}
 use Rattle.std.specs.List.{AllZip}
 use Rattle.ps_values.specs.declared.ids.OpId.{OpId}
@@ -7,7 +7,7 @@ use Rattle.ps_bucket_log.specs.declared.ops.Key.{Key}
 use Rattle.ps_bucket_log.specs.declared.ops.Op.{Op}
 use Rattle.ps_bucket_log.specs.declared.ops.Op.TheVariants.{Put, Remove, Move, Clear}
 use Rattle.ps_bucket_log.specs.Ops.{id_of, id_or_zero, is_entry, is_clear, is_of, same_key, has_clear, occurs_at, upto, past}
-use Rattle.ps_bucket_log.specs.Logs.{IsRising, AreEntries, IsLog}
+use Rattle.ps_bucket_log.specs.Logs.{IsRising}
 use Rattle.ps_bucket_log.specs.Standing.{IsMoveOf, Matches, ClearStands, FirstStands, StandsFor}
 use Rattle.ps_compact.specs.Compaction.{first_id, own_id, last_of, target_behind, moved_to, moved}
 use Rattle.ps_compact.proofs.Keys.{same_key-true}

@@ -1,5 +1,5 @@
 -- A second compaction changes nothing.
-use Rattle.std.proofs.Common.{◌≡◌, ℕ, zero, suc, ◌<◌, ◌≤◌, Bool, true, false, cond, ltb, leb, inl, inr, Option, Some, None, List, [], ◌∷◌, ◌++◌, take, drop, length, refl, sym, ap, ◌∙◌, arith}
+use Rattle.std.proofs.Common.{◌≡◌, ℕ, zero, suc, ◌≤◌, Bool, true, false, cond, ltb, leb, inl, inr, Option, Some, None, List, [], ◌∷◌, ◌++◌, take, drop, refl, sym, ap, ◌∙◌, arith}
 use Rattle.std.proofs.lemmas.Bool.{cases_Bool, cases_lt, lt-ltb, le-ltb, lt-leb, le-leb}
 use Rattle.std.proofs.lemmas.List.{append-nil}
 use Rattle.std.proofs.lemmas.List.Elements.{filter-append}
@@ -9,7 +9,6 @@ use Rattle.ps_bucket_log.specs.declared.ops.Key.{Key}
 use Rattle.ps_bucket_log.specs.declared.ops.Op.{Op}
 use Rattle.ps_bucket_log.specs.declared.ops.Op.TheVariants.{Put, Remove, Move, Clear}
 use Rattle.ps_bucket_log.specs.Ops.{id_of, is_put, is_of, same_key, upto, past, place_after}
-use Rattle.ps_bucket_log.specs.Logs.{IsLog}
 use Rattle.ps_compact.specs.Compaction.{first_id, own_id, last_of, target_behind, moved_to, moved, front_count, clear_for, with_clear, compacted}
 use Rattle.ps_compact.proofs.Keys.{same_key-true}
 use Rattle.ps_compact.proofs.Kept.{id_of-moved_to}

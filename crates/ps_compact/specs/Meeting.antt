@@ -1,5 +1,5 @@
 -- What was met of keys, from the newest operation on.
-use Rattle.std.specs.Prelude.{Option, None, List, ℕ}
+use Rattle.std.specs.Prelude.{Option, None}
 use Rattle.std.specs.declared.cmp.Ordering.{Ordering}
 use Rattle.std.specs.Ordering.{nat_cmp, ordering_then}
 use Rattle.std.specs.Cmp.Lexicographic.{slice_cmp}

@@ -105,7 +105,7 @@ pub fn cleared_len(ops: &[Op]) -> usize
     ensures { result ≡ cleared_count ops.now }
 {
     let count = front_len(ops);
-    if count < 2 { 0 } else { count }
+    if count > 1 { count } else { 0 }
 }
 
 // The operations, with a CLEAR in place of those before the first PUT, where these are two or more.

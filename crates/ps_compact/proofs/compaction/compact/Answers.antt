@@ -3,7 +3,7 @@ use Rattle.std.specs.Vec.{vec_len}
 use Rattle.ps_bucket_log.specs.declared.ops.Op.{Op}
 use Rattle.ps_bucket_log.specs.Ops.{upto}
 use Rattle.ps_bucket_log.specs.Logs.{IsLog}
-use Rattle.ps_compact.specs.Compaction.{moved, with_clear, compacted}
+use Rattle.ps_compact.specs.Compaction.{moved, with_clear}
 use Rattle.ps_compact.proofs.Kept.{compacted_is_log}
 use Rattle.ps_compact.proofs.Counts.{upto-within, compacted_parts, report_parts}
 use Rattle.ps_compact.proofs.compaction.compact.Goals as goal
