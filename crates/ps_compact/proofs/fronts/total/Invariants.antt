@@ -1,0 +1,6 @@
+use Rattle.std.proofs.Common.{◌≡◌, take}
+use Rattle.ps_bucket_log.specs.Ops.{sum_of}
+use Rattle.ps_compact.proofs.fronts.total.Given as goal
+
+abbrev pub invariant-ops : goal.invariant-ops
+invariant-ops l = l.total.0 ≡ sum_of (take l.op-index l.ops)
