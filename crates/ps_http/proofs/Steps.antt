@@ -4,14 +4,13 @@ use Rattle.std.specs.Prelude.{◌||◌, ◌&&◌, not}
 use Rattle.std.proofs.lemmas.Bool.{true≢false}
 use Rattle.std.proofs.lemmas.List.Elements.{All-nil, All-cons, All-append}
 use Rattle.httparse.specs.Grammar.{RequestHead, ReadsRequest, HasNoRequest}
-use Rattle.ps_io.specs.Counts.{Rose}
 use Rattle.ps_io.specs.Sources.{Input, Gives, GivesAll}
 use Rattle.ps_http.specs.Heads.{Reads, IsUnfinished, head_limit}
 use Rattle.ps_http.specs.Takings.{is_newline, ends_empty, IsJudged, IsRefused}
 use Rattle.ps_http.specs.declared.heads.Head.{Head}
 use Rattle.ps_http.specs.declared.heads.HeadFault.{HeadFault}
 use Rattle.ps_http.specs.declared.heads.HeadFault.TheVariants.{BadHead, HeadTooLong, CutShort, ReadFault, Memory}
-use Rattle.ps_http.proofs.Givings.{Gives-append, GivesAll-append, Gives-failed}
+use Rattle.ps_http.proofs.Givings.{Gives-append, GivesAll-append}
 use Rattle.ps_http.proofs.Ends.{HasNoRequest-blank, HasNoRequest-more, rest_is_none}
 
 -- the input ended
@@ -21,22 +20,6 @@ Reads-end old mid new before now bytes fault few gives all (inl bad) =
     subst (λ f. Reads old new before now (Err f)) (sym bad.0) (bytes, inr (GivesAll-append old mid new bytes gives all), few, bad.1)
 Reads-end old mid new before now bytes fault few gives all (inr open') =
     subst (λ f. Reads old new before now (Err f)) (sym open'.0) (bytes, GivesAll-append old mid new bytes gives all, few, open'.1)
-
--- the source failed
-pub Reads-fault : (old mid new : Option Input) (before between now : ℕ) (bytes : List ℕ) (fault : HeadFault) → length bytes ≤ head_limit
-    → Gives old mid bytes → new ≡ mid → before ≤ between → Rose between now → IsRefused bytes ReadFault fault → Reads old new before now (Err fault)
-Reads-fault old mid new before between now bytes fault few gives same rises rose (inl bad) =
-    subst (λ f. Reads old new before now (Err f)) (sym bad.0) (bytes, inl (Gives-failed old mid new bytes gives same), few, bad.1)
-Reads-fault old mid new before between now bytes fault few gives same rises rose (inr open') =
-    subst (λ f. Reads old new before now (Err f)) (sym open'.0) (bytes, Gives-failed old mid new bytes gives same, few, open'.1, omega arith)
-
--- the limit was reached
-pub Reads-limit : (old new : Option Input) (before now : ℕ) (bytes : List ℕ) (fault : HeadFault) → length bytes ≡ head_limit
-    → Gives old new bytes → IsRefused bytes HeadTooLong fault → Reads old new before now (Err fault)
-Reads-limit old new before now bytes fault full gives (inl bad) =
-    subst (λ f. Reads old new before now (Err f)) (sym bad.0) (bytes, inl gives, omega (arith, full), bad.1)
-Reads-limit old new before now bytes fault full gives (inr open') =
-    subst (λ f. Reads old new before now (Err f)) (sym open'.0) (bytes, gives, full, open'.1)
 
 whole : (bytes : List ℕ) (byte : ℕ) (h : RequestHead) (rest : List ℕ) → HasNoRequest bytes → ReadsRequest (bytes ++ byte ∷ []) h rest
     → ReadsRequest (bytes ++ byte ∷ []) h []
