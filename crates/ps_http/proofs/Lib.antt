@@ -1,4 +1,6 @@
 pub mod Givings
 pub mod Pairs
 pub mod Digits
+pub mod Ends
 pub mod Fillings
+pub mod Steps

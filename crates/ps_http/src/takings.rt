@@ -1,9 +1,10 @@
 ghost use Rattle.std.specs.Prelude.{◌≡◌, ◌≤◌, ◌||◌, ◌&&◌, not, [], ◌∷◌, ◌++◌, OnOk};
 ghost use Rattle.httparse.specs.Grammar.{HasNoRequest};
+ghost use Rattle.ps_http.specs.Heads.{Reads};
 ghost use Rattle.ps_http.specs.Takings.{is_newline as is_line_byte, IsNext, IsJudged, IsRefused, ends_empty};
 
 use crate::parts::read_parts;
-use crate::{FIELD_LIMIT, Head, HeadFault};
+use crate::{FIELD_LIMIT, HEAD_LIMIT, Head, HeadFault};
 use httparse::spans::{EMPTY_HEADER_SPAN, parse_request};
 use httparse::{Error, Status};
 use ps_io::Source;
@@ -87,4 +88,38 @@ fn refusal(bytes: &[u8], otherwise: HeadFault) -> HeadFault
         Ok(_) => otherwise,
         Err(_) => HeadFault::BadHead,
     }
+}
+
+/// Reads the head of a request, and takes exactly its bytes from the source, one at a time.
+///
+/// After every answer, want of memory among them, the source has handed out a first part of what was left, of at most
+/// 16,384 bytes. A head that is cut, too long or broken off by a fault is `BadHead` where what was taken can be no head.
+/// Empty lines before the first line are skipped (RFC 9112, section 2.2).
+pub fn read_head<S: Source>(alloc: Global, from: &mut S) -> Result<Head, HeadFault>
+    ensures answer { Reads (S.input from.old) (S.input from.new) (S.faults from.old) (S.faults from.new) result }
+    ensures faults { S.faults from.old ≤ S.faults from.new }
+    ensures number { S.number from.new ≡ S.number from.old }
+{
+    let mut taken = Vec::new(alloc);
+    let mut started = false;
+    'bytes: for _ in 0..HEAD_LIMIT {
+        let byte = match next_byte(from) {
+            Next::Byte(byte) => byte,
+            Next::End => return Err(refusal(taken.as_slice(), HeadFault::CutShort)),
+            Next::Fault => return Err(refusal(taken.as_slice(), HeadFault::ReadFault)),
+        };
+        let Ok(()) = push_byte(&mut taken, byte) else {
+            return Err(HeadFault::Memory);
+        };
+        started = has_started(started, byte);
+        if !may_end(started, taken.as_slice()) {
+            continue;
+        }
+        match judge(alloc, taken.as_slice()) {
+            Ok(Some(head)) => return Ok(head),
+            Ok(None) => {}
+            Err(fault) => return Err(fault),
+        }
+    }
+    Err(refusal(taken.as_slice(), HeadFault::HeadTooLong))
 }

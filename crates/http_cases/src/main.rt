@@ -1,0 +1,87 @@
+//! Answers the lines of its standard input: each is a case of heads, bodies and queries.
+//!
+//! `add TEXT` and `times COUNT TEXT` add bytes to a request, and write nothing. A line that ends the request reads it from a source in
+//! memory and answers: `head FAILING` with the head, `body FAILING` with the head's body, where the calls of the source with these numbers
+//! fail (`-` for none); `cuts` with what the request's first parts are, each shorter than it; `faults` with what it is where one call fails,
+//! each in turn. Behind what `head` and `body` answer stands how many bytes are left. `query NAME QUERY` has the value of that name, and
+//! `answer STATUS LENGTH` the head of an answer (`-` for a stream).
+//!
+//! In a text `\r`, `\n`, `\t` and `\0` stand for CR, LF, a tab and NUL, `\f` for a byte of 255, and `\b` for a backslash.
+//!
+//! The expected answers were written from RFC 9112, sections 2, 3, 5 and 6, from the URL Standard's web forms, and from the limits and refusals
+//! that `Head`, `HeadFault` and `BodyFault` state.
+#![tactic(auto)]
+
+mod heads;
+mod requests;
+mod words;
+
+use ps_http::query_value;
+use ps_values::Text;
+use std::alloc::Global;
+use std::test::Fail;
+
+fn write_value(alloc: Global, rest: &str, out: &mut String) -> Result<(), Fail> {
+    let (name, query) = words::cut(rest);
+    let name = Text::from_str(alloc, name)?;
+    let query = Text::from_str(alloc, query)?;
+    match query_value(alloc, &query, &name)? {
+        Some(value) => {
+            out.push_str("some ")?;
+            words::push_shown(value.bytes(), out)?;
+        }
+        None => out.push_str("none")?,
+    }
+    Ok(())
+}
+
+// Adds to the request; false where the word adds nothing.
+fn is_added(word: &str, rest: &str, request: &mut Vec<u8>) -> Result<bool, Fail> {
+    if word == "add" {
+        words::push_spelled(rest, request)?;
+        return Ok(true);
+    }
+    if word == "times" {
+        let (count, text) = words::cut(rest);
+        'times: for _ in 0..words::number(count)? {
+            words::push_spelled(text, request)?;
+        }
+        return Ok(true);
+    }
+    Ok(false)
+}
+
+fn answer(
+    alloc: Global,
+    word: &str,
+    rest: &str,
+    request: &[u8],
+    out: &mut String,
+) -> Result<(), Fail> {
+    match word {
+        "head" => requests::write_head_read(alloc, request, rest, out)?,
+        "body" => requests::write_body_read(alloc, request, rest, out)?,
+        "cuts" => requests::write_cuts(alloc, request, out)?,
+        "faults" => requests::write_faults(alloc, request, out)?,
+        "query" => write_value(alloc, rest, out)?,
+        "answer" => heads::write_answer(alloc, rest, out)?,
+        _ => return Err("no such case".into()),
+    }
+    Ok(())
+}
+
+fn main(rt: HostRuntime) -> Result<(), Fail> {
+    let mut request = Vec::new(rt.alloc());
+    'lines: for line in rt.lines(rt.alloc()) {
+        let line = line?;
+        let (word, rest) = words::cut(line.as_str());
+        if is_added(word, rest, &mut request)? {
+            continue;
+        }
+        let mut out = String::new(rt.alloc());
+        answer(rt.alloc(), word, rest, request.as_slice(), &mut out)?;
+        request.clear();
+        println!(rt; "{}", out.as_str())?;
+    }
+    Ok(())
+}
