@@ -3,8 +3,8 @@
 //! `add TEXT` and `times COUNT TEXT` add bytes to a request, and write nothing. A line that ends the request reads it from a source in
 //! memory and answers: `head FAILING` with the head, `body FAILING` with the head's body, where the calls of the source with these numbers
 //! fail (`-` for none); `cuts` with what the request's first parts are, each shorter than it; `faults` with what it is where one call fails,
-//! each in turn. Behind what `head` and `body` answer stands how many bytes are left. `query NAME QUERY` has the value of that name, and
-//! `answer STATUS LENGTH` the head of an answer (`-` for a stream).
+//! each in turn; `system` with the head, read from a reader of the system, and how often that failed. Behind what `head` and `body` answer stands how many bytes are left. `query NAME QUERY` has the value of that name, and
+//! `answer STATUS LENGTH` the head of an answer (`-` for a stream). `clock` says in which thousand years the system's clock is.
 //!
 //! In a text `\r`, `\n`, `\t` and `\0` stand for CR, LF, a tab and NUL, `\f` for a byte of 255, and `\b` for a backslash.
 //!
@@ -13,6 +13,7 @@
 #![tactic(auto)]
 
 mod heads;
+mod outside;
 mod requests;
 mod words;
 
@@ -61,6 +62,7 @@ fn answer(
     match word {
         "head" => requests::write_head_read(alloc, request, rest, out)?,
         "body" => requests::write_body_read(alloc, request, rest, out)?,
+        "system" => outside::write_system(alloc, request, out)?,
         "cuts" => requests::write_cuts(alloc, request, out)?,
         "faults" => requests::write_faults(alloc, request, out)?,
         "query" => write_value(alloc, rest, out)?,
@@ -79,7 +81,11 @@ fn main(rt: HostRuntime) -> Result<(), Fail> {
             continue;
         }
         let mut out = String::new(rt.alloc());
-        answer(rt.alloc(), word, rest, request.as_slice(), &mut out)?;
+        if word == "clock" {
+            outside::write_clock(&rt, &mut out)?;
+        } else {
+            answer(rt.alloc(), word, rest, request.as_slice(), &mut out)?;
+        }
         request.clear();
         println!(rt; "{}", out.as_str())?;
     }

@@ -22,7 +22,8 @@ fn left(alloc: Global, from: &mut MemorySource) -> Result<usize, Fail> {
     }
 }
 
-fn name_of(fault: HeadFault) -> &'static str {
+/// The name of a fault.
+pub fn name_of(fault: HeadFault) -> &'static str {
     match fault {
         HeadFault::BadHead => "bad-head",
         HeadFault::HeadTooLong => "head-too-long",
@@ -55,8 +56,8 @@ fn write_authorization(value: &Option<Text>, out: &mut String) -> Result<(), Fai
     Ok(())
 }
 
-// The method, the path, the query, the authorization, the length and whether the body is chunked.
-fn write_head(head: &Head, out: &mut String) -> Result<(), Fail> {
+/// The method, the path, the query, the authorization, the length and whether the body is chunked.
+pub fn write_head(head: &Head, out: &mut String) -> Result<(), Fail> {
     out.push_str(head.method.as_str())?;
     out.push_str(" [")?;
     words::push_shown(head.path.bytes(), out)?;
