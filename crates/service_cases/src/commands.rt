@@ -95,12 +95,9 @@ pub fn write_count(
 ) -> Result<(), Stop> {
     let answer = surely(alloc, texts, words)?;
     let text = str::from_utf8(answer.printed.as_slice())?;
+    let first = text.lines().next().unwrap_or("");
     let mut count: u64 = 0;
-    let mut first = "";
-    'lines: for line in text.lines() {
-        if count == 0 {
-            first = line;
-        }
+    'lines: for _ in text.lines() {
         count = count.saturating_add(1);
     }
     write!(out, "status {} lines {count}\nout {first}", answer.status)?;
