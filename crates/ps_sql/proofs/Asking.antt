@@ -20,9 +20,9 @@ use Rattle.ps_sql.specs.Words.{same_word}
 use Rattle.ps_sql.specs.Inputs.{◌>>=◌}
 use Rattle.ps_sql.specs.Grammar.{request_value}
 use Rattle.ps_sql.specs.Answers.{input_of}
-use Rattle.ps_sql.specs.Queries.{parameter_query, data_query, nothing_listed, parameters_of, data_of, scope_of}
+use Rattle.ps_sql.specs.Queries.{parameter_query, data_query}
 use Rattle.ps_sql.specs.Readings.{lexemes_of, parameter_query_of, data_query_of}
-use Rattle.ps_sql.specs.Subjects.{any_true, layer_speaks, speaks, is_asker, is_bucket}
+use Rattle.ps_sql.specs.Subjects.{any_true, layer_speaks, speaks, is_asker}
 use Rattle.ps_sql.specs.Spelled.{Rule, Spells, alone, between, is_null, is_not_null, not_negated, negated, number, negative, text, null, true_word, false_word, column, qualified, bucket, request, token_user, call, cast, brackets, AreArguments, first, further}
 use Rattle.ps_sql.specs.SpelledQueries.{IsOutput, named, own, IsItem, star, output, AreItems, last, further as further_items, AreOutputs, no_outputs, outputs, IsCondition, no_condition, filter, IsParameterQuery, IsDataQuery}
 use Rattle.ps_sql.specs.Asking.{condition_speaks, query_speaks, DataQueriesAskNobody, ParameterQueriesNameNoBucket}

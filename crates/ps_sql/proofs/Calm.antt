@@ -75,10 +75,11 @@ module _ (context : Context) where
 
   calm_qualified : (qualifier : List ℕ) → CalmReader (qualified context qualifier)
   unfolding qualified
-  calm_qualified qualifier input = by_name (name_of (third input)) where
-    by_name : (o : Option (List ℕ)) → Calm (qualified_by (allows_qualifier context.scope qualifier) input o)
-    by_name None = calm_refusal (past 2 input)
-    by_name (Some name) = calm_if (allows_qualifier context.scope qualifier) _ _ tt tt
+  calm_qualified qualifier input = by_both (allows_qualifier context.scope qualifier) (name_of (third input)) where
+    by_both : (allowed : Bool) (o : Option (List ℕ)) → Calm (qualified_by allowed input o)
+    by_both false o = tt
+    by_both true None = calm_refusal (past 2 input)
+    by_both true (Some name) = tt
 
   calm_bucket : CalmReader (bucket context)
   unfolding bucket

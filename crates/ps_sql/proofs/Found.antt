@@ -434,17 +434,15 @@ module _ (context : Context) where
       → name_in q.word ≡ Some qualifier → dot.word ≡ words.Mark marks.Dot → ((w : Word) → third input ≡ Some w → is_taken q.word w ≡ false)
       → qualified context qualifier input ≡ Ok (e, rest) → Consumed context primary input e rest
   unfolding qualified
-  qualified_found input e rest q dot others qualifier is named dot_is free found = by_name (name_of (third input)) refl found where
-    by_name : (o : Option (List ℕ)) → name_of (third input) ≡ o → qualified_by (allows_qualifier context.scope qualifier) input o ≡ Ok (e, rest) → Consumed context primary input e rest
-    by_name None absent found = absurd (cc)
-    by_name (Some name) there found =
+  qualified_found input e rest q dot others qualifier is named dot_is free found = by_both (allows_qualifier context.scope qualifier) refl (name_of (third input)) refl found where
+    by_both : (v : Bool) → allows_qualifier context.scope qualifier ≡ v → (o : Option (List ℕ)) → name_of (third input) ≡ o → qualified_by v input o ≡ Ok (e, rest) → Consumed context primary input e rest
+    by_both false wrong o there found = absurd (cc)
+    by_both true allowed None absent found = absurd (cc)
+    by_both true allowed (Some name) there found =
         let w = named_word (third input) name there in
         let x = third_of input q dot others w.0 is w.1 in
         let taken : is_taken q.word x.0.word ≡ false = ap (is_taken q.word) x.3 ∙ free w.0 w.1 in
-        elim (chosen (allows_qualifier context.scope qualifier) _ _ _ found) [
-          | inl p ↦ three_words input e (exprs.Column name) rest q dot x.0 x.1 x.2 (qualified_spelled q dot x.0 named dot_is (ap name_in x.3 ∙ w.2) taken p.0) p.1
-          | inr p ↦ absurd (cc (p.1))
-        ]
+        three_words input e (exprs.Column name) rest q dot x.0 x.1 x.2 (qualified_spelled q dot x.0 named dot_is (ap name_in x.3 ∙ w.2) taken allowed) found
 
   bucket_found : (input : Input) (e : Expr) (rest : Input) (q dot : Lexeme) (others : List Lexeme) → input.left ≡ q ∷ dot ∷ others → q.word ≡ words.Name (codes "bucket")
       → dot.word ≡ words.Mark marks.Dot → bucket context input ≡ Ok (e, rest) → Consumed context primary input e rest

@@ -1,6 +1,6 @@
 -- One step of the reading of lexemes.
-use Rattle.std.proofs.Common.{◌≡◌, ℕ, ◌+◌, ◌<◌, Bool, true, false, List, [], ◌∷◌, ◌++◌, length, get_or, take, drop, Some, None, refl, sym, ap, subst, ◌∙◌, ◌⊎◌, inl, inr, arith, length-take}
-use Rattle.std.specs.Prelude.{◌||◌, ◌==◌, map, Result, Ok, Err}
+use Rattle.std.proofs.Common.{◌≡◌, ℕ, ◌+◌, ◌<◌, ◌≤◌, Bool, true, false, List, [], ◌∷◌, ◌++◌, length, get_or, take, drop, Some, None, refl, sym, ap, subst, ◌∙◌, ◌⊎◌, inl, inr, arith, length-append, length-take}
+use Rattle.std.specs.Prelude.{◌||◌, ◌==◌, map, Result, Ok, Err, IfOk}
 use Rattle.std.proofs.lemmas.List.{take-append-drop}
 use Rattle.std.proofs.lemmas.Option.{same_Some}
 use Rattle.std.proofs.lemmas.Bool.{false≢true}
@@ -12,7 +12,7 @@ use Rattle.ps_sql.specs.declared.faults.SqlFault.TheVariants as faults
 use Rattle.ps_sql.specs.Answers.{AnswersTokens, Reads}
 use Rattle.ps_sql.specs.Words.{is_blank, word_at, longest_mark, single_mark}
 use Rattle.ps_sql.specs.Spellings.{IsWord}
-use Rattle.ps_sql.specs.Lexemes.{AreLexemes, none_left, blank_next, word_next, Stops, no_word, past_blank, past_word, HasNoWord, lexeme_at, AreTokens, token_of}
+use Rattle.ps_sql.specs.Lexemes.{Rise, AreLexemes, none_left, blank_next, word_next, Stops, no_word, past_blank, past_word, HasNoWord, lexeme_at, AreTokens, token_of}
 use Rattle.ps_sql.proofs.Cuts.{word_cuts}
 use Rattle.ps_sql.proofs.WordLaws.{word_found, word_only, eqb_same, left}
 
@@ -148,4 +148,26 @@ tokens_bad text (Err faults.Memory) answers at stops = tt
 tokens_bad text (Err (faults.Unexpected place)) answers at stops = absurd answers
 tokens_bad text (Err (faults.Unsupported place)) answers at stops = absurd answers
 
-pub ruleset laws = (tokens_only, tokens_bad)
+-- tokens rise
+
+behind : (a b end : ℕ) (ts : List Token) → a ≤ b → Rise b ts end → Rise a ts end
+behind a b end [] le rise = omega arith
+behind a b end (t ∷ ts) le rise = (let first : b ≤ t.from = rise.0 in omega arith, rise.1, rise.2)
+
+lexemes_rise : {at : ℕ} {bytes : List ℕ} {xs : List Lexeme} → AreLexemes at bytes xs → Rise at (map token_of xs) (at + length bytes)
+lexemes_rise none_left = omega arith
+lexemes_rise (blank_next {at = at} {b = b} {rest = rest} {lexemes = xs} blank more) =
+    behind at (at + 1) (at + length (b ∷ rest)) (map token_of xs) (omega arith)
+    (subst (Rise (at + 1) (map token_of xs)) (omega arith) (lexemes_rise more))
+lexemes_rise (word_next {at = at} {bytes = bytes} {lexemes = xs} word written rest cut is more) =
+    let some : 0 < length written = (word_cuts bytes (word, length written) (ap word_at cut ∙ word_only word written rest is)).some in
+    let size : length bytes ≡ length written + length rest = ap length cut ∙ length-append written rest in
+    (omega arith, omega arith, subst (Rise (at + length written) (map token_of xs)) (omega arith) (lexemes_rise more))
+
+pub tokens_rise : (text : List ℕ) (r : Result (List Token) SqlFault) → AnswersTokens text r → IfOk r (λ tokens. Rise 0 tokens (length text))
+tokens_rise text (Ok tokens) answers =
+    let size : 0 + length text ≡ length text = omega arith in
+    subst (λ ts. Rise 0 ts (length text)) (sym answers.2) (subst (Rise 0 (map token_of answers.0)) size (lexemes_rise answers.1))
+tokens_rise text (Err fault) answers = tt
+
+pub ruleset laws = (tokens_only, tokens_bad, tokens_rise)

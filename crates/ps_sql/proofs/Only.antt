@@ -528,7 +528,8 @@ module _ (context : Context) (limit : ℕ) (inner : Reader) where
       → qualified context qualifier (ahead (q ∷ dot ∷ x ∷ []) rest) ≡ Ok (exprs.Column name, rest)
   unfolding qualified name_of
   qualified_reads q dot x qualifier name rest named allowed =
-      ap (qualified_by (allows_qualifier context.scope qualifier) (ahead (q ∷ dot ∷ x ∷ []) rest)) named ∙ test_true (allows_qualifier context.scope qualifier) _ _ allowed
+      let input : Input = ahead (q ∷ dot ∷ x ∷ []) rest in
+      ap (λ v. qualified_by v input (name_of (third input))) allowed ∙ ap (qualified_by true input) named
 
   either : {A : Type 0} (b : Bool) (y z r : A) → (b ≡ true → y ≡ r) → (b ≡ false → z ≡ r) → cond b y z ≡ r
   either true y z r f g = f refl

@@ -55,13 +55,10 @@ module _ (is_data : Bool) (scope : Scope) where
 
   qualified_any : (qualifier : List ℕ) → Follows (qualified known qualifier) (qualified any qualifier)
   unfolding Follows known any qualified
-  qualified_any qualifier input x e = by_name (name_of (third input)) e where
-    by_name : (o : Option (List ℕ)) → qualified_by (allows_qualifier scope qualifier) input o ≡ Ok x → qualified_by true input o ≡ Ok x
-    by_name None e = absurd (cc)
-    by_name (Some name) e = allowed (allows_qualifier scope qualifier) e where
-      allowed : (v : Bool) → qualified_by v input (Some name) ≡ Ok x → qualified_by true input (Some name) ≡ Ok x
-      allowed true e = e
-      allowed false e = absurd (cc)
+  qualified_any qualifier input x e = by_both (allows_qualifier scope qualifier) (name_of (third input)) e where
+    by_both : (v : Bool) (o : Option (List ℕ)) → qualified_by v input o ≡ Ok x → qualified_by true input o ≡ Ok x
+    by_both true o e = e
+    by_both false o e = absurd (cc)
 
   request_any : (name : List ℕ) → Follows (request known name) (request any name)
   unfolding Follows known any request

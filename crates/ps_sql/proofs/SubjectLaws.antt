@@ -3,15 +3,14 @@ use Rattle.std.proofs.lemmas.List.{drop_more}
 use Rattle.std.proofs.Common.{◌+◌, ◌<◌, length, drop, get_or, ◌≡◌, ℕ, Bool, true, false, List, [], ◌∷◌, map, refl, sym, ap, ◌∙◌, subst}
 use Rattle.std.specs.Prelude.{◌||◌, not, if◌then◌else◌}
 use Rattle.ps_values.specs.Values.{is_null, truth_of}
-use Rattle.ps_values.specs.declared.columns.Column.{Column}
 use Rattle.ps_values.specs.declared.values.Value.{Value}
 use Rattle.ps_values.specs.declared.values.Value.TheVariants as values
-use Rattle.ps_sql.specs.declared.expressions.Expr.{Expr, fold-Expr, fold-roll-Expr, ind-Expr, map-Expr}
+use Rattle.ps_sql.specs.declared.expressions.Expr.{Expr, fold-roll-Expr, ind-Expr, map-Expr}
 use Rattle.ps_sql.specs.declared.expressions.Expr.TheOpen.{Expr-F}
 use Rattle.ps_sql.specs.declared.expressions.Expr.TheOpen as layers
 use Rattle.ps_sql.specs.declared.subjects.Subject.{Subject}
 use Rattle.ps_sql.specs.declared.subjects.Subject.TheVariants as subjects
-use Rattle.ps_sql.specs.Meaning.{Asker, Given, layer_value, value_of, column_value, call_value, two_value, text_of, text_value, truth_value, opposite_truth, bool_value}
+use Rattle.ps_sql.specs.Meaning.{Given, layer_value, value_of, column_value, call_value, two_value, text_of, text_value, truth_value, opposite_truth, bool_value}
 use Rattle.ps_sql.specs.Subjects.{any_true, layer_speaks, speaks, is_asker, is_bucket, is_row, IsSameForEveryAsker, IsSameForEveryBucket, IsSameOnEveryRow}
 
 left : (a b : Bool) → (a || b) ≡ false → a ≡ false

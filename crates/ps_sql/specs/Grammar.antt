@@ -43,9 +43,11 @@ allows_qualifier (scopes.Of name) qualifier = bytes_eq name qualifier
 unfoldable pub column : Context → List ℕ → Reader
 column context name input = if allows_column context.scope then Ok (exprs.Column name, past 1 input) else Err (faults.Unsupported (here input))
 
+-- a qualifier that is wrong comes before what stands behind its dot
 abbrev pub qualified_by : Bool → Input → Option (List ℕ) → Result (Expr × Input) SqlFault
-qualified_by allowed input None = Err (refusal (past 2 input))
-qualified_by allowed input (Some name) = if allowed then Ok (exprs.Column name, past 3 input) else Err (faults.Unsupported (here input))
+qualified_by false input name = Err (faults.Unsupported (here input))
+qualified_by true input None = Err (refusal (past 2 input))
+qualified_by true input (Some name) = Ok (exprs.Column name, past 3 input)
 
 unfoldable pub qualified : Context → List ℕ → Reader
 qualified context qualifier input = qualified_by (allows_qualifier context.scope qualifier) input (name_of (third input))

@@ -1,5 +1,5 @@
 -- The lexemes of a text: its words in order, and where each stands.
-use Rattle.std.specs.Prelude.{◌≡◌, ℕ, ◌+◌, true, false, List, [], ◌∷◌, ◌++◌, length, map}
+use Rattle.std.specs.Prelude.{◌≡◌, ℕ, ◌+◌, ◌<◌, ◌≤◌, true, false, List, [], ◌∷◌, ◌++◌, length, map}
 use Rattle.ps_sql.specs.declared.words.Word.{Word}
 use Rattle.ps_sql.specs.declared.words.Word.TheVariants as words
 use Rattle.ps_sql.specs.declared.words.Token.{Token}
@@ -44,3 +44,8 @@ token_of lexeme = record { kind = kind_of lexeme.word; from = lexeme.from; upto 
 -- the text is these tokens
 abbrev pub AreTokens : List ℕ → List Token → Type 0
 AreTokens text tokens = (lexemes : List Lexeme) × AreLexemes 0 text lexemes × (tokens ≡ map token_of lexemes)
+
+-- each token has a byte at least, and stands behind the one before it and within the text
+abbrev pub Rise : ℕ → List Token → ℕ → Type 0
+Rise at [] end = at ≤ end
+Rise at (t ∷ ts) end = (at ≤ t.from) × (t.from < t.upto) × Rise t.upto ts end

@@ -62,18 +62,18 @@ fn qualified(
 ) -> Result<Expr, SqlFault>
     ensures { ReadsOn result cursor.new (qualified context.now qualifier.now cursor.old) }
 {
+    if !is_qualifier_allowed(&context.scope, qualifier) {
+        return Err(cursor.unsupported());
+    }
     match cursor.name(2) {
         None => {
             cursor.skip(2);
             Err(cursor.refusal())
         }
         Some(name) => {
-            if is_qualifier_allowed(&context.scope, qualifier) {
-                let column = name.copy(alloc)?;
-                cursor.skip(3);
-                return Ok(Expr::Column { name: column });
-            }
-            Err(cursor.unsupported())
+            let column = name.copy(alloc)?;
+            cursor.skip(3);
+            Ok(Expr::Column { name: column })
         }
     }
 }

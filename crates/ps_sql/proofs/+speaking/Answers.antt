@@ -1,4 +1,4 @@
-use Rattle.std.proofs.Common.{◌≡◌, Bool, true, false, sym, rules, arith}
+use Rattle.std.proofs.Common.{◌≡◌, true, false, sym, rules, arith}
 use Rattle.ps_sql.specs.Subjects.{speaks}
 use Rattle.ps_sql.proofs.SubjectLaws.{any_more}
 use Rattle.ps_sql.proofs.+speaking.Goals as goal
