@@ -64,7 +64,7 @@ drafts_are drafts (pair ∷ pairs) all h are =
 none_are : AreDrafts []
 none_are = record { names_differ = refl; names_fit = refl }
 
-definitions_are : (node : Node) (all : List Draft) → definitions_of node ≡ Ok all → AreDrafts all
+pub definitions_are : (node : Node) (all : List Draft) → definitions_of node ≡ Ok all → AreDrafts all
 unfolding definitions_of
 definitions_are node all h =
     let a = both_ok (pairs_of node) (λ pairs. refuse (length pairs == 0) (shape_fault node) >>= λ some. drafts_from [] pairs) all h in

@@ -29,7 +29,7 @@ use Rattle.ps_rules.proofs.Spreads.{map_append, flat_append}
 
 -- ---- facts of each item
 
-append_nil : {X : Type 0} (xs : List X) → xs ++ [] ≡ xs
+pub append_nil : {X : Type 0} (xs : List X) → xs ++ [] ≡ xs
 append_nil [] = refl
 append_nil (x ∷ xs) = ap (λ r. x ∷ r) (append_nil xs)
 
@@ -43,11 +43,11 @@ record SpeakAsTheyMay : Type 0 where
   parameter_queries : ParameterQueriesNameNoBucket
 
 -- a query that has its place was read
-was_read : {A : Type 0} (line column : ℕ) (r : Result A SqlFault) (x : A) → sql line column r ≡ Ok x → r ≡ Ok x
+pub was_read : {A : Type 0} (line column : ℕ) (r : Result A SqlFault) (x : A) → sql line column r ≡ Ok x → r ≡ Ok x
 was_read line column (Ok y) x h = ap (λ (v : _). Ok v) (same_ok y x h)
 was_read line column (Err fault) x h = absurd (cc)
 
-not_false : (b : Bool) → not b ≡ false → b ≡ true
+pub not_false : (b : Bool) → not b ≡ false → b ≡ true
 not_false true h = refl
 not_false false h = absurd (cc)
 
@@ -74,7 +74,7 @@ are_in_self : (names : List (List ℕ)) → are_in names names ≡ true
 are_in_self [] = refl
 are_in_self (name ∷ names) = ap (λ b. (b || is_in name names) && are_in names (name ∷ names)) (bytes_self name) ∙ are_in_later names names name (are_in_self names)
 
-same_self : (names : List (List ℕ)) → same_names names names ≡ true
+pub same_self : (names : List (List ℕ)) → same_names names names ≡ true
 same_self names = ap (λ b. b && are_in names names) (are_in_self names) ∙ are_in_self names
 
 -- the queries that are known so far are sound

@@ -1,10 +1,12 @@
 pub mod Counts
 pub mod Drafted
 pub mod Finds
+pub mod FoundRules
 pub mod Independence
 pub mod Kept
 pub mod Meetings
 pub mod NameLaws
+pub mod OnlyRules
 pub mod PlacedFaults
 pub mod Spreads
 pub mod Steps

@@ -42,7 +42,7 @@ repeated_more (n ∷ names) name = ap (λ b. b || has_repeated (names ++ name �
     regrouped false false c d = refl
 
 -- the names of outputs, one output more
-names_front : (xs ys : List (List ℕ)) → has_repeated xs ≡ true → has_repeated (xs ++ ys) ≡ true
+pub names_front : (xs ys : List (List ℕ)) → has_repeated xs ≡ true → has_repeated (xs ++ ys) ≡ true
 names_front [] ys h = absurd (cc)
 names_front (x ∷ xs) ys h = elim (is_in x xs) as (λ b. is_in x xs ≡ b → (b || has_repeated xs) ≡ true → (is_in x (xs ++ ys) || has_repeated (xs ++ ys)) ≡ true) [
   | true ↦ λ e _. ap (λ b. b || has_repeated (xs ++ ys)) (in_front x xs ys e)

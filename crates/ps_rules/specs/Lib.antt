@@ -1,6 +1,7 @@
 pub mod Branches
 pub mod Checks
 pub mod Faults
+pub mod Grammar
 pub mod Laws
 pub mod Meeting
 pub mod Names

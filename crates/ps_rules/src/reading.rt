@@ -1,9 +1,12 @@
 ghost use Rattle.std.specs.Prelude.{◌≡◌, ℕ, ◌<◌, ◌+◌, length, IfSome, IfOk, ◌++◌};
+ghost use Rattle.ps_yaml.specs.declared.nodes.Node.{Node as NodeData};
+ghost use Rattle.ps_yaml.specs.Grammar.{Spells};
+ghost use Rattle.ps_rules.specs.Grammar.{IsRules};
 ghost use Rattle.ps_yaml.specs.Trees.{document_of};
 ghost use Rattle.ps_rules.specs.Faults.{Reads, yaml};
 ghost use Rattle.ps_rules.specs.Reading.{rules_from, rules_of, rules_in, no_rules};
 ghost use Rattle.ps_rules.specs.Refusals.{RefusesOtherBytes};
-ghost use Rattle.ps_rules.specs.RuleSets.{AreDrafts};
+ghost use Rattle.ps_rules.specs.RuleSets.{AreDrafts, RuleSet};
 
 use crate::checks::check;
 use crate::drafts::{Checked, Draft};
@@ -25,6 +28,8 @@ fn numbered(before: u32, count: usize) -> Option<u32>
 // The document of a text.
 fn document(alloc: Global, bytes: &[u8]) -> Result<Node, RulesFault>
     requires { length bytes.now < 4294967295 }
+    ensures found { IfOk result (λ node. Spells bytes.now node) }
+    ensures only { (node : NodeData) → Spells bytes.now node → Reads result (Ok node) }
     ensures exact { Reads result (yaml (document_of bytes.now)) }
     ensures other_bytes { RefusesOtherBytes bytes.now result }
 {
@@ -81,19 +86,33 @@ fn check_all(alloc: Global, drafts: Items<Draft>) -> Result<Rules, RulesFault>
     Ok(Rules::made(definitions, warnings))
 }
 
+// The rules of a document.
+#[tactic(auto, unfolding(crate::specs::Reading::rules_of))]
+fn rules_in_document(alloc: Global, node: Node) -> Result<Rules, RulesFault>
+    ensures { Reads result (rules_of node) }
+{
+    let drafts = drafts_in(alloc, node)?;
+    check_all(alloc, drafts)
+}
+
 /// Reads the rules of docs/FORMATS.md, "Rules".
 ///
 /// The faults of the YAML come first (`Yaml`), then the first place in reading order that has not the shape of rules
 /// (`Shape`), then the faults of the checks, definition after definition: `Sql`, `DuplicateName`, `MixedOutput`, `NoId`,
 /// `UnknownParameter`, `TooManyBranches` and `UnmatchedParameter`, each at the scalar of its query.
-#[tactic(auto, unfolding(crate::specs::Reading::rules_of, crate::specs::Reading::rules_in))]
+#[tactic(auto, unfolding(crate::specs::Reading::rules_in))]
 pub fn read_rules(alloc: Global, bytes: &[u8]) -> Result<Rules, RulesFault>
     requires { length bytes.now < 4294967295 }
+
+    // What is read is written so.
+    ensures found { IfOk result (λ rules. IsRules bytes.now rules) }
+    // What is written so is read, unless memory runs out.
+    ensures only { (rules : RuleSet) → IsRules bytes.now rules → Reads result (Ok rules) }
+    // Which fault is the first.
     ensures exact { Reads result (rules_in bytes.now) }
     // Bytes that are no text are refused before any memory is asked for.
     ensures other_bytes { RefusesOtherBytes bytes.now result }
 {
     let node = document(alloc, bytes)?;
-    let drafts = drafts_in(alloc, node)?;
-    check_all(alloc, drafts)
+    rules_in_document(alloc, node)
 }

@@ -1,5 +1,9 @@
-use Rattle.ps_rules.proofs.Drafted.{drafted}
+use Rattle.ps_rules.proofs.FoundRules.{found_in}
+use Rattle.ps_rules.proofs.OnlyRules.{only_in}
 use Rattle.ps_rules.proofs.reading.read_rules.Goals as goal
 
-pub check_all-requires : goal.check_all-requires
-check_all-requires c = drafted c.in_ok-node.node c.in_ok-drafts.drafts c.in_ok-drafts.ensures
+pub returns-clause-found : goal.returns-clause-found
+returns-clause-found c = found_in c.args.bytes.now c.in_ok-node.node c.rules_in_document.result c.in_ok-node.ensures.found c.rules_in_document.ensures
+
+pub returns-clause-only : goal.returns-clause-only
+returns-clause-only c = only_in c.args.bytes.now c.in_ok-node.node c.rules_in_document.result c.in_ok-node.ensures.only c.rules_in_document.ensures
