@@ -1,0 +1,3 @@
+mod Heads
+mod Rising
+mod Covering
