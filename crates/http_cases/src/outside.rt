@@ -1,8 +1,9 @@
 //! Sources and clocks of the system.
 
 use crate::requests::{name_of, write_head};
+use crate::words::{cut, number};
 use ps_http::read_head;
-use ps_io::{Clock, Source, StdSource, WallClock};
+use ps_io::{Clock, MemoryClock, Source, StdSource, WallClock};
 use std::alloc::Global;
 use std::test::Fail;
 
@@ -26,5 +27,16 @@ pub fn write_clock<R: std::time::Clock + Drop>(rt: R, out: &mut String) -> Resul
     } else {
         out.push_str("another")?;
     }
+    Ok(())
+}
+
+/// What a clock in memory gives, asked three times.
+pub fn write_moments(words: &str, out: &mut String) -> Result<(), Fail> {
+    let (start, step) = cut(words);
+    let clock = MemoryClock::new(number(start)?, number(step)?);
+    let first = clock.now();
+    let second = clock.now();
+    let third = clock.now();
+    write!(out, "{first} {second} {third}")?;
     Ok(())
 }
