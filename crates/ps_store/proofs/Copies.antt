@@ -17,7 +17,7 @@ use Rattle.ps_values.specs.declared.values.Truth.TheVariants.{True, False, Unkno
 use Rattle.ps_values.specs.Values.{truth_of}
 use Rattle.ps_values.specs.Documents.{document_of}
 use Rattle.ps_changes.specs.Source.{Key, key_cmp, Version, Source}
-use Rattle.ps_changes.proofs.Sources.{keys_total, keys_exact}
+use Rattle.ps_store.proofs.RowKeys.{keys_total, keys_exact}
 use Rattle.ps_sql.specs.declared.expressions.Expr.{Expr}
 use Rattle.ps_sql.specs.declared.queries.Output.{Output}
 use Rattle.ps_sql.specs.declared.queries.DataQuery.{DataQuery}
@@ -46,7 +46,7 @@ use Rattle.ps_bucket_eval.specs.Laws.{NamesDiffer, IsVectorOf, PlacedWhereItHold
 use Rattle.ps_store.specs.Originals.{row_of}
 use Rattle.ps_store.specs.Standing.{Standing, IsCopyOf}
 use Rattle.ps_store.specs.Laws.{AreSqlVectors, IsBucketOf}
-use Rattle.ps_bucket_eval.proofs.Members.{Has, has_map, from_map, has_flat, from_flat, any_has, has_any, none_has, has_contains, contains_has}
+use Rattle.ps_store.proofs.Members.{Has, has_map, from_map, has_flat, from_flat, any_has, has_any, none_has, has_contains, contains_has}
 
 -- ---- lists
 

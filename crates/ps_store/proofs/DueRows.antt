@@ -1,5 +1,5 @@
 -- The rows of a client that holds what stands of an asker's buckets are the rows that are due.
-use Rattle.std.proofs.Common.{◌≡◌, ℕ, ◌≤◌, ◌==◌, Bool, true, false, ◌&&◌, ◌||◌, cond, List, [], ◌∷◌, Option, Some, None, option_map, Ordering, Less, Equal, Greater, map, refl, sym, ap, ◌∙◌, subst, inl, inr, arith}
+use Rattle.std.proofs.Common.{◌≡◌, ℕ, ◌≤◌, ◌==◌, Bool, true, false, ◌&&◌, ◌||◌, cond, List, [], ◌∷◌, ◌++◌, Option, Some, None, option_map, Ordering, Less, Equal, Greater, map, refl, sym, ap, ◌∙◌, subst, inl, inr, arith}
 use Rattle.std.specs.Prelude.{T, nat_lt, IfSome, IsSome, IsTrue}
 use Rattle.std.specs.Ordering.{nat_cmp, is_le, eq_by_cmp, ordering_then}
 use Rattle.std.specs.FinMap.Entries.{find, put, is_sorted, is_sorted-put, below_all, same_entries}
@@ -7,9 +7,8 @@ use Rattle.ps_bucket_log.specs.declared.ops.Op.{Op}
 use Rattle.ps_bucket_log.specs.Ops.{id_of}
 use Rattle.ps_changes.specs.declared.shown.Shown.{Shown}
 use Rattle.ps_changes.specs.Source.{Key, key_cmp, Source}
-use Rattle.ps_changes.proofs.Sources.{keys_total, keys_exact}
-use Rattle.ps_client_log.specs.Kept.{Kept}
-use Rattle.ps_client_log.specs.Rows.{by_object, HeldCopy, Holds, IsLatest, IsLatestContent, place_of, place_cmp, content_of, row_at}
+use Rattle.ps_store.proofs.RowKeys.{keys_total, keys_exact}
+use Rattle.ps_client_log.specs.Rows.{by_object, HeldCopy, place_of, place_cmp, content_of, row_at}
 use Rattle.ps_client_log.specs.Rows as held_rows
 use Rattle.ps_sql.specs.Meaning.{Asker}
 use Rattle.ps_rules.specs.declared.definitions.Definition.{Definition}
@@ -19,8 +18,11 @@ use Rattle.ps_grant.specs.Latest.{object_of, is_later, Rows, is_superseded, kept
 use Rattle.ps_grant.specs.Sources.{rows_in}
 use Rattle.ps_bucket_eval.specs.declared.placed.Placed.{Placed}
 use Rattle.ps_store.specs.Standing.{Holding, Standing, IsPutOf, is_before, HoldsStanding, IsCopyOf}
-use Rattle.ps_store.specs.Laws.{IsBucketOf, HoldsBucketsOf, AreLatestRows}
-use Rattle.ps_bucket_eval.proofs.Members.{Has}
+use Rattle.ps_store.specs.Steps.{in_lane}
+use Rattle.ps_store.specs.Latest.{IsHeld, IsLatestHeld, IsLatestData, ShowsLatest}
+use Rattle.ps_store.specs.Laws.{IsBucketOf}
+use Rattle.ps_store.specs.StepLaws.{HoldsLaneBuckets}
+use Rattle.ps_store.proofs.Members.{Has}
 use Rattle.ps_store.proofs.LatestCopies.{latest_for, latest_is, IsLatestOf, latest_best, latest_none, HaveOneMoment, neither_later}
 
 -- ---- rows by their objects
@@ -105,19 +107,19 @@ not_true_false : (b : Bool) → (b ≡ true → ⊥) → b ≡ false
 not_true_false true h = absurd (h refl)
 not_true_false false h = refl
 
-module _ (definitions : List Definition) (asker : Asker) (source : Source) (held : Holding) (kept : Kept) (rows : List Shown)
-    (standing : HoldsStanding definitions source held)
+module _ (definitions : List Definition) (asker : Asker) (source : Source) (mark : List ℕ) (held kept : Holding) (rows : List Shown)
+    (standing : HoldsStanding definitions source (in_lane mark held))
     (granted_stands : (c : Granted) → Has (granted definitions asker source) c → (s : Standing definitions source) × IsBucketOf definitions asker (rows_in source) s.entry.bucket × IsCopyOf s c)
     (stands_granted : (s : Standing definitions source) → IsBucketOf definitions asker (rows_in source) s.entry.bucket → (c : Granted) × Has (granted definitions asker source) c × IsCopyOf s c)
     (ties : (c d : Granted) → Has (granted definitions asker source) c → Has (granted definitions asker source) d → HaveOneMoment c d → object_of c ≡ object_of d → c.content ≡ d.content)
-    (holds : HoldsBucketsOf definitions asker (rows_in source) held kept) (are : AreLatestRows kept rows) where
+    (holds : HoldsLaneBuckets mark definitions asker (rows_in source) held kept) (are : ShowsLatest kept rows) where
   abbrev copies : List Granted
   copies = granted definitions asker source
 
   abbrev copy_held : (s : Standing definitions source) → HeldCopy
-  copy_held s = record { bucket = s.entry.bucket; key = s.entry.key; put = (standing.each s).0 }
+  copy_held s = record { bucket = mark ++ s.entry.bucket; key = s.entry.key; put = (standing.each s).0 }
 
-  is_held : (s : Standing definitions source) → IsBucketOf definitions asker (rows_in source) s.entry.bucket → Holds kept (copy_held s)
+  is_held : (s : Standing definitions source) → IsBucketOf definitions asker (rows_in source) s.entry.bucket → IsHeld kept (copy_held s)
   is_held s b = holds.own s.entry.bucket b s.entry.key ∙ (standing.each s).1
 
   object_same : (s : Standing definitions source) (c : Granted) → IsCopyOf s c → held_rows.object_of (copy_held s) ≡ object_of c
@@ -143,8 +145,8 @@ module _ (definitions : List Definition) (asker : Asker) (source : Source) (held
       ]
 
   -- the copy that is shown is of a copy that no granted one is later than
-  shown_best : (o : Key) (h : HeldCopy) (s : Standing definitions source) (c best : Granted) → IsLatest kept h → held_rows.object_of h ≡ o → held h.bucket h.key ≡ Some h.put
-      → s.entry.bucket ≡ h.bucket → s.entry.key ≡ h.key → IsCopyOf s c → Has copies c → object_of c ≡ o → IsLatestOf o None copies best → c.content ≡ best.content
+  shown_best : (o : Key) (h : HeldCopy) (s : Standing definitions source) (c best : Granted) → IsLatestHeld kept h → held_rows.object_of h ≡ o → held h.bucket h.key ≡ Some h.put
+      → mark ++ s.entry.bucket ≡ h.bucket → s.entry.key ≡ h.key → IsCopyOf s c → Has copies c → object_of c ≡ o → IsLatestOf o None copies best → c.content ≡ best.content
   shown_best o h s c best latest object there bucket key is has same l =
       elim l.from [
         | inl e ↦ absurd (cc)
@@ -159,25 +161,31 @@ module _ (definitions : List Definition) (asker : Asker) (source : Source) (held
             ties c best has b.0 (neither_later c best (l.none_later c has same) not_later) (same ∙ sym b.1)
       ]
 
-  row_shown : (o : Key) (content : List ℕ) (best : Option Granted) → IsLatestContent kept o content → latest_for o None copies ≡ best → Some content ≡ option_map (λ (c : Granted). c.content) best
+  -- what the client holds of an own bucket is what readers hold
+  owned : (name : List ℕ) (h : HeldCopy) → h.bucket ≡ mark ++ name → kept (mark ++ name) h.key ≡ held (mark ++ name) h.key → kept h.bucket h.key ≡ Some h.put → held (mark ++ name) h.key ≡ Some h.put
+  owned name h at same is = sym same ∙ ap (λ b. kept b h.key) (sym at) ∙ is
+
+  row_shown : (o : Key) (content : List ℕ) (best : Option Granted) → IsLatestData kept o content → latest_for o None copies ≡ best → Some content ≡ option_map (λ (c : Granted). c.content) best
   row_shown o content best (h, latest, object, is_content) found =
-      let bucket : IsBucketOf definitions asker (rows_in source) h.bucket = holds.only h.bucket h.key (λ none. let wrong : None ≡ Some h.put = sym none ∙ latest.held in cc) in
-      let there : held h.bucket h.key ≡ Some h.put = sym (holds.own h.bucket bucket h.key) ∙ latest.held in
-      let s = standing.only h.bucket h.key h.put there in
-      let g = stands_granted s.0 (subst (λ b. IsBucketOf definitions asker (rows_in source) b) (sym s.1) bucket) in
+      let bucket = holds.only h.bucket h.key (λ none. let wrong : None ≡ Some h.put = sym none ∙ latest.there in cc) in
+      let name : List ℕ = bucket.0 in
+      let there : held (mark ++ name) h.key ≡ Some h.put = owned name h bucket.1 (holds.own name bucket.2 h.key) latest.there in
+      let s = standing.only name h.key h.put there in
+      let at : mark ++ s.0.entry.bucket ≡ h.bucket = ap (λ b. mark ++ b) s.1 ∙ sym bucket.1 in
+      let g = stands_granted s.0 (subst (λ b. IsBucketOf definitions asker (rows_in source) b) (sym s.1) bucket.2) in
       let of_object : object_of g.0 ≡ o = (λ i. (sym g.2.kind i, sym g.2.id i)) ∙ (λ i. ((s.2 i).kind, (s.2 i).id)) ∙ object in
       let own : content ≡ g.0.content = sym is_content ∙ put_content s.0.entry h.put s.3 ∙ g.2.content in
-      by_best best found h s.0 g.0 latest object there s.1 s.2 g.2 g.1 of_object own
+      by_best best found h s.0 g.0 latest object (subst (λ b. held b h.key ≡ Some h.put) (sym bucket.1) there) at s.2 g.2 g.1 of_object own
     where
-      by_best : (best : Option Granted) → latest_for o None copies ≡ best → (h : HeldCopy) (s : Standing definitions source) (c : Granted) → IsLatest kept h → held_rows.object_of h ≡ o → held h.bucket h.key ≡ Some h.put
-          → s.entry.bucket ≡ h.bucket → s.entry.key ≡ h.key → IsCopyOf s c → Has copies c → object_of c ≡ o → content ≡ c.content → Some content ≡ option_map (λ (c : Granted). c.content) best
+      by_best : (best : Option Granted) → latest_for o None copies ≡ best → (h : HeldCopy) (s : Standing definitions source) (c : Granted) → IsLatestHeld kept h → held_rows.object_of h ≡ o → held h.bucket h.key ≡ Some h.put
+          → mark ++ s.entry.bucket ≡ h.bucket → s.entry.key ≡ h.key → IsCopyOf s c → Has copies c → object_of c ≡ o → content ≡ c.content → Some content ≡ option_map (λ (c : Granted). c.content) best
       by_best None found h s c latest object there bucket key is has same own = absurd ((latest_none o None copies found).1 c has same)
       by_best (Some best) found h s c latest object there bucket key is has same own =
           ap Some (own ∙ shown_best o h s c best latest object there bucket key is has same (latest_best o None copies best found))
 
   row_is : (o : Key) (found : Option (List ℕ)) → row_at o rows ≡ found → found ≡ option_map (λ (c : Granted). c.content) (latest_for o None copies)
   row_is o None e = no_row o (latest_for o None copies) e refl
-  row_is o (Some content) e = row_shown o content (latest_for o None copies) (subst (λ r. IfSome r (IsLatestContent kept o)) e (are.latest o)) refl
+  row_is o (Some content) e = row_shown o content (latest_for o None copies) (subst (λ r. IfSome r (IsLatestData kept o)) e (are.latest o)) refl
 
   pub shown_are_due : rows ≡ rows_of copies
   shown_are_due = rows_of_latest copies rows (as_test (is_sorted key_cmp (by_object rows)) are.in_order) (λ o. row_is o (row_at o rows) refl)

@@ -12,8 +12,8 @@ use Rattle.ps_bucket_eval.specs.declared.placed.Placed.{Placed}
 use Rattle.ps_bucket_eval.specs.Shown.{alone, object_id}
 use Rattle.ps_bucket_eval.specs.Entries.{RowOf, subkey_of, placed_in, placed_all, buckets_of, query_entries, definition_entries, entries_of}
 use Rattle.ps_store.specs.Laws.{HaveNumbers}
-use Rattle.ps_bucket_eval.proofs.Members.{Has, from_map, from_flat, has_contains}
-use Rattle.ps_bucket_eval.proofs.Ranks.{same_place}
+use Rattle.ps_store.proofs.Members.{Has, from_map, from_flat, has_contains}
+use Rattle.ps_store.proofs.Queries.{same_place}
 
 -- ---- texts without `/`
 

@@ -22,7 +22,7 @@ changes_leave : (position index : ℕ) (changes : List Change) (source : Source)
 changes_leave position index [] source = refl
 changes_leave position index (change ∷ changes) source = changes_leave position (index + 1) changes (after source (record { position = position; index = index; change = change }))
 
-transactions_leave : (transactions : List Transaction) (source : Source) → after_all source (timed transactions) ≡ after_transactions transactions source
+pub transactions_leave : (transactions : List Transaction) (source : Source) → after_all source (timed transactions) ≡ after_transactions transactions source
 transactions_leave [] source = refl
 transactions_leave (t ∷ ts) source =
     after_all-append source (timed_from t.position.0 0 t.changes) (timed ts)

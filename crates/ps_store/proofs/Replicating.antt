@@ -10,7 +10,7 @@ use Rattle.ps_values.specs.declared.columns.Column.{Column}
 use Rattle.ps_changes.specs.declared.changes.Change.{Change}
 use Rattle.ps_changes.specs.declared.changes.Transaction.{Transaction}
 use Rattle.ps_changes.specs.Source.{Key, key_cmp, Source, Version}
-use Rattle.ps_changes.proofs.Sources.{keys_total, find-after_row}
+use Rattle.ps_changes.proofs.Sources.{keys_total}
 use Rattle.ps_rules.specs.declared.definitions.Definition.{Definition}
 use Rattle.ps_rules.specs.RuleSets.{RuleSet}
 use Rattle.ps_bucket_eval.specs.declared.placed.Placed.{Placed}
@@ -20,27 +20,11 @@ use Rattle.ps_store.specs.declared.replicas.Replica.{Replica}
 use Rattle.ps_store.specs.Laws.{Rises}
 use Rattle.ps_store.specs.Logs.{StandsFor}
 use Rattle.ps_store.specs.Originals.{Entered, Timed, written, timed_from, timed, key_of, after, entries_at, columns_of, standing_entries, change_ops, ops_from}
-use Rattle.ps_store.specs.Replicas.{noted, with_note, notes_of, source_of, Holds}
+use Rattle.ps_store.specs.Noting.{noted, with_note}
+use Rattle.ps_store.specs.Replicas.{notes_of, source_of, Holds}
+use Rattle.ps_store.proofs.Sources.{same_with, columns_after}
 
 -- ---- notes
-
-after_more : (table id : List ℕ) (upto : ℕ) (row : Option (List Column)) (notes : List Note) (note : Note)
-    → row_after table id upto row (notes ++ note ∷ []) ≡ (if counts_for table id upto note then note.row else row_after table id upto row notes)
-after_more table id upto row [] note = refl
-after_more table id upto row (x ∷ notes) note = after_more table id upto (if counts_for table id upto x then x.row else row) notes note
-
-same_more : (floor : ℕ) (a b : List Note) (note : Note) → SameFrom floor a b → SameFrom floor (a ++ note ∷ []) (b ++ note ∷ [])
-same_more floor a b note h = λ table id position past.
-    after_more table id position None a note
-    ∙ ap (λ row. if counts_for table id position note then note.row else row) (h table id position past)
-    ∙ sym (after_more table id position None b note)
-
-same_with : (floor : ℕ) (definitions : List Definition) (a b : List Note) (note : Note) → SameFrom floor a b → SameFrom floor (with_note definitions a note) (with_note definitions b note)
-same_with floor definitions a b note h = go (is_read definitions note.table)
-  where
-    go : (read : Bool) → SameFrom floor (if read then a ++ note ∷ [] else a) (if read then b ++ note ∷ [] else b)
-    go true = same_more floor a b note h
-    go false = h
 
 -- a note is put behind those that stand the same
 pub noted_same : (floor position : ℕ) (table id : List ℕ) (row copy : Option (List Column)) (rules rules' : RuleSet) (old middle new : List Note)
@@ -63,22 +47,6 @@ kept_at old new key row was is updated other =
     updated other
     ∙ ap (λ r. cond (eq_by_cmp key_cmp key other) r (get key_cmp old other)) (sym is)
     ∙ ap (λ b. cond b row (get key_cmp old other)) ((eq_by_cmp_equiv keys_total).symm key other)
-
-columns_there : (position index : ℕ) (row : Option (List Column)) → columns_of (option_map (λ columns. record { columns = columns; position = position; index = index }) row) ≡ row
-columns_there position index (Some columns) = refl
-columns_there position index None = refl
-
-columns_by : (b : Bool) (x y : Option Version) → columns_of (cond b x y) ≡ cond b (columns_of x) (columns_of y)
-columns_by true x y = refl
-columns_by false x y = refl
-
--- the columns at a key after a change
-columns_after : (source : Source) (t : Timed) (key : Key) → columns_of (find key_cmp key (after source t)) ≡ cond (eq_by_cmp key_cmp key (key_of t)) t.change.row (columns_of (find key_cmp key source))
-columns_after source t key =
-    let version : Option Version = option_map (λ columns. record { columns = columns; position = t.position; index = t.index }) t.change.row in
-    ap columns_of (find-after_row t.position t.index (key_of t) t.change.row source key)
-    ∙ columns_by (eq_by_cmp key_cmp key (key_of t)) version (find key_cmp key source)
-    ∙ ap (λ row. cond (eq_by_cmp key_cmp key (key_of t)) row (columns_of (find key_cmp key source))) (columns_there t.position t.index t.change.row)
 
 -- ---- one more change
 

@@ -11,21 +11,24 @@ use Rattle.ps_values.specs.declared.columns.Column.{Column}
 use Rattle.ps_bucket_log.specs.declared.ops.Key.{Key as EntryKey}
 use Rattle.ps_bucket_log.specs.declared.ops.Op.{Op}
 use Rattle.ps_bucket_log.specs.Ops.{id_of}
+use Rattle.ps_bucket_log.specs.Buckets.{bucket_of, fresh}
 use Rattle.ps_changes.specs.Source.{Key, key_cmp, Version, Source}
-use Rattle.ps_changes.proofs.Sources.{keys_total, keys_exact, find-after_row}
+use Rattle.ps_store.proofs.RowKeys.{keys_total, keys_exact, find-after_row}
 use Rattle.ps_rules.specs.declared.definitions.Definition.{Definition}
 use Rattle.ps_rules.specs.RuleSets.{rises_past, numbers_of}
 use Rattle.ps_bucket_eval.specs.declared.placed.Placed.{Placed}
 use Rattle.ps_bucket_eval.specs.Entries.{RowOf, entries_of}
 use Rattle.ps_bucket_eval.specs.Laws.{EntriesRise}
-use Rattle.ps_store.specs.Originals.{put, leaving, written, Timed, key_of, after, row_of, entries_at, columns_of, standing_entries, change_ops, ops_from}
+use Rattle.ps_store.specs.Originals.{put, leaving, written, Timed, key_of, after, row_of, entries_at, columns_of, standing_entries, change_ops, in_bucket}
 use Rattle.ps_store.specs.Standing.{Holding, Standing, HoldsStanding}
+use Rattle.ps_store.specs.Steps.{Step, lane_ops, source_after, held_of, in_lane}
 use Rattle.ps_store.specs.Laws.{HaveNumbers}
-use Rattle.ps_bucket_eval.proofs.Members.{Has, any_has, has_any, has_contains, contains_has}
+use Rattle.ps_store.proofs.Members.{Has, any_has, has_any, has_contains, contains_has}
 use Rattle.ps_store.proofs.Keys.{same_row}
-use Rattle.ps_store.proofs.Replays.{held_over, held_over-append, is_at, at_is, at_itself, HasId, id_of_has, id_within, AreApart, held_elsewhere, held_there, length-written}
+use Rattle.ps_store.proofs.Replays.{held_over, held_over-append, reader_holds, is_at, at_is, at_itself, HasId, id_of_has, id_within, AreApart, held_elsewhere, held_there, length-written}
 use Rattle.ps_store.proofs.Orders.{Rise, rise_of, apart_of, ids_rise}
-use Rattle.ps_store.proofs.Moments.{after_all, IsEarlier, IsReached, MomentsRise}
+use Rattle.ps_store.proofs.Moments.{IsEarlier, IsReached}
+use Rattle.ps_store.proofs.Stepping.{step_ops, StepsFrom, lane_marked, in_marked}
 
 -- ---- what is held
 
@@ -70,7 +73,16 @@ holds_alike definitions source next position index held other same holds = recor
   recent = holds.recent;
 }
 
-nothing_held : (definitions : List Definition) → Holds definitions [] 1 0 0 (λ bucket key. None)
+-- later ids may begin further on
+holds_past : (definitions : List Definition) (source : Source) (next first position index : ℕ) (held : Holding) → next ≤ first → Holds definitions source next position index held → Holds definitions source first position index held
+holds_past definitions source next first position index held past holds = record {
+  each = λ key version x s. let r = holds.each key version x s in (r.0, r.1, omega (arith, past, r.2));
+  only = holds.only;
+  rise = holds.rise;
+  recent = holds.recent;
+}
+
+nothing_held : (definitions : List Definition) → Holds definitions [] 0 0 0 (λ bucket key. None)
 nothing_held definitions = record {
   each = λ key version x s. absurd (let wrong : None ≡ Some version = s.there in cc);
   only = λ bucket key op h. absurd (let wrong : None ≡ Some op = h in cc);
@@ -280,7 +292,7 @@ module _ (definitions : List Definition) (order : (source : RowOf) → EntriesRi
     holds_now : Holds definitions (after source t) (next + length (written next old new)) t.position (t.index + 1) held_now
     holds_now = record { each = each_now; only = only_now; rise = rise_now; recent = recent_now }
 
-  -- ---- all changes
+  -- ---- all steps
 
   pub record HoldsAfter (source : Source) (held : Holding) : Type 0 where
     pub next : ℕ
@@ -288,19 +300,20 @@ module _ (definitions : List Definition) (order : (source : RowOf) → EntriesRi
     pub index : ℕ
     pub holds : Holds definitions source next position index held
 
-  holds_all : (source : Source) (next position index : ℕ) (held : Holding) (ts : List Timed) → MomentsRise position index ts → Holds definitions source next position index held
-      → HoldsAfter (after_all source ts) (λ bucket key. held_over bucket key (held bucket key) (ops_from definitions source next ts))
-  holds_all source next position index held [] rise holds = record { next = next; position = position; index = index; holds = holds }
-  holds_all source next position index held (t ∷ ts) rise holds =
-      let ops = change_ops definitions source next t in
-      let rest = ops_from definitions (after source t) (next + length ops) ts in
-      let all = holds_all (after source t) (next + length ops) t.position (t.index + 1) (λ bucket key. held_over bucket key (held bucket key) ops) ts rise.1
-      (holds_now source next position index held holds t rise.0) in
+  holds_steps : (source : Source) (next position index : ℕ) (held : Holding) (ss : List Step) → StepsFrom definitions source next position index ss → Holds definitions source next position index held
+      → HoldsAfter (source_after source ss) (λ bucket key. held_over bucket key (held bucket key) (step_ops definitions source ss))
+  holds_steps source next position index held [] rise holds = record { next = next; position = position; index = index; holds = holds }
+  holds_steps source next position index held (s ∷ ss) rise holds =
+      let ops = change_ops definitions source s.first s.timed in
+      let rest = step_ops definitions (after source s.timed) ss in
+      let here = holds_past definitions source next s.first position index held rise.0 holds in
+      let all = holds_steps (after source s.timed) (s.first + length ops) s.timed.position (s.timed.index + 1) (λ bucket key. held_over bucket key (held bucket key) ops) ss rise.2
+      (holds_now source s.first position index held here s.timed rise.1) in
       record {
         next = all.next;
         position = all.position;
         index = all.index;
-        holds = holds_alike definitions (after_all (after source t) ts) all.next all.position all.index
+        holds = holds_alike definitions (source_after (after source s.timed) ss) all.next all.position all.index
             (λ bucket key. held_over bucket key (held_over bucket key (held bucket key) ops) rest) (λ bucket key. held_over bucket key (held bucket key) (ops ++ rest))
             (λ bucket key. sym (held_over-append bucket key (held bucket key) ops rest)) all.holds;
       }
@@ -352,12 +365,18 @@ module _ (definitions : List Definition) (source : Source) (next position index 
         omega (arith, less, left, right);
   }
 
--- readers that took the operations of all changes from the first on hold what stands
-pub held_standing : (definitions : List Definition) → ((source : RowOf) → EntriesRise (entries_of definitions source)) → rises_past 0 (numbers_of definitions) ≡ true → HaveNumbers definitions
-    → (ts : List Timed) → MomentsRise 0 0 ts → (source : Source) → after_all [] ts ≡ source → (held : Holding)
-    → ((bucket : List ℕ) (key : EntryKey) → held_over bucket key None (ops_from definitions [] 1 ts) ≡ held bucket key) → HoldsStanding definitions source held
-held_standing definitions order numbers have ts rise source is held same =
-    let all = holds_all definitions order numbers have [] 1 0 0 (λ bucket key. None) ts rise (nothing_held definitions) in
-    subst (λ (s : Source). HoldsStanding definitions s held) is
-    (holds_standing definitions (after_all [] ts) all.next all.position all.index held
-    (holds_alike definitions (after_all [] ts) all.next all.position all.index (λ bucket key. held_over bucket key None (ops_from definitions [] 1 ts)) held same all.holds))
+-- readers that took the operations of all steps hold what stands
+pub steps_standing : (definitions : List Definition) → ((source : RowOf) → EntriesRise (entries_of definitions source)) → rises_past 0 (numbers_of definitions) ≡ true → HaveNumbers definitions
+    → (ss : List Step) → StepsFrom definitions [] 0 0 0 ss → (held : Holding)
+    → ((bucket : List ℕ) (key : EntryKey) → held_over bucket key None (step_ops definitions [] ss) ≡ held bucket key) → HoldsStanding definitions (source_after [] ss) held
+steps_standing definitions order numbers have ss rise held same =
+    let all = holds_steps definitions order numbers have [] 0 0 0 (λ bucket key. None) ss rise (nothing_held definitions) in
+    holds_standing definitions (source_after [] ss) all.next all.position all.index held
+    (holds_alike definitions (source_after [] ss) all.next all.position all.index (λ bucket key. held_over bucket key None (step_ops definitions [] ss)) held same all.holds)
+
+-- what readers hold of a lane is what the operations of its steps leave
+pub lane_held : (mark : List ℕ) (definitions : List Definition) (ss : List Step) (bucket : List ℕ) (key : EntryKey)
+    → held_over bucket key None (step_ops definitions [] ss) ≡ in_lane mark (held_of (lane_ops mark definitions [] ss)) bucket key
+lane_held mark definitions ss bucket key =
+    let ops = ap (in_bucket (mark ++ bucket)) (lane_marked mark definitions [] ss) ∙ in_marked mark bucket (step_ops definitions [] ss) in
+    sym (ap (λ os. (bucket_of os).held key) ops ∙ reader_holds bucket key fresh (step_ops definitions [] ss))

@@ -14,8 +14,8 @@ use Rattle.ps_grant.specs.Grants.{is_granted, copy_with, copy_of, grant_of, gran
 use Rattle.ps_grant.specs.Latest.{object_of}
 use Rattle.ps_grant.specs.Objects.{object_id, object_data}
 use Rattle.ps_grant.specs.Sources.{row_of, rows_in}
-use Rattle.ps_bucket_eval.proofs.Members.{Has, from_flat}
-use Rattle.ps_bucket_eval.proofs.Ranks.{same_place}
+use Rattle.ps_store.proofs.Members.{Has, from_flat}
+use Rattle.ps_store.proofs.Queries.{same_place}
 use Rattle.ps_store.proofs.LatestCopies.{HaveOneMoment}
 
 from_filter_map : {X Y : Type 0} (f : X → Option Y) (xs : List X) (y : Y) → Has (filter_map f xs) y → (x : X) × Has xs x × (f x ≡ Some y)

@@ -13,13 +13,10 @@ use Rattle.ps_changes.specs.Source.{Key, key_cmp, Version, Source, after_row}
 use Rattle.ps_rules.specs.declared.definitions.Definition.{Definition}
 use Rattle.ps_bucket_eval.specs.declared.placed.Placed.{Placed}
 use Rattle.ps_bucket_eval.specs.Entries.{RowOf, entries_of}
-
 -- ---- one change
 
 -- an operation, and the bucket that it is written into
-pub record Entered : Type 0 where
-  pub bucket : List ℕ
-  pub op : Op
+pub use Rattle.ps_store.specs.declared.entered.Entered.{Entered}
 
 -- the REMOVE of an entry, and its PUT, with their ids
 abbrev pub removed : ℕ → Placed → Entered

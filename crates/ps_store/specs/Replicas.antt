@@ -10,14 +10,7 @@ use Rattle.ps_params.specs.Indexes.{is_read}
 use Rattle.ps_store.specs.declared.replicas.Replica.{Replica}
 use Rattle.ps_store.specs.Originals.{Timed, after, columns_of, ops_from}
 use Rattle.ps_store.specs.Logs.{AreLogs, StandsFor}
-
--- the note of a change
-abbrev pub noted : Timed → Note
-noted t = record { at = t.position; table = t.change.table; id = t.change.id; row = t.change.row }
-
--- a note behind others, if a parameter query reads its table
-abbrev pub with_note : List Definition → List Note → Note → List Note
-with_note definitions notes note = if is_read definitions note.table then notes ++ note ∷ [] else notes
+pub use Rattle.ps_store.specs.Noting.{noted, with_note}
 
 -- the notes of changes, of the tables that parameter queries read
 abbrev pub notes_of : List Definition → List Timed → List Note

@@ -2,12 +2,33 @@
 #![tactic(auto)]
 
 mod bucket_logs;
+mod entered;
+mod events;
+mod faults;
+mod fixed;
 mod laws;
+mod logs;
 mod numbers;
 mod places;
+mod plans;
+mod reach;
 mod replicas;
+mod rooms;
+mod rows;
+mod stores;
+mod tails;
+mod waiting;
 
 pub use bucket_logs::BucketLogs;
-pub use laws::{latest_rows_are_due, readers_hold_what_stands};
+pub use entered::Entered;
+pub use events::Event;
+pub use faults::{FeedFault, NothingToCommit, WriteFault};
+pub use fixed::{Fixed, Limits};
+pub use laws::{
+    committed_rows_are_due, latest_rows_are_due, latest_rows_are_granted, ledgers_tell_events,
+    ledgers_tell_histories, ledgers_tell_ops, readers_hold_what_is_committed,
+    readers_hold_what_stands, readers_hold_what_steps_leave, steps_lead_to_sources,
+};
 pub use numbers::have_numbers;
 pub use replicas::{Replica, replicate};
+pub use stores::{Checkpoint, Store, Wrote};

@@ -1,29 +1,28 @@
-use Rattle.std.proofs.Common.{◌≡◌, Some, sym, ap, ◌∙◌}
-use Rattle.std.proofs.lemmas.Option.{same_Some}
-use Rattle.std.specs.FinMap.Entries.{find}
-use Rattle.ps_changes.specs.Source.{Key, key_cmp, Version, Source, source_at}
-use Rattle.ps_store.specs.Laws.{last_position, all_held}
-use Rattle.ps_store.proofs.Apart.{moments_tell_rows, in_order}
-use Rattle.ps_store.proofs.Copies.{granted_stands, stands_granted, find_there}
-use Rattle.ps_store.proofs.DueRows.{shown_are_due}
-use Rattle.ps_store.proofs.Ties.{MomentsTellRows, tied_same}
+use Rattle.std.proofs.Common.{List, [], sym, ap, ◌∙◌, subst}
+use Rattle.ps_changes.specs.Source.{Source}
+use Rattle.ps_client_log.specs.Kept.{bucket_at}
+use Rattle.ps_grant.specs.Grants.{granted}
+use Rattle.ps_grant.specs.Latest.{rows_of}
+use Rattle.ps_grant.specs.Sources.{rows_in}
+use Rattle.ps_store.specs.Originals.{Entered, original, ops_from, timed}
+use Rattle.ps_store.specs.Standing.{Holding}
+use Rattle.ps_store.specs.Steps.{source_after, held_of}
+use Rattle.ps_store.specs.Laws.{AreSqlVectors}
+use Rattle.ps_store.specs.StepLaws.{HoldsLaneBuckets}
+use Rattle.ps_store.proofs.Following.{all_steps, all_rise, all_source, all_ops, lane_buckets, shows}
 use Rattle.ps_store.proofs.laws.latest_rows_are_due.Goals as goal
 
--- a key has one version
-same_entry : (source : Source) (e f : Key × Version) → e.0 ≡ f.0 → find key_cmp e.0 source ≡ Some e.1 → find key_cmp f.0 source ≡ Some f.1 → e ≡ f
-same_entry source e f key h g =
-    let version : e.1 ≡ f.1 = same_Some e.1 f.1 (sym h ∙ ap (λ k. find key_cmp k source) key ∙ g) in
-    λ i. (key i, version i)
-
 pub returns : goal.returns
+unfolding original
 returns c = λ rules transactions asker kept rows are numbers rises sql holds latest.
-    let source : Source = source_at transactions (last_position 0 transactions) in
-    let sorted = in_order transactions rises in
-    let same = c.same_for_every_asker.ensures in
-    let tell : MomentsTellRows source = λ e f h g p i.
-    let key = moments_tell_rows transactions rises e.0 f.0 e.1 f.1 (find_there source e.0 e.1 sorted h) (find_there source f.0 f.1 sorted g) p i in
-    same_entry source e f key (find_there source e.0 e.1 sorted h) (find_there source f.0 f.1 sorted g) in
-    shown_are_due rules.definitions asker source (all_held rules.definitions transactions) kept rows (c.readers_hold_what_stands.ensures rules transactions are numbers rises)
-    (granted_stands rules asker source are sorted sql same c.names_are_distinct.ensures (λ row. c.entries_stand_where_conditions_hold.ensures.placed rules row are)) (stands_granted rules asker source are sorted sql same c.names_are_distinct.ensures (λ row. c.entries_stand_where_conditions_hold.ensures.placed rules row are))
-    (λ a b h g one object. tied_same rules asker source are tell a b h g one object)
-    holds latest
+    let steps = all_steps rules.definitions transactions in
+    let source = all_source rules.definitions transactions rises in
+    let held : Holding = λ bucket key. (bucket_at kept bucket).held key in
+    let buckets =
+    subst (λ (s : Source). HoldsLaneBuckets [] rules.definitions asker (rows_in s) (held_of (ops_from rules.definitions [] 1 (timed transactions))) held) (sym source)
+    (lane_buckets rules.definitions asker _ (held_of (ops_from rules.definitions [] 1 (timed transactions))) kept holds) in
+    c.latest_rows_are_granted.ensures [] rules steps asker held rows are numbers (all_rise rules.definitions transactions rises)
+    (subst (λ (s : Source). AreSqlVectors rules.definitions asker (rows_in s)) (sym source) sql)
+    (subst (λ (es : List Entered). HoldsLaneBuckets [] rules.definitions asker (rows_in (source_after [] steps)) (held_of es) held) (sym (all_ops rules.definitions transactions)) buckets)
+    (shows kept rows latest)
+    ∙ ap (λ (s : Source). rows_of (granted rules.definitions asker s)) source

@@ -1,0 +1,146 @@
+-- One more change in a plan.
+use Rattle.std.proofs.Common.{◌≡◌, ℕ, suc, ◌+◌, ◌≤◌, ◌<◌, Bool, true, false, cond, Option, Some, None, List, [], ◌∷◌, ◌++◌, refl, sym, ap, ◌∙◌, subst, length, map, fold, append_assoc, length-append, arith}
+use Rattle.std.specs.Prelude.{if◌then◌else◌, nat_lt}
+use Rattle.std.specs.FinMap.Entries.{find}
+use Rattle.std.specs.Ordering.{eq_by_cmp}
+use Rattle.std.proofs.lemmas.Bool.Decides.{nat_tests}
+use Rattle.ps_changes.specs.Source.{Key, key_cmp}
+use Rattle.ps_rules.specs.RuleSets.{RuleSet}
+use Rattle.ps_bucket_eval.specs.declared.placed.Placed.{Placed}
+use Rattle.ps_store.specs.declared.fixed.Limits.{Limits}
+use Rattle.ps_store.specs.declared.plans.Made.{Made}
+use Rattle.ps_store.specs.declared.plans.Plan.{Plan}
+use Rattle.ps_store.specs.declared.plans.Refusal.{Refusal}
+use Rattle.ps_store.specs.declared.plans.Refusal.TheVariants.{TooWide, OpsFull}
+use Rattle.ps_store.specs.declared.rows.Rows.{Rows}
+use Rattle.ps_store.specs.Ledgers.{Ledger, entries_after, next_ops, write_next}
+use Rattle.ps_store.specs.Originals.{Entered, Timed, key_of, after, entries_at, columns_of, standing_entries, removed, put, leaving, numbered}
+use Rattle.ps_store.specs.Plans.{PlanStands, seen_at}
+use Rattle.ps_store.specs.Runs.{refusal_of, ops_from, lasts_from}
+use Rattle.ps_store.specs.Tails.{ids, AreRowsOf}
+use Rattle.ps_store.proofs.Lanes.{fold_push, length_lasts, ops_push, lasts_push, next_rules, length_numbered}
+use Rattle.ps_store.proofs.Maps.{equal_rows}
+use Rattle.ps_store.proofs.Sources.{columns_after}
+
+not_past : (a b : ℕ) → b ≤ a → nat_lt a b ≡ false
+not_past a b h = grind (arith, nat_tests)
+
+is_past : (a b : ℕ) → a < b → nat_lt a b ≡ true
+is_past a b h = grind (arith, nat_tests)
+
+wide_from : (wide full : Bool) → wide ≡ true → (r : Option Refusal) → (if wide then r else if full then Some OpsFull else None) ≡ r
+wide_from wide full a r = (λ i. if a i then r else if full then Some OpsFull else None)
+
+full_from : (wide full : Bool) → wide ≡ false → full ≡ true → (r : Option Refusal) → (if wide then r else if full then Some OpsFull else None) ≡ Some OpsFull
+full_from wide full a b r = (λ i. if a i then r else if b i then Some OpsFull else None)
+
+fits_from : (wide full : Bool) → wide ≡ false → full ≡ false → (r : Option Refusal) → (if wide then r else if full then Some OpsFull else None) ≡ None
+fits_from wide full a b r = (λ i. if a i then r else if b i then Some OpsFull else None)
+
+map_more : {A B : Type 0} (f : A → B) (xs : List A) (x : A) → map f (xs ++ x ∷ []) ≡ map f xs ++ f x ∷ []
+map_more f [] x = refl
+map_more f (y ∷ xs) x = ap (λ zs. f y ∷ zs) (map_more f xs x)
+
+length_map : {A B : Type 0} (f : A → B) (xs : List A) → length (map f xs) ≡ length xs
+length_map f [] = refl
+length_map f (x ∷ xs) = ap suc (length_map f xs)
+
+rows_push : (ms : List Made) (ts : List Timed) (m : Made) (t : Timed) → length ms ≡ length ts → AreRowsOf ms ts → m.row ≡ t.change.row → AreRowsOf (ms ++ m ∷ []) (ts ++ t ∷ [])
+rows_push [] [] m t e h same = (same, tt)
+rows_push [] (x ∷ ts) m t e h same = absurd (omega (arith, e))
+rows_push (y ∷ ms) [] m t e h same = absurd (omega (arith, e))
+rows_push (y ∷ ms) (x ∷ ts) m t e h same = (h.0, rows_push ms ts m t (omega (arith, e)) h.1 same)
+
+module _ (limits : Limits) (rules : RuleSet) (base : Ledger) (ts : List Timed) (t : Timed) (rules_are : base.force.rules ≡ rules) where
+  abbrev now : Ledger
+  now = fold write_next base ts
+
+  now_rules : now.force.rules ≡ rules
+  now_rules = next_rules ts base ∙ rules_are
+
+  -- what is refused
+  pub is_wide : (key : Key) → key ≡ key_of t → limits.entries < length (entries_at rules.definitions key t.change.row) → (count : ℕ) → count ≡ limits.entries + 1
+      → Some (TooWide count) ≡ refusal_of limits now t
+  is_wide key same wide count is =
+      let more : limits.entries < length (entries_after now t) =
+      subst (λ (r : RuleSet). limits.entries < length (entries_at r.definitions (key_of t) t.change.row)) (sym now_rules)
+      (subst (λ (q : Key). limits.entries < length (entries_at rules.definitions q t.change.row)) same wide) in
+      ap (λ (n : ℕ). Some (TooWide n)) is
+      ∙ sym (wide_from (nat_lt limits.entries (length (entries_after now t))) (nat_lt limits.ops (now.last + length (next_ops now t))) (is_past limits.entries (length (entries_after now t)) more) (Some (TooWide (limits.entries + 1))))
+
+  module _ (rows : Rows) (old : Plan) (h : PlanStands rules rows old base ts) (key : Key) (is_key : key ≡ key_of t) (before left gone : List Placed)
+      (is_before : before ≡ seen_at rules.definitions old rows key) (is_left : left ≡ entries_at rules.definitions key t.change.row) (is_gone : gone ≡ leaving before left) where
+    before_is : before ≡ standing_entries now.force.rules.definitions now.force.source (key_of t)
+    before_is =
+        is_before ∙ h.entries key
+        ∙ ap (λ (q : Key). standing_entries rules.definitions now.force.source q) is_key
+        ∙ ap (λ (r : RuleSet). standing_entries r.definitions now.force.source (key_of t)) (sym now_rules)
+
+    left_is : left ≡ entries_after now t
+    left_is = is_left ∙ ap (λ (q : Key). entries_at rules.definitions q t.change.row) is_key ∙ ap (λ (r : RuleSet). entries_at r.definitions (key_of t) t.change.row) (sym now_rules)
+
+    change_is : next_ops now t ≡ numbered removed (now.last + 1) gone ++ numbered put (now.last + 1 + length gone) left
+    change_is = sym (ap (λ g. numbered removed (now.last + 1) g ++ numbered put (now.last + 1 + length g) left) (is_gone ∙ ap (λ b. leaving b left) before_is)
+        ∙ ap (λ a. (let g = leaving (standing_entries now.force.rules.definitions now.force.source (key_of t)) a in numbered removed (now.last + 1) g ++ numbered put (now.last + 1 + length g) a)) left_is)
+
+    change_length : length (next_ops now t) ≡ length gone + length left
+    change_length =
+        ap length change_is
+        ∙ omega (arith, length-append (numbered removed (now.last + 1) gone) (numbered put (now.last + 1 + length gone) left), length_numbered removed (now.last + 1) gone, length_numbered put (now.last + 1 + length gone) left)
+
+    narrow_is : length left ≤ limits.entries → nat_lt limits.entries (length (entries_after now t)) ≡ false
+    narrow_is narrow = subst (λ (es : List Placed). nat_lt limits.entries (length es) ≡ false) left_is (not_past limits.entries (length left) narrow)
+
+    pub is_full : length left ≤ limits.entries → limits.ops < old.last.0 + (length gone + length left) → Some OpsFull ≡ refusal_of limits now t
+    is_full narrow more =
+        let b : nat_lt limits.ops (now.last + length (next_ops now t)) ≡ true = is_past limits.ops (now.last + length (next_ops now t)) (omega (arith, more, change_length, h.last)) in
+        sym (full_from (nat_lt limits.entries (length (entries_after now t))) (nat_lt limits.ops (now.last + length (next_ops now t))) (narrow_is narrow) b (Some (TooWide (limits.entries + 1))))
+
+    pub is_fine : length left ≤ limits.entries → old.last.0 + (length gone + length left) ≤ limits.ops → None ≡ refusal_of limits now t
+    is_fine narrow fits =
+        let b : nat_lt limits.ops (now.last + length (next_ops now t)) ≡ false = not_past limits.ops (now.last + length (next_ops now t)) (omega (arith, fits, change_length, h.last)) in
+        sym (fits_from (nat_lt limits.entries (length (entries_after now t))) (nat_lt limits.ops (now.last + length (next_ops now t))) (narrow_is narrow) b (Some (TooWide (limits.entries + 1))))
+
+    -- the plan with the change
+    pub stands_more : (new : Plan) (made : Made)
+        → ((other : Key) → seen_at rules.definitions new rows other ≡ (if eq_by_cmp key_cmp other key then left else seen_at rules.definitions old rows other))
+        → made.last.0 ≡ old.last.0 + (length gone + length left) → made.row ≡ t.change.row → new.last ≡ made.last
+        → new.entered.items ≡ old.entered.items ++ (numbered removed (old.last.0 + 1) gone ++ numbered put (old.last.0 + 1 + length gone) left)
+        → new.made.items ≡ old.made.items ++ made ∷ []
+        → PlanStands rules rows new base (ts ++ t ∷ [])
+    stands_more new made seen last row same entered made_is =
+        let next : fold write_next base (ts ++ t ∷ []) ≡ write_next now t = fold_push write_next ts t base in
+        let last_is : made.last.0 ≡ (write_next now t).last = omega (arith, last, h.last, change_length) in
+        let count : length old.made.items ≡ length ts = sym (length_map (λ (m : Made). m.last.0) old.made.items) ∙ ap length h.lasts ∙ length_lasts ts base in
+        record {
+          rules_are = rules_are;
+          entries = λ other. seen other ∙ by (eq_by_cmp key_cmp other key) other refl ∙ ap (λ (l : Ledger). standing_entries rules.definitions l.force.source other) (sym next);
+          last = ap (λ id. id.0) same ∙ last_is ∙ ap (λ (l : Ledger). l.last) (sym next);
+          entered =
+              entered
+              ∙ ap (λ n. old.entered.items ++ (numbered removed (n + 1) gone ++ numbered put (n + 1 + length gone) left)) h.last
+              ∙ ap (λ ops. old.entered.items ++ ops) (sym change_is)
+              ∙ ap (λ es. es ++ next_ops now t) h.entered
+              ∙ sym (ops_push ts t base);
+          lasts =
+              ap ids made_is
+              ∙ map_more (λ (m : Made). m.last.0) old.made.items made
+              ∙ ap (λ ns. ns ++ made.last.0 ∷ []) h.lasts
+              ∙ ap (λ n. lasts_from base ts ++ n ∷ []) last_is
+              ∙ sym (lasts_push ts t base);
+          rows_are = subst (λ (ms : List Made). AreRowsOf ms (ts ++ t ∷ [])) (sym made_is) (rows_push old.made.items ts made t count h.rows_are row);
+        }
+      where
+        there : (other : Key) → eq_by_cmp key_cmp other (key_of t) ≡ true → left ≡ entries_at rules.definitions other t.change.row
+        there other e = is_left ∙ ap (λ (q : Key). entries_at rules.definitions q t.change.row) (is_key ∙ sym (equal_rows other (key_of t) e))
+
+        after_is : (other : Key) → standing_entries rules.definitions (write_next now t).force.source other ≡ entries_at rules.definitions other (cond (eq_by_cmp key_cmp other (key_of t)) t.change.row (columns_of (find key_cmp other now.force.source)))
+        after_is other = ap (entries_at rules.definitions other) (columns_after now.force.source t other)
+
+        by : (b : Bool) (other : Key) → eq_by_cmp key_cmp other key ≡ b → (if b then left else seen_at rules.definitions old rows other) ≡ standing_entries rules.definitions (write_next now t).force.source other
+        by true other e =
+            let at : eq_by_cmp key_cmp other (key_of t) ≡ true = ap (λ (q : Key). eq_by_cmp key_cmp other q) (sym is_key) ∙ e in
+            there other at ∙ ap (λ b. entries_at rules.definitions other (cond b t.change.row (columns_of (find key_cmp other now.force.source)))) (sym at) ∙ sym (after_is other)
+        by false other e =
+            let at : eq_by_cmp key_cmp other (key_of t) ≡ false = ap (λ (q : Key). eq_by_cmp key_cmp other q) (sym is_key) ∙ e in
+            h.entries other ∙ ap (λ b. entries_at rules.definitions other (cond b t.change.row (columns_of (find key_cmp other now.force.source)))) (sym at) ∙ sym (after_is other)

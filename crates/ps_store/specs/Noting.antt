@@ -1,0 +1,14 @@
+-- The notes of changes, of the tables that parameter queries read.
+use Rattle.std.specs.Prelude.{List, [], ◌∷◌, ◌++◌, if◌then◌else◌}
+use Rattle.ps_rules.specs.declared.definitions.Definition.{Definition}
+use Rattle.ps_params.specs.Notes.{Note}
+use Rattle.ps_params.specs.Indexes.{is_read}
+use Rattle.ps_store.specs.Originals.{Timed}
+
+-- the note of a change
+abbrev pub noted : Timed → Note
+noted t = record { at = t.position; table = t.change.table; id = t.change.id; row = t.change.row }
+
+-- a note behind others, if a parameter query reads its table
+abbrev pub with_note : List Definition → List Note → Note → List Note
+with_note definitions notes note = if is_read definitions note.table then notes ++ note ∷ [] else notes

@@ -1,0 +1,163 @@
+-- The store stands for a history.
+use Rattle.std.specs.Prelude.{◌≡◌, ℕ, ◌+◌, ◌*◌, ◌^◌, ◌≤◌, ◌<◌, ◌⊎◌, Bool, true, false, List, [], ◌∷◌, ◌++◌, length, take, drop, map, Option, Some, None, Result, Ok, Err}
+use Rattle.std.specs.List.{AllByRecursion}
+use Rattle.std.specs.FinMap.Entries.{find}
+use Rattle.ps_bucket_log.specs.Logs.{IsRising}
+use Rattle.ps_bucket_log.specs.Ops.{newest}
+use Rattle.ps_changes.specs.declared.changes.Transaction.{Transaction}
+use Rattle.ps_changes.specs.Source.{Key, key_cmp}
+use Rattle.ps_params.specs.Indexes.{Index}
+use Rattle.ps_params.specs.Notes.{SameFrom}
+use Rattle.ps_store.specs.declared.faults.FeedFault.{FeedFault}
+use Rattle.ps_store.specs.declared.faults.FeedFault.TheVariants as feeding
+use Rattle.ps_store.specs.declared.faults.NothingToCommit.{NothingToCommit}
+use Rattle.ps_store.specs.declared.faults.WriteFault.{WriteFault}
+use Rattle.ps_store.specs.declared.faults.WriteFault.TheVariants as writing
+use Rattle.ps_store.specs.declared.fixed.Fixed.{Fixed}
+use Rattle.ps_store.specs.declared.fixed.Limits.{Limits}
+use Rattle.ps_store.specs.declared.events.Event.{Event}
+use Rattle.ps_store.specs.declared.events.Event.TheVariants.{Feed, Close, Write, Commit}
+use Rattle.ps_store.specs.declared.plans.Plan.{Plan}
+use Rattle.ps_store.specs.declared.plans.Refusal.{Refusal}
+use Rattle.ps_store.specs.declared.plans.Refusal.TheVariants as refusals
+use Rattle.ps_store.specs.declared.stores.Checkpoint.{Checkpoint}
+use Rattle.ps_store.specs.declared.stores.Store.{Store}
+use Rattle.ps_store.specs.declared.stores.Wrote.{Wrote}
+use Rattle.ps_store.specs.Ledgers.{Ledger, head_of, unwritten, entries_after, next_ops, ledger_of, IsLegal}
+use Rattle.ps_store.specs.Limits.{greatest, AreWithin}
+use Rattle.ps_store.specs.Originals.{Timed, timed, standing_entries, in_bucket}
+use Rattle.ps_store.specs.Reach.{Reached, reached}
+use Rattle.ps_store.specs.Rows.{row_at}
+use Rattle.ps_store.specs.Runs.{Run, run_from}
+use Rattle.ps_store.specs.StoreLogs.{log_at}
+use Rattle.ps_store.specs.Tails.{Tied, Ascend, EndsRise, last_end, ids, reach_after, rows_after, notes_after}
+
+-- ---- what the store stands for
+
+-- from the checkpoint's position on, rows stand as the written changes left them, those of a transaction that is written in part
+-- among them
+pub record IndexStands (index : Index) (l : Ledger) : Type 0 where
+  pub rules : index.rules ≡ l.force.rules
+  pub forgotten : index.forgotten ≤ l.position
+  pub notes : SameFrom l.position (notes_after l.force.rules.definitions [] (take l.written (timed l.fed))) index.notes
+  pub ascend : Ascend index.last (unwritten l) (head_of l.fed)
+
+-- what holds of the ledger of each history
+pub record IsKept (limits : Limits) (l : Ledger) : Type 0 where
+  pub within : l.written ≤ length (timed l.fed)
+  pub tied : Tied (unwritten l) l.reach
+  pub ends_rise : EndsRise l.reach.position l.reach.left
+  pub last_is_head : last_end l.reach.position l.reach.left ≡ head_of l.fed
+  pub checkpoint : l.position ≤ l.reach.position
+  pub rising : (bucket : List ℕ) → IsRising 0 (l.log bucket)
+  pub newest : (bucket : List ℕ) → newest (l.log bucket) ≤ l.last
+  pub last : l.last ≤ limits.ops
+  pub narrow : (key : Key) → length (standing_entries l.force.rules.definitions l.force.source key) ≤ limits.entries
+
+pub record Stands (store : Store) (l : Ledger) : Type 0 where
+  pub rules : l.force.rules ≡ store.fixed.rules
+  pub logs : (bucket : List ℕ) → log_at store.logs bucket ≡ l.log bucket
+  pub changes : store.tail.changes.items ≡ unwritten l
+  pub reach : reached store.tail.reach ≡ l.reach
+  pub rows : (key : Key) → row_at store.rows key ≡ find key_cmp key l.force.source
+  pub index : IndexStands store.index l
+  pub last : store.last.0 ≡ l.last
+  pub position : store.checkpoint.position.0 ≡ l.position
+  pub op : store.checkpoint.op.0 ≡ l.op
+  pub head : store.head.0 ≡ head_of l.fed
+  pub closed : store.closed ≡ l.closed
+  pub kept : IsKept store.fixed.limits l
+
+-- the store stands for a history that is legal, under its first rules and its limits
+pub record StoreStandsFor (fixed : Fixed) (store : Store) (history : List Event) : Type 0 where
+  pub fixed_is : store.fixed ≡ fixed
+  pub limits : AreWithin fixed.limits
+  pub legal : IsLegal fixed.rules history
+  pub stands : Stands store (ledger_of fixed.rules history)
+
+-- ---- within a call
+
+-- what is held stays
+pub record IsSame (old new : Store) : Type 0 where
+  pub fixed : new.fixed ≡ old.fixed
+  pub logs : (bucket : List ℕ) → log_at new.logs bucket ≡ log_at old.logs bucket
+  pub rows : (key : Key) → row_at new.rows key ≡ row_at old.rows key
+  pub tail : new.tail ≡ old.tail
+  pub index_rules : new.index.rules ≡ old.index.rules
+  pub index_last : new.index.last ≡ old.index.last
+  pub index_forgotten : new.index.forgotten ≡ old.index.forgotten
+  pub index_notes : SameFrom old.index.forgotten old.index.notes new.index.notes
+  pub last : new.last ≡ old.last
+  pub checkpoint : new.checkpoint ≡ old.checkpoint
+  pub head : new.head ≡ old.head
+  pub closed : new.closed ≡ old.closed
+
+-- a plan is written
+pub record IsFilled (old : Store) (plan : Plan) (new : Store) : Type 0 where
+  pub fixed : new.fixed ≡ old.fixed
+  pub logs : (bucket : List ℕ) → log_at new.logs bucket ≡ log_at old.logs bucket ++ in_bucket bucket plan.entered.items
+  pub changes : new.tail.changes.items ≡ drop (length plan.made.items) old.tail.changes.items
+  pub rows : (key : Key) → row_at new.rows key ≡ rows_after (row_at old.rows) (take (length plan.made.items) old.tail.changes.items) key
+  pub reach : reached new.tail.reach ≡ reach_after (reached old.tail.reach) (ids plan.made.items)
+  pub tied : Tied new.tail.changes.items (reached new.tail.reach)
+  pub index_rules : new.index.rules ≡ old.index.rules
+  pub index_forgotten : new.index.forgotten ≡ old.index.forgotten
+  pub index_notes : new.index.notes ≡ notes_after old.index.rules.definitions old.index.notes (take (length plan.made.items) old.tail.changes.items)
+  pub index_ascend : (head : ℕ) → Ascend old.index.last old.tail.changes.items head → Ascend new.index.last new.tail.changes.items head
+  pub last : new.last ≡ plan.last
+  pub checkpoint : new.checkpoint ≡ old.checkpoint
+  pub head : new.head ≡ old.head
+  pub closed : new.closed ≡ old.closed
+
+-- the row of the next change has more entries than one may have, or memory is wanting to name it
+abbrev pub IsTooWide : Store → ℕ → WriteFault → Type 0
+IsTooWide store count fault =
+    (fault ≡ writing.Memory)
+    ⊎ ((t : Timed) × (ts : List Timed) × (store.tail.changes.items ≡ t ∷ ts) × (fault ≡ writing.TooWide t.change.table t.change.id count))
+
+-- the fault of a refusal, and that of none
+abbrev pub IsNamed : Store → Option Refusal → WriteFault → Type 0
+IsNamed store None fault = fault ≡ writing.NothingToWrite
+IsNamed store (Some (refusals.TooWide count)) fault = IsTooWide store count fault
+IsNamed store (Some refusals.OpsFull) fault = fault ≡ writing.OpsFull store.last
+
+-- ---- calls
+
+-- a transaction was fed, or why it was not
+abbrev pub Feeds : Fixed → List Event → Transaction → Store → Result (Unit {0}) FeedFault → Type 0
+Feeds fixed history t new (Ok done) = StoreStandsFor fixed new (history ++ Feed t ∷ [])
+Feeds fixed history t new (Err feeding.FeedClosed) = ((ledger_of fixed.rules history).closed ≡ true) × StoreStandsFor fixed new history
+Feeds fixed history t new (Err (feeding.NotRising last given)) =
+    ((ledger_of fixed.rules history).closed ≡ false) × (t.position.0 ≤ head_of (ledger_of fixed.rules history).fed)
+    × (last.0 ≡ head_of (ledger_of fixed.rules history).fed) × (given ≡ t.position) × StoreStandsFor fixed new history
+Feeds fixed history t new (Err feeding.Memory) = StoreStandsFor fixed new history
+
+-- why no change is written
+abbrev pub IsRefused : Limits → Ledger → WriteFault → Type 0
+IsRefused limits l writing.NothingToWrite = unwritten l ≡ []
+IsRefused limits l (writing.TooWide table id count) =
+    (t : Timed) × (ts : List Timed) × (unwritten l ≡ t ∷ ts) × (limits.entries < length (entries_after l t))
+    × (t.change.table ≡ table) × (t.change.id ≡ id) × (count ≡ limits.entries + 1)
+IsRefused limits l (writing.OpsFull last) =
+    (t : Timed) × (ts : List Timed) × (unwritten l ≡ t ∷ ts) × (length (entries_after l t) ≤ limits.entries)
+    × (limits.ops < l.last + length (next_ops l t)) × (last.0 ≡ l.last)
+IsRefused limits l writing.Memory = Unit {0}
+
+-- the longest run of next changes that can be written, at most so many
+abbrev pub next_run : Fixed → List Event → ℕ → Run
+next_run fixed history limit = run_from fixed.limits (ledger_of fixed.rules history) 0 (take limit (unwritten (ledger_of fixed.rules history)))
+
+-- that run was written, or why nothing was
+abbrev pub Writes : Fixed → List Event → ℕ → Store → Result Wrote WriteFault → Type 0
+Writes fixed history limit new (Ok wrote) =
+    (1 ≤ wrote.changes) × (wrote.changes ≡ (next_run fixed history limit).count)
+    × (wrote.last_op.0 ≡ (next_run fixed history limit).ledger.last) × ((ledger_of fixed.rules history).last + wrote.ops ≡ wrote.last_op.0)
+    × StoreStandsFor fixed new (history ++ Write wrote.changes ∷ [])
+Writes fixed history limit new (Err fault) = IsRefused fixed.limits (ledger_of fixed.rules history) fault × StoreStandsFor fixed new history
+
+-- what was reached is the checkpoint, or was before
+abbrev pub Commits : Fixed → List Event → Store → Result Checkpoint NothingToCommit → Type 0
+Commits fixed history new (Ok checkpoint) =
+    (checkpoint.position.0 ≡ (ledger_of fixed.rules history).reach.position) × (checkpoint.op.0 ≡ (ledger_of fixed.rules history).reach.op)
+    × StoreStandsFor fixed new (history ++ Commit ∷ [])
+Commits fixed history new (Err nothing) = ((ledger_of fixed.rules history).reach.position ≡ (ledger_of fixed.rules history).position) × StoreStandsFor fixed new history

@@ -1,0 +1,66 @@
+use ps_values::{Memory, OpId, Position, Text};
+
+/// Why a transaction was not fed.
+#[derive(Debug, Drop)]
+pub enum FeedFault {
+    /// The feed is closed.
+    FeedClosed,
+    /// The position is not past that of the last fed transaction.
+    NotRising {
+        /// The position of the last fed transaction, 0 where none.
+        last: Position,
+        /// The position that was given.
+        given: Position,
+    },
+    /// Want of memory.
+    Memory,
+}
+
+impl From<Memory> for FeedFault {
+    ghost use Rattle.std.specs.Prelude.{◌≡◌};
+    ghost use Rattle.ps_store.specs.declared.faults.FeedFault.TheVariants as faults;
+
+    ghost from_gives = { λ _ fault. fault ≡ faults.Memory };
+
+    fn from(_refused: Memory) -> FeedFault {
+        FeedFault::Memory
+    }
+}
+
+/// Why no change was written.
+#[derive(Debug, Drop)]
+pub enum WriteFault {
+    /// All fed changes are written.
+    NothingToWrite,
+    /// The row of the next change has more entries than the store's limit.
+    TooWide {
+        /// The row's table.
+        table: Text,
+        /// The row's id.
+        id: Text,
+        /// One more than the limit: no entry past it was counted.
+        count: u32,
+    },
+    /// The next change needs more ids than are left up to the store's limit.
+    OpsFull {
+        /// The last id that was given, 0 where none.
+        last: OpId,
+    },
+    /// Want of memory.
+    Memory,
+}
+
+impl From<Memory> for WriteFault {
+    ghost use Rattle.std.specs.Prelude.{◌≡◌};
+    ghost use Rattle.ps_store.specs.declared.faults.WriteFault.TheVariants as faults;
+
+    ghost from_gives = { λ _ fault. fault ≡ faults.Memory };
+
+    fn from(_refused: Memory) -> WriteFault {
+        WriteFault::Memory
+    }
+}
+
+/// What is reached is the checkpoint already.
+#[derive(Clone, Copy, Debug)]
+pub struct NothingToCommit;

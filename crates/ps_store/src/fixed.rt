@@ -1,0 +1,44 @@
+ghost use Rattle.std.specs.Prelude.{◌≡◌};
+ghost use Rattle.ps_store.specs.Limits.{usual_limits, AreWithin};
+
+use ps_rules::Rules;
+
+/// What bounds a store.
+#[derive(Clone, Copy, Debug)]
+pub struct Limits {
+    /// The greatest id of an operation.
+    pub ops: u64,
+    /// The greatest number of a write checkpoint.
+    pub numbers: u64,
+    /// The greatest position of an upload.
+    pub positions: u64,
+    /// The most buckets of one asker.
+    pub buckets: u32,
+    /// The most entries of one row.
+    pub entries: u32,
+}
+
+impl Limits {
+    /// 9223372036854775807 for ids, numbers and positions, and 1,000 for buckets and entries.
+    pub fn usual() -> Limits
+        ensures value { result ≡ usual_limits }
+        ensures within { AreWithin result }
+    {
+        Limits {
+            ops: 9223372036854775807,
+            numbers: 9223372036854775807,
+            positions: 9223372036854775807,
+            buckets: 1000,
+            entries: 1000,
+        }
+    }
+}
+
+/// What no call of a store changes: the rules that it begins with, and its limits.
+#[derive(Debug, Drop)]
+pub struct Fixed {
+    /// The rules that the store begins with.
+    pub rules: Rules,
+    /// Its limits.
+    pub limits: Limits,
+}
