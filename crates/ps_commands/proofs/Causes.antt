@@ -1,16 +1,18 @@
 -- Why a command ends as it does.
-use Rattle.std.proofs.Common.{◌≡◌, ℕ, ◌≤◌, true, List, [], ◌∷◌, Option, Some, Ok, Err, refl, subst, arith, inl, inr, codes, bytes_eq, Vec}
+use Rattle.std.proofs.Common.{◌≡◌, ℕ, ◌≤◌, true, false, List, [], ◌∷◌, Option, Some, None, Result, Ok, Err, refl, sym, ◌∙◌, subst, arith, codes, bytes_eq, Vec}
 use Rattle.std.specs.declared.alloc.Global.{Global}
-use Rattle.ps_io.specs.Contents.{Contents, HoldsMore, Gains}
+use Rattle.ps_io.specs.Contents.{Contents, HoldsMore, Gains, GainsFront}
 use Rattle.ps_io.specs.Counts.{Rose}
 use Rattle.ps_rules.specs.RuleSets.{RuleSet}
 use Rattle.ps_sql_eval.specs.declared.askers.Asker.{Asker}
 use Rattle.ps_sql_eval.specs.Evaluated.{asker_of}
+use Rattle.ps_sql.specs.Meaning as meaning
+use Rattle.ps_token.specs.KeyLists.{key_of}
+use Rattle.ps_token.specs.declared.key_lists.Key.{Key}
 use Rattle.ps_commands.specs.declared.faults.Fault.{Fault}
-use Rattle.ps_commands.specs.declared.faults.Fault.TheVariants.{Usage, Rules, Change, LongLine, Claims, TooLong, CannotRead, CannotWrite, Memory}
-use Rattle.ps_commands.specs.Checking.{check_text}
-use Rattle.ps_commands.specs.Commands.{Names, Command, check, rows, command_of, rules_file, IsFileOf, rules_limit, file_limit, HoldsWithin, ReadsRules, ReadsAsker, ReachesChanges, Prints, Outside, Kept, Caused}
-use Rattle.ps_commands.specs.Loading.{Loads, FindsRules, IsRulesFault, FindsAsker, IsClaimsFault, FindsRows, RefusesLine}
+use Rattle.ps_commands.specs.declared.faults.Fault.TheVariants.{Usage, Rules, Change, LongLine, Claims, Keys, TooLong, CannotRead, CannotWrite, Memory}
+use Rattle.ps_commands.specs.Commands.{Names, Signing, Command, check, rows, token, command_of, file_limit, rules_limit, HoldsWithin, ReadsRules, ReadsAsker, ReadsChanges, ReadsKey, Role, for_rules, for_keys, for_claims, for_changes, limit_of, Reaches, ComesTo, RefusesRules, RefusesKeys, RefusesClaims, RefusesChanges, MeansRows, Outside, Kept, Caused}
+use Rattle.ps_commands.specs.Loading.{Loads, FindsRules, IsRulesFault, FindsKey, IsKeysFault, FindsAsker, IsClaimsFault, FindsRows, RefusesLine}
 
 rose_later : (before mid now : ℕ) → before ≤ mid → Rose mid now → Rose before now
 rose_later before mid now le h = omega arith
@@ -18,94 +20,140 @@ rose_later before mid now le h = omega arith
 pub words_check : (word rules : List ℕ) → bytes_eq word (codes "check") ≡ true → command_of (word ∷ rules ∷ []) ≡ Some (check rules)
 words_check word rules h = rw h refl
 
-pub words_rows : (word rules changes claims : List ℕ) → bytes_eq word (codes "rows") ≡ true → command_of (word ∷ rules ∷ changes ∷ claims ∷ []) ≡ Some (rows (record { rules = rules; changes = changes; claims = claims }))
+pub words_rows : (word rules changes claims : List ℕ) → bytes_eq word (codes "rows") ≡ true
+    → command_of (word ∷ rules ∷ changes ∷ claims ∷ []) ≡ Some (rows (record { rules = rules; changes = changes; claims = claims }))
 words_rows word rules changes claims h = rw h refl
 
--- ---- the rules file
+pub words_token : (word keys kid claims : List ℕ) → bytes_eq word (codes "rows") ≡ false → bytes_eq word (codes "token") ≡ true
+    → command_of (word ∷ keys ∷ kid ∷ claims ∷ []) ≡ Some (token (record { keys = keys; kid = kid; claims = claims }))
+words_token word keys kid claims other h = rw other (rw h refl)
 
-pub rules_read : (held : Option Contents) (words : List (List ℕ)) (command : Command) (before now : ℕ) (rules : RuleSet) → command_of words ≡ Some command
-    → Loads held (rules_file command) rules_limit before now FindsRules IsRulesFault (Ok rules) → ReadsRules held words command rules
-rules_read held words command before now rules is h = record { is = is; bytes = h.0; file = h.1; read = h.2 }
+-- ---- loading a file of a command
 
--- a command names its rules file
-rules_named : (command : Command) (name : List ℕ) → name ≡ rules_file command → IsFileOf command name
-rules_named (check rules) name h = h
-rules_named (rows names) name h = inl h
+module _ (o : Outside) (mid_held : Option Contents) (mid : ℕ) (words : List (List ℕ)) (role : Role) (name : List ℕ) (same : mid_held ≡ o.held) (risen : o.read_before ≤ mid) (kept : Kept o) (reached : Reaches o.held words role name) where
+  here : (bytes : List ℕ) → HoldsWithin mid_held name (limit_of role) bytes → HoldsWithin o.held name (limit_of role) bytes
+  here bytes file = subst (λ x. HoldsWithin x name (limit_of role) bytes) same file
 
-pub cause_of_rules : (o : Outside) (words : List (List ℕ)) (command : Command) (fault : Fault) → command_of words ≡ Some command → Kept o
-    → Loads {X = RuleSet} o.held (rules_file command) rules_limit o.read_before o.read_now FindsRules IsRulesFault (Err fault) → Caused o words fault
-cause_of_rules o words command Usage is kept h = absurd h
-cause_of_rules o words command (Rules line column why) is kept h = (kept, record { command = command; is = is; bytes = h.0; file = h.1; refused = h.2 })
-cause_of_rules o words command (Change line why) is kept h = absurd h.2
-cause_of_rules o words command (LongLine length) is kept h = absurd h.2
-cause_of_rules o words command Claims is kept h = absurd h.2
-cause_of_rules o words command (TooLong seen) is kept h = (kept, inl (record { command = command; is = is; more = h.0; file = h.1 }))
-cause_of_rules o words command (CannotRead name) is kept h = (kept, record { command = command; is = is; file = rules_named command name h.0 }, h.1)
-cause_of_rules o words command CannotWrite is kept h = absurd h
-cause_of_rules o words command Memory is kept h = (kept, (command, is))
+  pub cause_of : {X : Type 0} (Finds : X → List ℕ → Type 0) (Refuses : Fault → List ℕ → Type 0)
+      → ((fault : Fault) (bytes : List ℕ) → HoldsWithin o.held name (limit_of role) bytes → Refuses fault bytes → Caused o words fault)
+      → (fault : Fault) → Loads {X = X} mid_held name (limit_of role) mid o.read_now Finds Refuses (Err fault) → Caused o words fault
+  cause_of Finds Refuses why Usage h = absurd h
+  cause_of Finds Refuses why (Rules line column cause) h = why (Rules line column cause) h.0 (here h.0 h.1) h.2
+  cause_of Finds Refuses why (Change line cause) h = why (Change line cause) h.0 (here h.0 h.1) h.2
+  cause_of Finds Refuses why (LongLine length) h = why (LongLine length) h.0 (here h.0 h.1) h.2
+  cause_of Finds Refuses why Claims h = why Claims h.0 (here h.0 h.1) h.2
+  cause_of Finds Refuses why Keys h = why Keys h.0 (here h.0 h.1) h.2
+  cause_of Finds Refuses why (TooLong seen) h = (kept, record { role = role; name = name; reached = reached; more = h.0; file = subst (λ x. HoldsMore x name (limit_of role)) same h.1 })
+  cause_of Finds Refuses why (CannotRead file) h = (kept, record { role = role; reached = subst (Reaches o.held words role) (sym h.0) reached }, rose_later o.read_before mid o.read_now risen h.1)
+  cause_of Finds Refuses why CannotWrite h = absurd h
+  cause_of Finds Refuses why Memory h = (kept, (reached.command, reached.is))
 
--- ---- the claims file, after the rules file
+module _ (o : Outside) (words : List (List ℕ)) (name : List ℕ) (kept : Kept o) where
+  pub rules_refused : Reaches o.held words for_rules name → (fault : Fault) (bytes : List ℕ) → HoldsWithin o.held name rules_limit bytes → IsRulesFault fault bytes → Caused o words fault
+  rules_refused reached Usage bytes file h = absurd h
+  rules_refused reached (Rules line column why) bytes file h = (kept, record { name = name; reached = reached; bytes = bytes; file = file; refused = h })
+  rules_refused reached (Change line why) bytes file h = absurd h
+  rules_refused reached (LongLine length) bytes file h = absurd h
+  rules_refused reached Claims bytes file h = absurd h
+  rules_refused reached Keys bytes file h = absurd h
+  rules_refused reached (TooLong seen) bytes file h = absurd h
+  rules_refused reached (CannotRead other) bytes file h = absurd h
+  rules_refused reached CannotWrite bytes file h = absurd h
+  rules_refused reached Memory bytes file h = absurd h
 
-pub asker_read : (held mid_held : Option Contents) (names : Names) (before now : ℕ) (asker : Asker) → mid_held ≡ held
-    → Loads mid_held names.claims file_limit before now FindsAsker IsClaimsFault (Ok asker) → ReadsAsker held names (asker_of asker)
-asker_read held mid_held names before now asker same h =
-    record { bytes = h.0; file = subst (λ x. HoldsWithin x names.claims file_limit h.0) same h.1; read = h.2 }
+  pub claims_refused : Reaches o.held words for_claims name → (fault : Fault) (bytes : List ℕ) → HoldsWithin o.held name file_limit bytes → IsClaimsFault fault bytes → Caused o words fault
+  claims_refused reached Usage bytes file h = absurd h
+  claims_refused reached (Rules line column why) bytes file h = absurd h
+  claims_refused reached (Change line why) bytes file h = absurd h
+  claims_refused reached (LongLine length) bytes file h = absurd h
+  claims_refused reached Claims bytes file h = (kept, record { name = name; reached = reached; bytes = bytes; file = file; refused = h })
+  claims_refused reached Keys bytes file h = absurd h
+  claims_refused reached (TooLong seen) bytes file h = absurd h
+  claims_refused reached (CannotRead other) bytes file h = absurd h
+  claims_refused reached CannotWrite bytes file h = absurd h
+  claims_refused reached Memory bytes file h = absurd h
 
-pub cause_of_asker : (o : Outside) (mid_held : Option Contents) (mid : ℕ) (words : List (List ℕ)) (names : Names) (rules : RuleSet) (fault : Fault) → mid_held ≡ o.held → o.read_before ≤ mid
-    → ReadsRules o.held words (rows names) rules → Kept o
-    → Loads {X = Asker} mid_held names.claims file_limit mid o.read_now FindsAsker IsClaimsFault (Err fault) → Caused o words fault
-cause_of_asker o mid_held mid words names rules Usage same le read kept h = absurd h
-cause_of_asker o mid_held mid words names rules (Rules line column why) same le read kept h = absurd h.2
-cause_of_asker o mid_held mid words names rules (Change line why) same le read kept h = absurd h.2
-cause_of_asker o mid_held mid words names rules (LongLine length) same le read kept h = absurd h.2
-cause_of_asker o mid_held mid words names rules Claims same le read kept h =
-    (kept, record { names = names; rules = rules; rules_read = read; bytes = h.0; file = subst (λ x. HoldsWithin x names.claims file_limit h.0) same h.1; refused = h.2 })
-cause_of_asker o mid_held mid words names rules (TooLong seen) same le read kept h =
-    (kept, inr (inl (record { names = names; rules = rules; rules_read = read; more = h.0; file = subst (λ x. HoldsMore x names.claims file_limit) same h.1 })))
-cause_of_asker o mid_held mid words names rules (CannotRead name) same le read kept h =
-    (kept, record { command = rows names; is = read.is; file = inr (inl h.0) }, rose_later o.read_before mid o.read_now le h.1)
-cause_of_asker o mid_held mid words names rules CannotWrite same le read kept h = absurd h
-cause_of_asker o mid_held mid words names rules Memory same le read kept h = (kept, (rows names, read.is))
+  pub changes_refused : Reaches o.held words for_changes name → (fault : Fault) (bytes : List ℕ) → HoldsWithin o.held name file_limit bytes → RefusesLine fault bytes → Caused o words fault
+  changes_refused reached Usage bytes file h = absurd h
+  changes_refused reached (Rules line column why) bytes file h = absurd h
+  changes_refused reached (Change line why) bytes file h = (kept, record { name = name; reached = reached; bytes = bytes; file = file; refused = h })
+  changes_refused reached (LongLine length) bytes file h = (kept, record { name = name; reached = reached; bytes = bytes; file = file; refused = h })
+  changes_refused reached Claims bytes file h = absurd h
+  changes_refused reached Keys bytes file h = absurd h
+  changes_refused reached (TooLong seen) bytes file h = absurd h
+  changes_refused reached (CannotRead other) bytes file h = absurd h
+  changes_refused reached CannotWrite bytes file h = absurd h
+  changes_refused reached Memory bytes file h = absurd h
 
--- ---- the change file, after both
+pub keys_refused : (o : Outside) (words : List (List ℕ)) (names : Signing) → Kept o → command_of words ≡ Some (token names)
+    → (fault : Fault) (bytes : List ℕ) → HoldsWithin o.held names.keys file_limit bytes → IsKeysFault names.kid fault bytes → Caused o words fault
+keys_refused o words names kept is Usage bytes file h = absurd h
+keys_refused o words names kept is (Rules line column why) bytes file h = absurd h
+keys_refused o words names kept is (Change line why) bytes file h = absurd h
+keys_refused o words names kept is (LongLine length) bytes file h = absurd h
+keys_refused o words names kept is Claims bytes file h = absurd h
+keys_refused o words names kept is Keys bytes file h = (kept, record { names = names; is = is; bytes = bytes; file = file; refused = h })
+keys_refused o words names kept is (TooLong seen) bytes file h = absurd h
+keys_refused o words names kept is (CannotRead other) bytes file h = absurd h
+keys_refused o words names kept is CannotWrite bytes file h = absurd h
+keys_refused o words names kept is Memory bytes file h = absurd h
 
-reaches : (held mid_held : Option Contents) (words : List (List ℕ)) (names : Names) (rules : RuleSet) (asker : Asker) (bytes : List ℕ) → mid_held ≡ held
-    → ReadsRules held words (rows names) rules → ReadsAsker held names (asker_of asker) → HoldsWithin mid_held names.changes file_limit bytes → ReachesChanges held words rules (asker_of asker) bytes
-reaches held mid_held words names rules asker bytes same read claims file =
-    record { names = names; rules_read = read; claims_read = claims; file = subst (λ x. HoldsWithin x names.changes file_limit bytes) same file }
+-- ---- what was loaded
 
-pub cause_of_rows : (o : Outside) (mid_held : Option Contents) (mid : ℕ) (words : List (List ℕ)) (names : Names) (rules : RuleSet) (asker : Asker) (fault : Fault) → mid_held ≡ o.held → o.read_before ≤ mid
-    → ReadsRules o.held words (rows names) rules → ReadsAsker o.held names (asker_of asker) → Kept o
-    → Loads {X = Vec ℕ Global} mid_held names.changes file_limit mid o.read_now (FindsRows rules asker) RefusesLine (Err fault) → Caused o words fault
-cause_of_rows o mid_held mid words names rules asker Usage same le read claims kept h = absurd h
-cause_of_rows o mid_held mid words names rules asker (Rules line column why) same le read claims kept h = absurd h.2
-cause_of_rows o mid_held mid words names rules asker (Change line why) same le read claims kept h =
-    (kept, record { rules = rules; asker = asker_of asker; bytes = h.0; files = reaches o.held mid_held words names rules asker h.0 same read claims h.1; refused = h.2 })
-cause_of_rows o mid_held mid words names rules asker (LongLine length) same le read claims kept h =
-    (kept, record { rules = rules; asker = asker_of asker; bytes = h.0; files = reaches o.held mid_held words names rules asker h.0 same read claims h.1; refused = h.2 })
-cause_of_rows o mid_held mid words names rules asker Claims same le read claims kept h = absurd h.2
-cause_of_rows o mid_held mid words names rules asker (TooLong seen) same le read claims kept h =
-    (kept, inr (inr (record { names = names; rules = rules; asker = asker_of asker; rules_read = read; claims_read = claims; more = h.0; file = subst (λ x. HoldsMore x names.changes file_limit) same h.1 })))
-cause_of_rows o mid_held mid words names rules asker (CannotRead name) same le read claims kept h =
-    (kept, record { command = rows names; is = read.is; file = inr (inr h.0) }, rose_later o.read_before mid o.read_now le h.1)
-cause_of_rows o mid_held mid words names rules asker CannotWrite same le read claims kept h = absurd h
-cause_of_rows o mid_held mid words names rules asker Memory same le read claims kept h = (kept, (rows names, read.is))
+pub rules_read : (held : Option Contents) (name : List ℕ) (before now : ℕ) (rules : RuleSet) → Loads held name rules_limit before now FindsRules IsRulesFault (Ok rules) → ReadsRules held name rules
+rules_read held name before now rules h = record { bytes = h.0; file = h.1; read = h.2 }
 
--- ---- and all is printed
+pub asker_read : (held mid_held : Option Contents) (name : List ℕ) (before now : ℕ) (asker : Asker) → mid_held ≡ held
+    → Loads mid_held name file_limit before now FindsAsker IsClaimsFault (Ok asker) → ReadsAsker held name (asker_of asker)
+asker_read held mid_held name before now asker same h = record { bytes = h.0; file = subst (λ x. HoldsWithin x name file_limit h.0) same h.1; read = h.2 }
 
-pub all_printed : (held mid_held : Option Contents) (mid now : ℕ) (words : List (List ℕ)) (names : Names) (rules : RuleSet) (asker : Asker) (text : Vec ℕ Global) (old new : Option (List ℕ)) → mid_held ≡ held
-    → ReadsRules held words (rows names) rules → ReadsAsker held names (asker_of asker)
-    → Loads mid_held names.changes file_limit mid now (FindsRows rules asker) RefusesLine (Ok text) → Gains old new text.items → Prints held words old new
-all_printed held mid_held mid now words names rules asker text old new same read claims h gained = inr (record {
+-- the key that a line is signed with is the one that was found
+pub key_read : (held : Option Contents) (name kid : List ℕ) (before now : ℕ) (keys : List Key) (key : Key) → Loads held name file_limit before now (FindsKey kid) (IsKeysFault kid) (Ok keys)
+    → key_of kid keys ≡ Some key → ReadsKey held name kid key
+key_read held name kid before now keys key h is =
+    let same : Some h.2.0 ≡ Some key = sym h.2.1 ∙ is in
+    record { bytes = h.0; file = h.1; read = h.2.2 ∙ same }
+
+-- a key was found
+pub key_found : (held : Option Contents) (name kid : List ℕ) (before now : ℕ) (keys : List Key) → Loads held name file_limit before now (FindsKey kid) (IsKeysFault kid) (Ok keys)
+    → (key : Key) × ReadsKey held name kid key
+key_found held name kid before now keys h = (h.2.0, record { bytes = h.0; file = h.1; read = h.2.2 })
+
+-- ---- why a command ends where a file is not loaded
+
+pub cause_of_rules : (o : Outside) (words : List (List ℕ)) (name : List ℕ) (fault : Fault) → Kept o → Reaches o.held words for_rules name
+    → Loads {X = RuleSet} o.held name rules_limit o.read_before o.read_now FindsRules IsRulesFault (Err fault) → Caused o words fault
+cause_of_rules o words name fault kept reached h =
+    cause_of o o.held o.read_before words for_rules name refl (omega arith) kept reached FindsRules IsRulesFault (rules_refused o words name kept reached) fault h
+
+pub cause_of_keys : (o : Outside) (words : List (List ℕ)) (names : Signing) (fault : Fault) → Kept o → command_of words ≡ Some (token names)
+    → Loads {X = List Key} o.held names.keys file_limit o.read_before o.read_now (FindsKey names.kid) (IsKeysFault names.kid) (Err fault) → Caused o words fault
+cause_of_keys o words names fault kept is h =
+    let reached : Reaches o.held words for_keys names.keys = record { command = token names; is = is; comes = refl } in
+    cause_of o o.held o.read_before words for_keys names.keys refl (omega arith) kept reached (FindsKey names.kid) (IsKeysFault names.kid) (keys_refused o words names kept is) fault h
+
+pub cause_of_asker : (o : Outside) (mid_held : Option Contents) (mid : ℕ) (words : List (List ℕ)) (name : List ℕ) (fault : Fault) → mid_held ≡ o.held → o.read_before ≤ mid → Kept o → Reaches o.held words for_claims name
+    → Loads {X = Asker} mid_held name file_limit mid o.read_now FindsAsker IsClaimsFault (Err fault) → Caused o words fault
+cause_of_asker o mid_held mid words name fault same risen kept reached h =
+    cause_of o mid_held mid words for_claims name same risen kept reached FindsAsker IsClaimsFault (claims_refused o words name kept reached) fault h
+
+pub cause_of_rows : (o : Outside) (mid_held : Option Contents) (mid : ℕ) (words : List (List ℕ)) (name : List ℕ) (rules : RuleSet) (asker : Asker) (fault : Fault) → mid_held ≡ o.held → o.read_before ≤ mid → Kept o
+    → Reaches o.held words for_changes name
+    → Loads {X = Vec ℕ Global} mid_held name file_limit mid o.read_now (FindsRows rules asker) RefusesLine (Err fault) → Caused o words fault
+cause_of_rows o mid_held mid words name rules asker fault same risen kept reached h =
+    cause_of o mid_held mid words for_changes name same risen kept reached (FindsRows rules asker) RefusesLine (changes_refused o words name kept reached) fault h
+
+-- ---- what a command prints
+
+pub means_rows : (held mid_held : Option Contents) (mid now : ℕ) (names : Names) (rules : RuleSet) (asker : Asker) (text : Vec ℕ Global) → mid_held ≡ held
+    → ReadsRules held names.rules rules → ReadsAsker held names.claims (asker_of asker)
+    → Loads mid_held names.changes file_limit mid now (FindsRows rules asker) RefusesLine (Ok text) → MeansRows held names text.items
+means_rows held mid_held mid now names rules asker text same read claims h = record {
   rules = rules;
   asker = asker_of asker;
-  bytes = h.0;
   transactions = h.2.0;
-  files = reaches held mid_held words names rules asker h.0 same read claims h.1;
-  read = h.2.1;
-  printed = subst (λ bytes. Gains old new bytes) h.2.2 gained;
-})
-
-pub all_checked : (held : Option Contents) (words : List (List ℕ)) (name : List ℕ) (rules : RuleSet) (text : Vec ℕ Global) (old new : Option (List ℕ))
-    → ReadsRules held words (check name) rules → text.items ≡ check_text rules → Gains old new text.items → Prints held words old new
-all_checked held words name rules text old new read is gained = inl (record { name = name; rules = rules; read = read; printed = subst (λ bytes. Gains old new bytes) is gained })
+  rules_read = read;
+  claims_read = claims;
+  changes_read = record { bytes = h.0; file = subst (λ x. HoldsWithin x names.changes file_limit h.0) same h.1; read = h.2.1 };
+  is = h.2.2;
+}

@@ -1,21 +1,23 @@
 -- Where the files tell what they hold, the answer is what they mean.
-use Rattle.std.proofs.Common.{◌≡◌, ℕ, ◌<◌, ◌≤◌, false, cond, List, Option, Some, None, Result, Ok, Err, length, refl, sym, ap, ◌∙◌, subst, arith, inl, inr, leb}
+use Rattle.std.proofs.Common.{◌≡◌, ◌⊎◌, ℕ, ◌<◌, ◌≤◌, false, cond, List, Option, Some, None, Result, Ok, Err, length, refl, sym, ap, ◌∙◌, subst, arith, inl, inr, leb}
 use Rattle.std.proofs.lemmas.Bool.{le-leb}
 use Rattle.std.proofs.lemmas.Bool.Decides.{nat_tests}
-use Rattle.ps_io.specs.Contents.{Contents, HoldsMore}
+use Rattle.ps_io.specs.Contents.{Contents, HoldsMore, Gains}
 use Rattle.ps_io.specs.Counts.{Rose}
+use Rattle.ps_changes.specs.declared.changes.Transaction.{Transaction}
 use Rattle.ps_rules.specs.RuleSets.{RuleSet}
 use Rattle.ps_sql.specs.Meaning.{Asker}
+use Rattle.ps_token.specs.declared.key_lists.Key.{Key}
 use Rattle.ps_commands.specs.declared.faults.Fault.{Fault}
-use Rattle.ps_commands.specs.declared.faults.Fault.TheVariants.{Usage, Rules, Change, LongLine, Claims, TooLong, CannotRead, CannotWrite, Memory}
+use Rattle.ps_commands.specs.declared.faults.Fault.TheVariants.{Usage, Rules, Change, LongLine, Claims, Keys, TooLong, CannotRead, CannotWrite, Memory}
 use Rattle.ps_commands.specs.ChangeFiles.{transactions_of}
 use Rattle.ps_store.specs.Laws.{last_position}
 use Rattle.ps_commands.specs.Checking.{check_text}
 use Rattle.ps_commands.specs.Claims.{asker_of_claims}
-use Rattle.ps_commands.specs.Commands.{Names, Command, check, rows, command_of, rules_file, rules_limit, file_limit, HoldsWithin, ReadsRules, ReadsAsker, ReachesChanges, PrintsRows, PrintsCheck, Prints, RefusesRules, RefusesClaims, RefusesChanges, ExceedsFile, ExceedsLimit, Outside, Caused, Refusal, exceeds, refused, refusal_status, within_limit, or_refused, or_no_claims, rules_meant, asker_meant, transactions_meant, meaning, IsAnswer, IsExact, ◌>>=◌}
+use Rattle.ps_commands.specs.Commands.{Names, Signing, Command, check, rows, token, command_of, rules_limit, file_limit, HoldsWithin, ReadsRules, ReadsAsker, ReadsChanges, ReadsKey, key_of_file, token_text, Means, Prints, Role, for_rules, for_keys, for_claims, for_changes, limit_of, Reaches, ComesTo, RefusesRules, RefusesKeys, RefusesClaims, RefusesChanges, ExceedsFile, ExceedsLimit, IsNext, PrintsFront, Outside, Caused, status_of, Refusal, exceeds, refused, refusal_status, within_limit, or_refused, or_none, rules_meant, key_meant, asker_meant, transactions_meant, meaning, IsAnswer, IsExact, ◌>>=◌}
 use Rattle.ps_commands.specs.Dues.{due}
 use Rattle.ps_commands.specs.RulesFaults.{rules_of_file}
-use Rattle.ps_commands.specs.Saying.{Told, Says}
+use Rattle.ps_commands.specs.Saying.{Told, SaysFault}
 use Rattle.ps_commands.specs.Texts.{rows_text}
 
 same_value : {A : Type 0} (o : Option A) (a b : A) → o ≡ Some a → o ≡ Some b → a ≡ b
@@ -33,54 +35,97 @@ module _ (held : Contents) (name : List ℕ) (limit : ℕ) where
   exceeds_by : HoldsMore (Some held) name limit → within_limit limit (held name) ≡ Err exceeds
   exceeds_by more = ap (within_limit limit) more.1 ∙ ap (λ b. cond b (Ok more.0) (Err exceeds)) (not_within (length more.0) limit more.2)
 
--- ---- the three files
+-- ---- what a file means
+
+module _ (held : Contents) (name : List ℕ) where
+  rules_from : (bytes : List ℕ) → HoldsWithin (Some held) name rules_limit bytes → rules_meant held name ≡ or_refused (rules_of_file bytes)
+  rules_from bytes file = ap (λ x. x >>= λ bytes. or_refused (rules_of_file bytes)) (fits held name rules_limit bytes file)
+
+  key_from : (kid bytes : List ℕ) → HoldsWithin (Some held) name file_limit bytes → key_meant held name kid ≡ or_none Keys (key_of_file kid bytes)
+  key_from kid bytes file = ap (λ x. x >>= λ bytes. or_none Keys (key_of_file kid bytes)) (fits held name file_limit bytes file)
+
+  asker_from : (bytes : List ℕ) → HoldsWithin (Some held) name file_limit bytes → asker_meant held name ≡ or_none Claims (asker_of_claims bytes)
+  asker_from bytes file = ap (λ x. x >>= λ bytes. or_none Claims (asker_of_claims bytes)) (fits held name file_limit bytes file)
+
+  transactions_from : (bytes : List ℕ) → HoldsWithin (Some held) name file_limit bytes → transactions_meant held name ≡ or_refused (transactions_of bytes)
+  transactions_from bytes file = ap (λ x. x >>= λ bytes. or_refused (transactions_of bytes)) (fits held name file_limit bytes file)
+
+  rules_are : (rules : RuleSet) → ReadsRules (Some held) name rules → rules_meant held name ≡ Ok rules
+  rules_are rules r = rules_from r.bytes r.file ∙ ap or_refused r.read
+
+  key_is : (kid : List ℕ) (key : Key) → ReadsKey (Some held) name kid key → key_meant held name kid ≡ Ok key
+  key_is kid key r = key_from kid r.bytes r.file ∙ ap (or_none Keys) r.read
+
+  asker_is : (asker : Asker) → ReadsAsker (Some held) name asker → asker_meant held name ≡ Ok asker
+  asker_is asker r = asker_from r.bytes r.file ∙ ap (or_none Claims) r.read
+
+  transactions_are : (transactions : List Transaction) → ReadsChanges (Some held) name transactions → transactions_meant held name ≡ Ok transactions
+  transactions_are transactions r = transactions_from r.bytes r.file ∙ ap or_refused r.read
+
+  -- a file in its role, refused
+  abbrev pub IsRefusedIn : Role → Refusal → Type 0
+  IsRefusedIn for_rules refusal = rules_meant held name ≡ Err refusal
+  IsRefusedIn for_keys refusal = (kid : List ℕ) → key_meant held name kid ≡ Err refusal
+  IsRefusedIn for_claims refusal = asker_meant held name ≡ Err refusal
+  IsRefusedIn for_changes refusal = transactions_meant held name ≡ Err refusal
+
+  too_long : (role : Role) → HoldsMore (Some held) name (limit_of role) → IsRefusedIn role exceeds
+  too_long for_rules more = ap (λ x. x >>= λ bytes. or_refused (rules_of_file bytes)) (exceeds_by held name rules_limit more)
+  too_long for_keys more = λ kid. ap (λ x. x >>= λ bytes. or_none Keys (key_of_file kid bytes)) (exceeds_by held name file_limit more)
+  too_long for_claims more = ap (λ x. x >>= λ bytes. or_none Claims (asker_of_claims bytes)) (exceeds_by held name file_limit more)
+  too_long for_changes more = ap (λ x. x >>= λ bytes. or_refused (transactions_of bytes)) (exceeds_by held name file_limit more)
+
+-- ---- a command, file by file
 
 module _ (held : Contents) where
-  rules_are : (words : List (List ℕ)) (command : Command) (rules : RuleSet) → ReadsRules (Some held) words command rules → rules_meant held (rules_file command) ≡ Ok rules
-  rules_are words command rules r =
-      ap (λ x. x >>= λ bytes. or_refused (rules_of_file bytes)) (fits held (rules_file command) rules_limit r.bytes r.file) ∙ ap or_refused r.read
+  abbrev changes_left : RuleSet → Asker → Result (List Transaction) Refusal → Result (List ℕ) Refusal
+  changes_left rules asker r = r >>= λ transactions. Ok (rows_text (due rules asker transactions (last_position 0 transactions)))
 
-  no_rules : (command : Command) (bytes : List ℕ) (fault : Fault) → HoldsWithin (Some held) (rules_file command) rules_limit bytes → rules_of_file bytes ≡ Err fault
-      → rules_meant held (rules_file command) ≡ Err (refused fault)
-  no_rules command bytes fault file read =
-      ap (λ x. x >>= λ bytes. or_refused (rules_of_file bytes)) (fits held (rules_file command) rules_limit bytes file) ∙ ap or_refused read
+  abbrev claims_left : RuleSet → Names → Result Asker Refusal → Result (List ℕ) Refusal
+  claims_left rules names r = r >>= λ asker. changes_left rules asker (transactions_meant held names.changes)
 
-  asker_is : (names : Names) (asker : Asker) → ReadsAsker (Some held) names asker → asker_meant held names.claims ≡ Ok asker
-  asker_is names asker r = ap (λ x. x >>= λ bytes. or_no_claims (asker_of_claims bytes)) (fits held names.claims file_limit r.bytes r.file) ∙ ap or_no_claims r.read
+  abbrev rules_left : Names → Result RuleSet Refusal → Result (List ℕ) Refusal
+  rules_left names r = r >>= λ rules. claims_left rules names (asker_meant held names.claims)
 
-  no_asker : (names : Names) (bytes : List ℕ) → HoldsWithin (Some held) names.claims file_limit bytes → asker_of_claims bytes ≡ None → asker_meant held names.claims ≡ Err (refused Claims)
-  no_asker names bytes file read = ap (λ x. x >>= λ bytes. or_no_claims (asker_of_claims bytes)) (fits held names.claims file_limit bytes file) ∙ ap or_no_claims read
+  abbrev token_left : Key → Signing → Result Asker Refusal → Result (List ℕ) Refusal
+  token_left key names r = r >>= λ asker. Ok (token_text key names.kid asker)
 
-  transactions_are : (names : Names) (bytes : List ℕ) → HoldsWithin (Some held) names.changes file_limit bytes → transactions_meant held names.changes ≡ or_refused (transactions_of bytes)
-  transactions_are names bytes file = ap (λ x. x >>= λ bytes. or_refused (transactions_of bytes)) (fits held names.changes file_limit bytes file)
+  abbrev key_left : Signing → Result Key Refusal → Result (List ℕ) Refusal
+  key_left names r = r >>= λ key. token_left key names (asker_meant held names.claims)
 
-  -- ---- the command, stage by stage
+  past_rules : (names : Names) (rules : RuleSet) → ReadsRules (Some held) names.rules rules → meaning held (rows names) ≡ claims_left rules names (asker_meant held names.claims)
+  past_rules names rules r = ap (rules_left names) (rules_are held names.rules rules r)
 
-  abbrev from_asker : RuleSet → Asker → Names → Result (List ℕ) Refusal
-  from_asker rules asker names = transactions_meant held names.changes >>= λ ts. Ok (rows_text (due rules asker ts (last_position 0 ts)))
+  past_claims : (names : Names) (rules : RuleSet) (asker : Asker) → ReadsRules (Some held) names.rules rules → ReadsAsker (Some held) names.claims asker
+      → meaning held (rows names) ≡ changes_left rules asker (transactions_meant held names.changes)
+  past_claims names rules asker r a = past_rules names rules r ∙ ap (claims_left rules names) (asker_is held names.claims asker a)
 
-  abbrev from_rules : RuleSet → Names → Result (List ℕ) Refusal
-  from_rules rules names = asker_meant held names.claims >>= λ asker. from_asker rules asker names
+  past_key : (names : Signing) (key : Key) → ReadsKey (Some held) names.keys names.kid key → meaning held (token names) ≡ token_left key names (asker_meant held names.claims)
+  past_key names key r = ap (key_left names) (key_is held names.keys names.kid key r)
 
-  abbrev after_rules : Command → RuleSet → Result (List ℕ) Refusal
-  after_rules (check name) rules = Ok (check_text rules)
-  after_rules (rows names) rules = from_rules rules names
+  -- what a command prints is what its files mean
+  means_that : (command : Command) (text : List ℕ) → Means (Some held) command text → meaning held command ≡ Ok text
+  means_that (check name) text m = ap (λ r. r >>= λ rules. Ok (check_text rules)) (rules_are held name m.rules m.rules_read) ∙ ap Ok (sym m.is)
+  means_that (rows names) text m =
+      past_claims names m.rules m.asker m.rules_read m.claims_read ∙ ap (changes_left m.rules m.asker) (transactions_are held names.changes m.transactions m.changes_read) ∙ ap Ok (sym m.is)
+  means_that (token names) text m = past_key names m.key m.key_read ∙ ap (token_left m.key names) (asker_is held names.claims m.asker m.claims_read) ∙ ap Ok (sym m.is)
 
-  from_start : (command : Command) → meaning held command ≡ (rules_meant held (rules_file command) >>= after_rules command)
-  from_start (check name) = refl
-  from_start (rows names) = refl
-
-  past_rules : (words : List (List ℕ)) (command : Command) (rules : RuleSet) → ReadsRules (Some held) words command rules → meaning held command ≡ after_rules command rules
-  past_rules words command rules r = from_start command ∙ ap (λ x. x >>= after_rules command) (rules_are words command rules r)
-
-  past_claims : (words : List (List ℕ)) (names : Names) (rules : RuleSet) (asker : Asker) → ReadsRules (Some held) words (rows names) rules → ReadsAsker (Some held) names asker
-      → meaning held (rows names) ≡ from_asker rules asker names
-  past_claims words names rules asker r a = past_rules words (rows names) rules r ∙ ap (λ x. x >>= λ asker. from_asker rules asker names) (asker_is names asker a)
-
-  past_changes : (words : List (List ℕ)) (rules : RuleSet) (asker : Asker) (bytes : List ℕ) → (r : ReachesChanges (Some held) words rules asker bytes)
-      → meaning held (rows r.names) ≡ (or_refused (transactions_of bytes) >>= λ ts. Ok (rows_text (due rules asker ts (last_position 0 ts))))
-  past_changes words rules asker bytes r =
-      past_claims words r.names rules asker r.rules_read r.claims_read ∙ ap (λ x. x >>= λ ts. Ok (rows_text (due rules asker ts (last_position 0 ts)))) (transactions_are r.names bytes r.file)
+  -- where the file that comes next is refused, so is the command
+  refused_at : (command : Command) (role : Role) (name : List ℕ) (refusal : Refusal) → ComesTo (Some held) command role name → IsRefusedIn held name role refusal → meaning held command ≡ Err refusal
+  refused_at (check rules) for_rules name refusal h r = ap (λ r. r >>= λ rules. Ok (check_text rules)) (subst (λ n. rules_meant held n ≡ Err refusal) h r)
+  refused_at (check rules) for_keys name refusal h r = absurd h
+  refused_at (check rules) for_claims name refusal h r = absurd h
+  refused_at (check rules) for_changes name refusal h r = absurd h
+  refused_at (rows names) for_rules name refusal h r = ap (rules_left names) (subst (λ n. rules_meant held n ≡ Err refusal) h r)
+  refused_at (rows names) for_keys name refusal h r = absurd h
+  refused_at (rows names) for_claims name refusal h r =
+      past_rules names h.1 h.2 ∙ ap (claims_left h.1 names) (subst (λ n. asker_meant held n ≡ Err refusal) h.0 r)
+  refused_at (rows names) for_changes name refusal h r =
+      past_claims names h.1.rules h.1.asker h.1.rules_read h.1.claims_read ∙ ap (changes_left h.1.rules h.1.asker) (subst (λ n. transactions_meant held n ≡ Err refusal) h.0 r)
+  refused_at (token names) for_rules name refusal h r = absurd h
+  refused_at (token names) for_keys name refusal h r = ap (key_left names) (subst (λ n. key_meant held n names.kid ≡ Err refusal) h (r names.kid))
+  refused_at (token names) for_claims name refusal h r = past_key names h.1 h.2 ∙ ap (token_left h.1 names) (subst (λ n. asker_meant held n ≡ Err refusal) h.0 r)
+  refused_at (token names) for_changes name refusal h r = absurd h
 
 -- ---- the answer is what the files mean
 
@@ -94,89 +139,106 @@ at_command : (held : Contents) (words : List (List ℕ)) (command own : Command)
 at_command held words command own m old new status is other means h =
     subst (λ x. IsAnswer x old new status) (sym (ap (meaning held) (same_value (command_of words) command own is other) ∙ means)) h
 
-ok_of : (held : Contents) (words : List (List ℕ)) (old new : Option (List ℕ)) → Prints (Some held) words old new → IsExact (Some held) words old new 0
-ok_of held words old new (inl p) = λ command is.
-    at_command held words command (check p.name) _ old new 0 is p.read.is (past_rules held words (check p.name) p.rules p.read) (inl (refl, p.printed))
-ok_of held words old new (inr p) = λ command is.
-    at_command held words command (rows p.files.names) _ old new 0 is p.files.rules_read.is
-    (past_changes held words p.rules p.asker p.bytes p.files ∙ ap (λ x. or_refused x >>= λ ts. Ok (rows_text (due p.rules p.asker ts (last_position 0 ts)))) p.read) (inl (refl, p.printed))
-
 pub exact_ok : (held : Option Contents) (words : List (List ℕ)) (old new : Option (List ℕ)) → Prints held words old new → IsExact held words old new 0
 exact_ok None words old new p = tt
-exact_ok (Some held) words old new p = ok_of held words old new p
+exact_ok (Some held) words old new p = λ command is.
+    at_command held words command p.command (Ok p.text) old new 0 is p.is (means_that held p.command p.text p.means) (inl (refl, p.printed))
 
 abbrev outside : Contents → ℕ → ℕ → Option (List ℕ) → Option (List ℕ) → ℕ → ℕ → Outside
 outside held read_before read_now old new write_before write_now =
     record { held = Some held; read_before = read_before; read_now = read_now; taken_before = old; taken_now = new; write_before = write_before; write_now = write_now }
 
 module _ (held : Contents) (words : List (List ℕ)) (command : Command) (is : command_of words ≡ Some command) (old new : Option (List ℕ)) (status : ℕ) where
-  rules_answer : (fault : Fault) → RefusesRules (Some held) words fault → (status ≡ refusal_status (refused fault)) × (new ≡ old) → IsAnswer (meaning held command) old new status
-  rules_answer fault r h =
-      at_command held words command r.command (Err (refused fault)) old new status is r.is
-      (from_start held r.command ∙ ap (λ x. x >>= after_rules held r.command) (no_rules held r.command r.bytes fault r.file r.refused)) (inl h)
+  refused_answer : (role : Role) (name : List ℕ) (refusal : Refusal) → Reaches (Some held) words role name → IsRefusedIn held name role refusal
+      → (status ≡ refusal_status refusal) × (new ≡ old) → IsAnswer (meaning held command) old new status
+  refused_answer role name refusal reached r h =
+      at_command held words command reached.command (Err refusal) old new status is reached.is (refused_at held reached.command role name refusal reached.comes r) (inl h)
+
+  rules_answer : (fault : Fault) → RefusesRules (Some held) words fault → (status ≡ status_of fault) × (new ≡ old) → IsAnswer (meaning held command) old new status
+  rules_answer fault r h = refused_answer for_rules r.name (refused fault) r.reached (rules_from held r.name r.bytes r.file ∙ ap or_refused r.refused) h
 
   claims_answer : RefusesClaims (Some held) words → (status ≡ 4) × (new ≡ old) → IsAnswer (meaning held command) old new status
-  claims_answer r h =
-      at_command held words command (rows r.names) (Err (refused Claims)) old new status is r.rules_read.is
-      (past_rules held words (rows r.names) r.rules r.rules_read ∙ ap (λ x. x >>= λ asker. from_asker held r.rules asker r.names) (no_asker held r.names r.bytes r.file r.refused)) (inl h)
+  claims_answer r h = refused_answer for_claims r.name (refused Claims) r.reached (asker_from held r.name r.bytes r.file ∙ ap (or_none Claims) r.refused) h
 
-  changes_answer : (fault : Fault) → RefusesChanges (Some held) words fault → (status ≡ refusal_status (refused fault)) × (new ≡ old) → IsAnswer (meaning held command) old new status
-  changes_answer fault r h =
-      at_command held words command (rows r.files.names) (Err (refused fault)) old new status is r.files.rules_read.is
-      (past_changes held words r.rules r.asker r.bytes r.files ∙ ap (λ x. or_refused x >>= λ ts. Ok (rows_text (due r.rules r.asker ts (last_position 0 ts)))) r.refused) (inl h)
+  changes_answer : (fault : Fault) → RefusesChanges (Some held) words fault → (status ≡ status_of fault) × (new ≡ old) → IsAnswer (meaning held command) old new status
+  changes_answer fault r h = refused_answer for_changes r.name (refused fault) r.reached (transactions_from held r.name r.bytes r.file ∙ ap or_refused r.refused) h
+
+  keys_answer : RefusesKeys (Some held) words → (status ≡ 4) × (new ≡ old) → IsAnswer (meaning held command) old new status
+  keys_answer r h =
+      at_command held words command (token r.names) (Err (refused Keys)) old new status is r.is
+      (ap (key_left held r.names) (key_from held r.names.keys r.names.kid r.bytes r.file ∙ ap (or_none Keys) r.refused)) (inl h)
 
   limit_answer : (seen : ℕ) → ExceedsFile (Some held) words seen → (status ≡ 5) × (new ≡ old) → IsAnswer (meaning held command) old new status
-  limit_answer seen (inl r) h =
-      at_command held words command r.command (Err exceeds) old new status is r.is
-      (from_start held r.command ∙ ap (λ x. x >>= (λ bytes. or_refused (rules_of_file bytes)) >>= after_rules held r.command) (exceeds_by held (rules_file r.command) rules_limit r.file)) (inl h)
-  limit_answer seen (inr (inl r)) h =
-      at_command held words command (rows r.names) (Err exceeds) old new status is r.rules_read.is
-      (past_rules held words (rows r.names) r.rules r.rules_read
-      ∙ ap (λ x. x >>= (λ bytes. or_no_claims (asker_of_claims bytes)) >>= λ asker. from_asker held r.rules asker r.names) (exceeds_by held r.names.claims file_limit r.file)) (inl h)
-  limit_answer seen (inr (inr r)) h =
-      at_command held words command (rows r.names) (Err exceeds) old new status is r.rules_read.is
-      (past_claims held words r.names r.rules r.asker r.rules_read r.claims_read
-      ∙ ap (λ x. x >>= (λ bytes. or_refused (transactions_of bytes)) >>= λ ts. Ok (rows_text (due r.rules r.asker ts (last_position 0 ts)))) (exceeds_by held r.names.changes file_limit r.file)) (inl h)
+  limit_answer seen r h = refused_answer r.role r.name exceeds r.reached (too_long held r.name r.role r.file) h
 
-  answer_of : (read_before read_now write_before write_now : ℕ) (e : Told) → ¬ (Rose read_before read_now) → ¬ (Rose write_before write_now)
-      → (fault : Fault) → Caused (outside held read_before read_now old new write_before write_now) words fault → Says e fault status → IsAnswer (meaning held command) old new status
-  answer_of read_before read_now write_before write_now e read written Usage c s = let wrong : Some command ≡ None = sym is ∙ c.1 in cc
-  answer_of read_before read_now write_before write_now e read written (Rules line column why) c (inl s) = rules_answer (Rules line column why) c.1 (s.is, c.0)
-  answer_of read_before read_now write_before write_now e read written (Rules line column why) c (inr s) = wanting (meaning held command) old new status s.is c.0
-  answer_of read_before read_now write_before write_now e read written (Change line why) c (inl s) = changes_answer (Change line why) c.1 (s.is, c.0)
-  answer_of read_before read_now write_before write_now e read written (Change line why) c (inr s) = wanting (meaning held command) old new status s.is c.0
-  answer_of read_before read_now write_before write_now e read written (LongLine length) c (inl s) = changes_answer (LongLine length) c.1 (s.is, c.0)
-  answer_of read_before read_now write_before write_now e read written (LongLine length) c (inr s) = wanting (meaning held command) old new status s.is c.0
-  answer_of read_before read_now write_before write_now e read written Claims c s = claims_answer c.1 (s.is, c.0)
-  answer_of read_before read_now write_before write_now e read written (TooLong seen) c (inl s) = limit_answer seen c.1 (s.is, c.0)
-  answer_of read_before read_now write_before write_now e read written (TooLong seen) c (inr s) = wanting (meaning held command) old new status s.is c.0
-  answer_of read_before read_now write_before write_now e read written (CannotRead name) c s = absurd (read c.2)
-  answer_of read_before read_now write_before write_now e read written CannotWrite c s = absurd (written c.2)
-  answer_of read_before read_now write_before write_now e read written Memory c s = wanting (meaning held command) old new status s.is c.0
+  answer_of : (read_before read_now write_before write_now : ℕ) → ¬ (Rose read_before read_now) → ¬ (Rose write_before write_now)
+      → (fault : Fault) → Caused (outside held read_before read_now old new write_before write_now) words fault → status ≡ status_of fault → IsAnswer (meaning held command) old new status
+  answer_of read_before read_now write_before write_now read written Usage c s = let wrong : Some command ≡ None = sym is ∙ c.1 in cc
+  answer_of read_before read_now write_before write_now read written (Rules line column why) c s = rules_answer (Rules line column why) c.1 (s, c.0)
+  answer_of read_before read_now write_before write_now read written (Change line why) c s = changes_answer (Change line why) c.1 (s, c.0)
+  answer_of read_before read_now write_before write_now read written (LongLine length) c s = changes_answer (LongLine length) c.1 (s, c.0)
+  answer_of read_before read_now write_before write_now read written Claims c s = claims_answer c.1 (s, c.0)
+  answer_of read_before read_now write_before write_now read written Keys c s = keys_answer c.1 (s, c.0)
+  answer_of read_before read_now write_before write_now read written (TooLong seen) c s = limit_answer seen c.1 (s, c.0)
+  answer_of read_before read_now write_before write_now read written (CannotRead name) c s = absurd (read c.2)
+  answer_of read_before read_now write_before write_now read written CannotWrite c s = absurd (written c.1)
+  answer_of read_before read_now write_before write_now read written Memory c s = wanting (meaning held command) old new status s c.0
 
-pub exact_err : (held : Option Contents) (words : List (List ℕ)) (read_before read_now : ℕ) (old new : Option (List ℕ)) (write_before write_now : ℕ) (e : Told) (status : ℕ) (fault : Fault)
-    → Caused (record { held = held; read_before = read_before; read_now = read_now; taken_before = old; taken_now = new; write_before = write_before; write_now = write_now }) words fault → Says e fault status
+pub exact_err : (held : Option Contents) (words : List (List ℕ)) (read_before read_now : ℕ) (old new : Option (List ℕ)) (write_before write_now : ℕ) (status : ℕ) (fault : Fault)
+    → Caused (record { held = held; read_before = read_before; read_now = read_now; taken_before = old; taken_now = new; write_before = write_before; write_now = write_now }) words fault → status ≡ status_of fault
     → ¬ (Rose read_before read_now) → ¬ (Rose write_before write_now) → IsExact held words old new status
-exact_err None words read_before read_now old new write_before write_now e status fault c s read written = tt
-exact_err (Some held) words read_before read_now old new write_before write_now e status fault c s read written = λ command is.
-    answer_of held words command is old new status read_before read_now write_before write_now e read written fault c s
+exact_err None words read_before read_now old new write_before write_now status fault c s read written = tt
+exact_err (Some held) words read_before read_now old new write_before write_now status fault c s read written = λ command is.
+    answer_of held words command is old new status read_before read_now write_before write_now read written fault c s
 
 -- ---- a count past its limit
 
-pub limits_by : (held : Option Contents) (words : List (List ℕ)) (read_before read_now : ℕ) (old new : Option (List ℕ)) (write_before write_now : ℕ) (e : Told) (status : ℕ) (fault : Fault)
-    → Caused (record { held = held; read_before = read_before; read_now = read_now; taken_before = old; taken_now = new; write_before = write_before; write_now = write_now }) words fault → Says e fault status
-    → status ≡ 5 → (seen : ℕ) × ExceedsLimit held words seen
-limits_by held words read_before read_now old new write_before write_now e status Usage c s h = absurd (omega (arith, s.is, h))
-limits_by held words read_before read_now old new write_before write_now e status (Rules line column why) c (inl s) h = absurd (omega (arith, s.is, h))
-limits_by held words read_before read_now old new write_before write_now e status (Rules line column why) c (inr s) h = absurd (omega (arith, s.is, h))
-limits_by held words read_before read_now old new write_before write_now e status (Change line why) c (inl s) h = absurd (omega (arith, s.is, h))
-limits_by held words read_before read_now old new write_before write_now e status (Change line why) c (inr s) h = absurd (omega (arith, s.is, h))
-limits_by held words read_before read_now old new write_before write_now e status (LongLine seen) c (inl s) h = (seen, inr c.1)
-limits_by held words read_before read_now old new write_before write_now e status (LongLine seen) c (inr s) h = absurd (omega (arith, s.is, h))
-limits_by held words read_before read_now old new write_before write_now e status Claims c s h = absurd (omega (arith, s.is, h))
-limits_by held words read_before read_now old new write_before write_now e status (TooLong seen) c (inl s) h = (seen, inl c.1)
-limits_by held words read_before read_now old new write_before write_now e status (TooLong seen) c (inr s) h = absurd (omega (arith, s.is, h))
-limits_by held words read_before read_now old new write_before write_now e status (CannotRead name) c (inl s) h = absurd (omega (arith, s.is, h))
-limits_by held words read_before read_now old new write_before write_now e status (CannotRead name) c (inr s) h = absurd (omega (arith, s.is, h))
-limits_by held words read_before read_now old new write_before write_now e status CannotWrite c s h = absurd (omega (arith, s.is, h))
-limits_by held words read_before read_now old new write_before write_now e status Memory c s h = absurd (omega (arith, s.is, h))
+pub limits_by : (o : Outside) (words : List (List ℕ)) (status : ℕ) (fault : Fault) → Caused o words fault → status ≡ status_of fault → status ≡ 5 → (seen : ℕ) × ExceedsLimit o.held words seen
+limits_by o words status Usage c s h = absurd (omega (arith, s, h))
+limits_by o words status (Rules line column why) c s h = absurd (omega (arith, s, h))
+limits_by o words status (Change line why) c s h = absurd (omega (arith, s, h))
+limits_by o words status (LongLine seen) c s h = (seen, inr c.1)
+limits_by o words status Claims c s h = absurd (omega (arith, s, h))
+limits_by o words status Keys c s h = absurd (omega (arith, s, h))
+limits_by o words status (TooLong seen) c s h = (seen, inl c.1)
+limits_by o words status (CannotRead name) c s h = absurd (omega (arith, s, h))
+limits_by o words status CannotWrite c s h = absurd (omega (arith, s, h))
+limits_by o words status Memory c s h = absurd (omega (arith, s, h))
+
+-- ---- the cause of a status
+
+pub claims_by : (o : Outside) (words : List (List ℕ)) (status : ℕ) (fault : Fault) → Caused o words fault → status ≡ status_of fault → status ≡ 4 → RefusesKeys o.held words ⊎ RefusesClaims o.held words
+claims_by o words status Usage c s h = absurd (omega (arith, s, h))
+claims_by o words status (Rules line column why) c s h = absurd (omega (arith, s, h))
+claims_by o words status (Change line why) c s h = absurd (omega (arith, s, h))
+claims_by o words status (LongLine seen) c s h = absurd (omega (arith, s, h))
+claims_by o words status Claims c s h = inr c.1
+claims_by o words status Keys c s h = inl c.1
+claims_by o words status (TooLong seen) c s h = absurd (omega (arith, s, h))
+claims_by o words status (CannotRead name) c s h = absurd (omega (arith, s, h))
+claims_by o words status CannotWrite c s h = absurd (omega (arith, s, h))
+claims_by o words status Memory c s h = absurd (omega (arith, s, h))
+
+pub unread_by : (o : Outside) (words : List (List ℕ)) (status : ℕ) (fault : Fault) → Caused o words fault → status ≡ status_of fault → status ≡ 6 → Rose o.read_before o.read_now × (name : List ℕ) × IsNext o.held words name
+unread_by o words status Usage c s h = absurd (omega (arith, s, h))
+unread_by o words status (Rules line column why) c s h = absurd (omega (arith, s, h))
+unread_by o words status (Change line why) c s h = absurd (omega (arith, s, h))
+unread_by o words status (LongLine seen) c s h = absurd (omega (arith, s, h))
+unread_by o words status Claims c s h = absurd (omega (arith, s, h))
+unread_by o words status Keys c s h = absurd (omega (arith, s, h))
+unread_by o words status (TooLong seen) c s h = absurd (omega (arith, s, h))
+unread_by o words status (CannotRead name) c s h = (c.2, name.now, c.1)
+unread_by o words status CannotWrite c s h = absurd (omega (arith, s, h))
+unread_by o words status Memory c s h = absurd (omega (arith, s, h))
+
+pub unwritten_by : (o : Outside) (words : List (List ℕ)) (status : ℕ) (fault : Fault) → Caused o words fault → status ≡ status_of fault → status ≡ 7 → Rose o.write_before o.write_now × PrintsFront o.held words o.taken_before o.taken_now
+unwritten_by o words status Usage c s h = absurd (omega (arith, s, h))
+unwritten_by o words status (Rules line column why) c s h = absurd (omega (arith, s, h))
+unwritten_by o words status (Change line why) c s h = absurd (omega (arith, s, h))
+unwritten_by o words status (LongLine seen) c s h = absurd (omega (arith, s, h))
+unwritten_by o words status Claims c s h = absurd (omega (arith, s, h))
+unwritten_by o words status Keys c s h = absurd (omega (arith, s, h))
+unwritten_by o words status (TooLong seen) c s h = absurd (omega (arith, s, h))
+unwritten_by o words status (CannotRead name) c s h = absurd (omega (arith, s, h))
+unwritten_by o words status CannotWrite c s h = (c.1, c.0)
+unwritten_by o words status Memory c s h = absurd (omega (arith, s, h))

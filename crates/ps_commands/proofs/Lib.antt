@@ -10,4 +10,5 @@ pub mod Sending
 pub mod Splitting
 pub mod Streaming
 pub mod Taking
+pub mod Telling
 pub mod TableNames

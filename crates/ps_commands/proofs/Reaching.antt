@@ -7,7 +7,7 @@ use Rattle.ps_changes.specs.declared.changes.Transaction.{Transaction}
 use Rattle.ps_changes.specs.Lines.{line_of}
 use Rattle.ps_changes.specs.declared.faults.ChangeFault.{ChangeFault}
 use Rattle.ps_commands.specs.declared.faults.Fault.{Fault}
-use Rattle.ps_commands.specs.declared.faults.Fault.TheVariants.{Usage, Rules, Change, LongLine, Claims, TooLong, CannotRead, CannotWrite, Memory}
+use Rattle.ps_commands.specs.declared.faults.Fault.TheVariants.{Usage, Rules, Change, LongLine, Claims, Keys, TooLong, CannotRead, CannotWrite, Memory}
 use Rattle.ps_commands.specs.declared.faults.LineFault.TheVariants.{NotRising}
 use Rattle.ps_commands.specs.ChangeFiles.{lines_of, is_blank, rising, transactions_from, transactions_of, ◌>>=◌}
 use Rattle.ps_rules.specs.RuleSets.{RuleSet}
@@ -175,6 +175,7 @@ module _ (rules : RuleSet) (changes : List ℕ) (number last : ℕ) (bytes : Bor
   refuses (Change place why) full is = refused (Change place why) full is
   refuses (LongLine length) full is = refused (LongLine length) full is
   refuses Claims full is = is
+  refuses Keys full is = is
   refuses (TooLong seen) full is = is
   refuses (CannotRead name) full is = is
   refuses CannotWrite full is = is

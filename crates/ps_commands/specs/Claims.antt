@@ -2,18 +2,13 @@
 use Rattle.std.specs.Prelude.{ℕ, List, codes, Option, Some, None, option_and_then, is_some, if◌then◌else◌}
 use Rattle.serde_json.specs.Data.{Data}
 use Rattle.serde_json.specs.Find.{get, as_str, as_object}
-use Rattle.serde_json.specs.Written.{compact_text}
-use Rattle.ps_values.specs.Conversions.{plain_of}
 use Rattle.ps_values.specs.Documents.{json_of}
 use Rattle.ps_sql.specs.Meaning.{Asker}
+use Rattle.ps_token.specs.Payloads.{plain_text}
 
 infixl 10 ◌>>=◌
 abbrev pub ◌>>=◌ : {A B : Type 0} → Option A → (A → Option B) → Option B
 o >>= f = option_and_then f o
-
--- the compact text of JSON, with null for each number that is no whole number of signed 64 bits
-abbrev pub plain_text : Data → List ℕ
-plain_text json = compact_text (plain_of json)
 
 -- the parameters' text: they are an object, or missing and then `{}`
 abbrev pub parameters_text : Option Data → Option (List ℕ)

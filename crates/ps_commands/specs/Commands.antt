@@ -1,12 +1,17 @@
--- The commands `check` and `rows`: their words, what their files mean, and the cause of each answer.
+-- The commands `check`, `rows` and `token`: their words, what their files mean, and the cause of each answer.
 use Rattle.std.specs.Prelude.{◌≡◌, ◌⊎◌, ℕ, ◌<◌, ◌≤◌, nat_le, List, [], ◌∷◌, ◌++◌, length, codes, bytes_eq, decimal, Option, Some, None, Result, Ok, Err, if◌then◌else◌}
 use Rattle.ps_io.specs.Contents.{Contents, Holds, HoldsMore, Gains, GainsFront}
 use Rattle.ps_io.specs.Counts.{Rose}
 use Rattle.ps_changes.specs.declared.changes.Transaction.{Transaction}
 use Rattle.ps_rules.specs.RuleSets.{RuleSet}
 use Rattle.ps_sql.specs.Meaning.{Asker}
+use Rattle.ps_token.specs.KeyFiles.{keys_of_file}
+use Rattle.ps_token.specs.KeyLists.{key_of}
+use Rattle.ps_token.specs.Tokens.{signed_token}
+use Rattle.ps_token.specs.declared.key_lists.Key.{Key}
+use Rattle.ps_token.specs.declared.faults.KeysFault.{KeysFault}
 use Rattle.ps_commands.specs.declared.faults.Fault.{Fault}
-use Rattle.ps_commands.specs.declared.faults.Fault.TheVariants.{Usage, Rules, Change, LongLine, Claims, TooLong, CannotRead, CannotWrite, Memory}
+use Rattle.ps_commands.specs.declared.faults.Fault.TheVariants.{Usage, Rules, Change, LongLine, Claims, Keys, TooLong, CannotRead, CannotWrite, Memory}
 use Rattle.ps_commands.specs.declared.faults.LineFault.{LineFault}
 use Rattle.ps_commands.specs.declared.faults.LineFault.TheVariants.{BadJson, BadShape, BadPosition, BadValue, NotRising}
 use Rattle.ps_commands.specs.ChangeFiles.{transactions_of}
@@ -25,24 +30,32 @@ pub record Names : Type 0 where
   pub changes : List ℕ
   pub claims : List ℕ
 
+-- the files that `token` names, and the kid of the key to sign with
+pub record Signing : Type 0 where
+  pub keys : List ℕ
+  pub kid : List ℕ
+  pub claims : List ℕ
+
 -- a command with its files
 pub data Command : Type 0 where
   check : List ℕ → Command
   rows : Names → Command
+  token : Signing → Command
 
--- the words `check RULES` or `rows RULES CHANGES CLAIMS`, and no others
+-- the words `check RULES`, `rows RULES CHANGES CLAIMS` or `token KEYS KID CLAIMS`, and no others
 abbrev pub command_of : List (List ℕ) → Option Command
 command_of [] = None
 command_of (w ∷ []) = None
 command_of (w ∷ a ∷ []) = if bytes_eq w (codes "check") then Some (check a) else None
 command_of (w ∷ a ∷ b ∷ []) = None
-command_of (w ∷ a ∷ b ∷ c ∷ []) = if bytes_eq w (codes "rows") then Some (rows (record { rules = a; changes = b; claims = c })) else None
+command_of (w ∷ a ∷ b ∷ c ∷ []) =
+    if bytes_eq w (codes "rows") then Some (rows (record { rules = a; changes = b; claims = c })) else
+    if bytes_eq w (codes "token") then Some (token (record { keys = a; kid = b; claims = c })) else None
 command_of (w ∷ a ∷ b ∷ c ∷ d ∷ more) = None
 
--- the rules file that a command names
-abbrev pub rules_file : Command → List ℕ
-rules_file (check name) = name
-rules_file (rows names) = names.rules
+-- the words are a command
+abbrev pub IsCommand : List (List ℕ) → Type 0
+IsCommand words = (command : Command) × (command_of words ≡ Some command)
 
 -- ---- files
 
@@ -58,119 +71,185 @@ pub record HoldsWithin (held : Option Contents) (name : List ℕ) (limit : ℕ) 
   pub holds : Holds held name bytes
   pub within : length bytes ≤ limit
 
--- the words are that command, and the rules file that it names is read as those rules
-pub record ReadsRules (held : Option Contents) (words : List (List ℕ)) (command : Command) (rules : RuleSet) : Type 0 where
-  pub is : command_of words ≡ Some command
+-- a rules file is read as those rules
+pub record ReadsRules (held : Option Contents) (name : List ℕ) (rules : RuleSet) : Type 0 where
   pub bytes : List ℕ
-  pub file : HoldsWithin held (rules_file command) rules_limit bytes
+  pub file : HoldsWithin held name rules_limit bytes
   pub read : rules_of_file bytes ≡ Ok rules
 
--- the claims file of `rows` is read as that asker's
-pub record ReadsAsker (held : Option Contents) (names : Names) (asker : Asker) : Type 0 where
+-- a claims file is read as that asker's
+pub record ReadsAsker (held : Option Contents) (name : List ℕ) (asker : Asker) : Type 0 where
   pub bytes : List ℕ
-  pub file : HoldsWithin held names.claims file_limit bytes
+  pub file : HoldsWithin held name file_limit bytes
   pub read : asker_of_claims bytes ≡ Some asker
 
--- the rules and the claims of `rows` are read, and the change file has these bytes
-pub record ReachesChanges (held : Option Contents) (words : List (List ℕ)) (rules : RuleSet) (asker : Asker) (bytes : List ℕ) : Type 0 where
-  pub names : Names
-  pub rules_read : ReadsRules held words (rows names) rules
-  pub claims_read : ReadsAsker held names asker
-  pub file : HoldsWithin held names.changes file_limit bytes
+-- a change file is read as those transactions
+pub record ReadsChanges (held : Option Contents) (name : List ℕ) (transactions : List Transaction) : Type 0 where
+  pub bytes : List ℕ
+  pub file : HoldsWithin held name file_limit bytes
+  pub read : transactions_of bytes ≡ Ok transactions
+
+-- the key of a kid in a key file: none where the file is not of its form, or where no key has that kid
+abbrev pub key_among : List ℕ → Result (List Key) KeysFault → Option Key
+key_among kid (Ok keys) = key_of kid keys
+key_among kid (Err fault) = None
+
+abbrev pub key_of_file : List ℕ → List ℕ → Option Key
+key_of_file kid bytes = key_among kid (keys_of_file bytes)
+
+-- a key file is read, and that is its key of that kid
+pub record ReadsKey (held : Option Contents) (name kid : List ℕ) (key : Key) : Type 0 where
+  pub bytes : List ℕ
+  pub file : HoldsWithin held name file_limit bytes
+  pub read : key_of_file kid bytes ≡ Some key
+
+-- ---- what a command prints
+
+-- `check`: the lines of the rules' definitions and warnings
+pub record MeansCheck (held : Option Contents) (name text : List ℕ) : Type 0 where
+  pub rules : RuleSet
+  pub rules_read : ReadsRules held name rules
+  pub is : text ≡ check_text rules
+
+-- `rows`: the printed rows that are due to the asker over all transactions of the change file at the last position
+pub record MeansRows (held : Option Contents) (names : Names) (text : List ℕ) : Type 0 where
+  pub rules : RuleSet
+  pub asker : Asker
+  pub transactions : List Transaction
+  pub rules_read : ReadsRules held names.rules rules
+  pub claims_read : ReadsAsker held names.claims asker
+  pub changes_read : ReadsChanges held names.changes transactions
+  pub is : text ≡ rows_text (due rules asker transactions (last_position 0 transactions))
+
+-- the token of an asker's payload, signed with a key, and a line feed
+abbrev pub token_text : Key → List ℕ → Asker → List ℕ
+token_text key kid asker = signed_token key kid asker.payload ++ codes "\n"
+
+-- `token`: the signed token of the claims' payload and a line feed
+pub record MeansToken (held : Option Contents) (names : Signing) (text : List ℕ) : Type 0 where
+  pub key : Key
+  pub asker : Asker
+  pub key_read : ReadsKey held names.keys names.kid key
+  pub claims_read : ReadsAsker held names.claims asker
+  pub is : text ≡ token_text key names.kid asker
+
+-- the files of a command are read, and it prints that text
+abbrev pub Means : Option Contents → Command → List ℕ → Type 0
+Means held (check name) text = MeansCheck held name text
+Means held (rows names) text = MeansRows held names text
+Means held (token names) text = MeansToken held names text
+
+-- the output took exactly what the command prints
+pub record Prints (held : Option Contents) (words : List (List ℕ)) (old new : Option (List ℕ)) : Type 0 where
+  pub command : Command
+  pub is : command_of words ≡ Some command
+  pub text : List ℕ
+  pub means : Means held command text
+  pub printed : Gains old new text
+
+-- the output took a front of what the command prints
+pub record PrintsFront (held : Option Contents) (words : List (List ℕ)) (old new : Option (List ℕ)) : Type 0 where
+  pub command : Command
+  pub is : command_of words ≡ Some command
+  pub text : List ℕ
+  pub means : Means held command text
+  pub printed : GainsFront old new text
+
+-- ---- the files of a command, in order
+
+-- what a file is to a command
+pub data Role : Type 0 where
+  for_rules : Role
+  for_keys : Role
+  for_claims : Role
+  for_changes : Role
+
+abbrev pub limit_of : Role → ℕ
+limit_of for_rules = rules_limit
+limit_of for_keys = file_limit
+limit_of for_claims = file_limit
+limit_of for_changes = file_limit
+
+-- the files of `rows` before the change file are read
+pub record ReadsRulesAndClaims (held : Option Contents) (names : Names) : Type 0 where
+  pub rules : RuleSet
+  pub asker : Asker
+  pub rules_read : ReadsRules held names.rules rules
+  pub claims_read : ReadsAsker held names.claims asker
+
+-- that is the command's file in that role, and those before it are read
+abbrev pub ComesTo : Option Contents → Command → Role → List ℕ → Type 0
+ComesTo held (check rules) for_rules name = name ≡ rules
+ComesTo held (check rules) for_keys name = ⊥
+ComesTo held (check rules) for_claims name = ⊥
+ComesTo held (check rules) for_changes name = ⊥
+ComesTo held (rows names) for_rules name = name ≡ names.rules
+ComesTo held (rows names) for_keys name = ⊥
+ComesTo held (rows names) for_claims name = (name ≡ names.claims) × (rules : RuleSet) × ReadsRules held names.rules rules
+ComesTo held (rows names) for_changes name = (name ≡ names.changes) × ReadsRulesAndClaims held names
+ComesTo held (token names) for_rules name = ⊥
+ComesTo held (token names) for_keys name = name ≡ names.keys
+ComesTo held (token names) for_claims name = (name ≡ names.claims) × (key : Key) × ReadsKey held names.keys names.kid key
+ComesTo held (token names) for_changes name = ⊥
+
+-- the words are a command, and a file of it comes next in that role: those before it, in order, are read
+pub record Reaches (held : Option Contents) (words : List (List ℕ)) (role : Role) (name : List ℕ) : Type 0 where
+  pub command : Command
+  pub is : command_of words ≡ Some command
+  pub comes : ComesTo held command role name
 
 -- ---- the cause of each answer
 
--- `rows`: the output took exactly the printed rows that are due to the asker over all transactions of the change file at the last position
-pub record PrintsRows (held : Option Contents) (words : List (List ℕ)) (old new : Option (List ℕ)) : Type 0 where
-  pub rules : RuleSet
-  pub asker : Asker
-  pub bytes : List ℕ
-  pub transactions : List Transaction
-  pub files : ReachesChanges held words rules asker bytes
-  pub read : transactions_of bytes ≡ Ok transactions
-  pub printed : Gains old new (rows_text (due rules asker transactions (last_position 0 transactions)))
-
--- `check`: the output took exactly the lines of the rules' definitions and warnings
-pub record PrintsCheck (held : Option Contents) (words : List (List ℕ)) (old new : Option (List ℕ)) : Type 0 where
-  pub name : List ℕ
-  pub rules : RuleSet
-  pub read : ReadsRules held words (check name) rules
-  pub printed : Gains old new (check_text rules)
-
-abbrev pub Prints : Option Contents → List (List ℕ) → Option (List ℕ) → Option (List ℕ) → Type 0
-Prints held words old new = PrintsCheck held words old new ⊎ PrintsRows held words old new
-
 -- that is the fault of the rules file, as read
 pub record RefusesRules (held : Option Contents) (words : List (List ℕ)) (fault : Fault) : Type 0 where
-  pub command : Command
-  pub is : command_of words ≡ Some command
+  pub name : List ℕ
+  pub reached : Reaches held words for_rules name
   pub bytes : List ℕ
-  pub file : HoldsWithin held (rules_file command) rules_limit bytes
+  pub file : HoldsWithin held name rules_limit bytes
   pub refused : rules_of_file bytes ≡ Err fault
 
--- the rules are read, and the claims file, as read, is refused
-pub record RefusesClaims (held : Option Contents) (words : List (List ℕ)) : Type 0 where
-  pub names : Names
-  pub rules : RuleSet
-  pub rules_read : ReadsRules held words (rows names) rules
+-- the key file, as read, is not of its form or has no key of the kid
+pub record RefusesKeys (held : Option Contents) (words : List (List ℕ)) : Type 0 where
+  pub names : Signing
+  pub is : command_of words ≡ Some (token names)
   pub bytes : List ℕ
-  pub file : HoldsWithin held names.claims file_limit bytes
+  pub file : HoldsWithin held names.keys file_limit bytes
+  pub refused : key_of_file names.kid bytes ≡ None
+
+-- the file before is read, and the claims file, as read, is refused
+pub record RefusesClaims (held : Option Contents) (words : List (List ℕ)) : Type 0 where
+  pub name : List ℕ
+  pub reached : Reaches held words for_claims name
+  pub bytes : List ℕ
+  pub file : HoldsWithin held name file_limit bytes
   pub refused : asker_of_claims bytes ≡ None
 
 -- rules and claims are read, and that is the fault of the first line of the change file that is refused
 pub record RefusesChanges (held : Option Contents) (words : List (List ℕ)) (fault : Fault) : Type 0 where
-  pub rules : RuleSet
-  pub asker : Asker
+  pub name : List ℕ
+  pub reached : Reaches held words for_changes name
   pub bytes : List ℕ
-  pub files : ReachesChanges held words rules asker bytes
+  pub file : HoldsWithin held name file_limit bytes
   pub refused : transactions_of bytes ≡ Err fault
 
 -- a file is longer than its limit, and those before it are read
-pub record ExceedsRules (held : Option Contents) (words : List (List ℕ)) (seen : ℕ) : Type 0 where
-  pub command : Command
-  pub is : command_of words ≡ Some command
-  pub more : rules_limit < seen
-  pub file : HoldsMore held (rules_file command) rules_limit
-
-pub record ExceedsClaims (held : Option Contents) (words : List (List ℕ)) (seen : ℕ) : Type 0 where
-  pub names : Names
-  pub rules : RuleSet
-  pub rules_read : ReadsRules held words (rows names) rules
-  pub more : file_limit < seen
-  pub file : HoldsMore held names.claims file_limit
-
-pub record ExceedsChanges (held : Option Contents) (words : List (List ℕ)) (seen : ℕ) : Type 0 where
-  pub names : Names
-  pub rules : RuleSet
-  pub asker : Asker
-  pub rules_read : ReadsRules held words (rows names) rules
-  pub claims_read : ReadsAsker held names asker
-  pub more : file_limit < seen
-  pub file : HoldsMore held names.changes file_limit
-
-abbrev pub ExceedsFile : Option Contents → List (List ℕ) → ℕ → Type 0
-ExceedsFile held words seen = ExceedsRules held words seen ⊎ ExceedsClaims held words seen ⊎ ExceedsChanges held words seen
+pub record ExceedsFile (held : Option Contents) (words : List (List ℕ)) (seen : ℕ) : Type 0 where
+  pub role : Role
+  pub name : List ℕ
+  pub reached : Reaches held words role name
+  pub more : limit_of role < seen
+  pub file : HoldsMore held name (limit_of role)
 
 -- a file is longer than its limit, or the first line of the change file that is refused is
 abbrev pub ExceedsLimit : Option Contents → List (List ℕ) → ℕ → Type 0
 ExceedsLimit held words seen = ExceedsFile held words seen ⊎ RefusesChanges held words (LongLine seen)
 
+-- that is a file of the command, and those before it, in order, are read
+pub record IsNext (held : Option Contents) (words : List (List ℕ)) (name : List ℕ) : Type 0 where
+  pub role : Role
+  pub reached : Reaches held words role name
+
 -- ---- faults
-
--- the words are a command
-abbrev pub IsCommand : List (List ℕ) → Type 0
-IsCommand words = (command : Command) × (command_of words ≡ Some command)
-
--- a command names that file
-abbrev pub IsFileOf : Command → List ℕ → Type 0
-IsFileOf (check rules) name = name ≡ rules
-IsFileOf (rows names) name = (name ≡ names.rules) ⊎ (name ≡ names.claims) ⊎ (name ≡ names.changes)
-
--- the words are a command that names that file
-pub record NamesFile (words : List (List ℕ)) (name : List ℕ) : Type 0 where
-  pub command : Command
-  pub is : command_of words ≡ Some command
-  pub file : IsFileOf command name
 
 -- what is seen of the outside before and after
 pub record Outside : Type 0 where
@@ -185,9 +264,6 @@ pub record Outside : Type 0 where
 abbrev pub Kept : Outside → Type 0
 Kept o = o.taken_now ≡ o.taken_before
 
-abbrev pub GainsAFront : Outside → Type 0
-GainsAFront o = (text : List ℕ) × GainsFront o.taken_before o.taken_now text
-
 -- why a command ends with a fault, and what the output has taken then
 abbrev pub Caused : Outside → List (List ℕ) → Fault → Type 0
 Caused o words Usage = Kept o × (command_of words ≡ None)
@@ -195,9 +271,10 @@ Caused o words (Rules line column why) = Kept o × RefusesRules o.held words (Ru
 Caused o words (Change line why) = Kept o × RefusesChanges o.held words (Change line why)
 Caused o words (LongLine length) = Kept o × RefusesChanges o.held words (LongLine length)
 Caused o words Claims = Kept o × RefusesClaims o.held words
+Caused o words Keys = Kept o × RefusesKeys o.held words
 Caused o words (TooLong seen) = Kept o × ExceedsFile o.held words seen
-Caused o words (CannotRead name) = Kept o × NamesFile words name × Rose o.read_before o.read_now
-Caused o words CannotWrite = GainsAFront o × IsCommand words × Rose o.write_before o.write_now
+Caused o words (CannotRead name) = Kept o × IsNext o.held words name.now × Rose o.read_before o.read_now
+Caused o words CannotWrite = PrintsFront o.held words o.taken_before o.taken_now × Rose o.write_before o.write_now
 Caused o words Memory = Kept o × IsCommand words
 
 abbrev pub Outcome : Outside → List (List ℕ) → Result (Unit {0}) Fault → Type 0
@@ -212,6 +289,7 @@ status_of (Rules line column why) = 2
 status_of (Change line why) = 3
 status_of (LongLine length) = 5
 status_of Claims = 4
+status_of Keys = 4
 status_of (TooLong seen) = 5
 status_of (CannotRead name) = 6
 status_of CannotWrite = 7
@@ -230,8 +308,9 @@ fault_text (Rules line column why) = codes "rules " ++ decimal line ++ codes ":"
 fault_text (Change line why) = codes "change " ++ decimal line ++ codes " " ++ line_fault_text why
 fault_text (LongLine length) = codes "limit line-bytes " ++ decimal length
 fault_text Claims = codes "claims"
+fault_text Keys = codes "keys"
 fault_text (TooLong seen) = codes "limit file-bytes " ++ decimal seen
-fault_text (CannotRead name) = codes "cannot read " ++ name
+fault_text (CannotRead name) = codes "cannot read " ++ name.now
 fault_text CannotWrite = codes "cannot write"
 fault_text Memory = codes "out of memory"
 
@@ -265,21 +344,25 @@ abbrev pub or_refused : {A : Type 0} → Result A Fault → Result A Refusal
 or_refused (Ok x) = Ok x
 or_refused (Err fault) = Err (refused fault)
 
-abbrev pub or_no_claims : {A : Type 0} → Option A → Result A Refusal
-or_no_claims (Some x) = Ok x
-or_no_claims None = Err (refused Claims)
+-- what is there, or else the file is refused with that fault
+abbrev pub or_none : {A : Type 0} → Fault → Option A → Result A Refusal
+or_none fault (Some x) = Ok x
+or_none fault None = Err (refused fault)
 
 -- the rules of a file
 abbrev pub rules_meant : Contents → List ℕ → Result RuleSet Refusal
 rules_meant held name = within_limit rules_limit (held name) >>= λ bytes. or_refused (rules_of_file bytes)
 
+abbrev pub key_meant : Contents → List ℕ → List ℕ → Result Key Refusal
+key_meant held name kid = within_limit file_limit (held name) >>= λ bytes. or_none Keys (key_of_file kid bytes)
+
 abbrev pub asker_meant : Contents → List ℕ → Result Asker Refusal
-asker_meant held name = within_limit file_limit (held name) >>= λ bytes. or_no_claims (asker_of_claims bytes)
+asker_meant held name = within_limit file_limit (held name) >>= λ bytes. or_none Claims (asker_of_claims bytes)
 
 abbrev pub transactions_meant : Contents → List ℕ → Result (List Transaction) Refusal
 transactions_meant held name = within_limit file_limit (held name) >>= λ bytes. or_refused (transactions_of bytes)
 
--- what a command prints over its files, or the first refusal: rules before claims before changes
+-- what a command prints over its files, or the first refusal: rules before claims before changes, and keys before claims
 abbrev pub meaning : Contents → Command → Result (List ℕ) Refusal
 meaning held (check name) = do
   rules ← rules_meant held name
@@ -289,6 +372,10 @@ meaning held (rows names) = do
   asker ← asker_meant held names.claims
   transactions ← transactions_meant held names.changes
   Ok (rows_text (due rules asker transactions (last_position 0 transactions)))
+meaning held (token names) = do
+  key ← key_meant held names.keys names.kid
+  asker ← asker_meant held names.claims
+  Ok (token_text key names.kid asker)
 
 abbrev pub refusal_status : Refusal → ℕ
 refusal_status missing = 8

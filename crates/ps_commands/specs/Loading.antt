@@ -1,18 +1,24 @@
 -- Loading what a file means.
-use Rattle.std.specs.Prelude.{◌≡◌, ℕ, ◌<◌, List, Option, Some, None, Result, Ok, Err, Vec}
+use Rattle.std.specs.Prelude.{◌≡◌, ℕ, ◌<◌, ◌++◌, codes, List, Option, Some, None, Result, Ok, Err, Vec}
 use Rattle.std.specs.declared.alloc.Global.{Global}
 use Rattle.ps_io.specs.Contents.{Contents, HoldsMore}
 use Rattle.ps_io.specs.Counts.{Rose}
 use Rattle.ps_changes.specs.declared.changes.Transaction.{Transaction}
 use Rattle.ps_commands.specs.declared.faults.Fault.{Fault}
-use Rattle.ps_commands.specs.declared.faults.Fault.TheVariants.{Usage, Rules, Change, LongLine, Claims, TooLong, CannotRead, CannotWrite, Memory}
+use Rattle.ps_commands.specs.declared.faults.Fault.TheVariants.{Usage, Rules, Change, LongLine, Claims, Keys, TooLong, CannotRead, CannotWrite, Memory}
 use Rattle.ps_rules.specs.RuleSets.{RuleSet}
 use Rattle.ps_sql_eval.specs.declared.askers.Asker.{Asker}
 use Rattle.ps_sql_eval.specs.Evaluated.{asker_of}
+use Rattle.ps_token.specs.KeyLists.{key_of}
+use Rattle.ps_token.specs.Tokens.{signed_token}
+use Rattle.ps_token.specs.declared.key_lists.Key.{Key}
+use Rattle.ps_token.specs.declared.faults.SignFault.{SignFault}
+use Rattle.ps_token.specs.declared.faults.SignFault.TheVariants.{UnknownKey}
+use Rattle.ps_token.specs.declared.faults.SignFault.TheVariants as sign
 use Rattle.ps_commands.specs.ChangeFiles.{transactions_of}
 use Rattle.ps_store.specs.Laws.{last_position}
 use Rattle.ps_commands.specs.Claims.{asker_of_claims}
-use Rattle.ps_commands.specs.Commands.{HoldsWithin}
+use Rattle.ps_commands.specs.Commands.{HoldsWithin, key_of_file}
 use Rattle.ps_commands.specs.Dues.{due}
 use Rattle.ps_commands.specs.RulesFaults.{rules_of_file}
 use Rattle.ps_commands.specs.Texts.{rows_text}
@@ -25,8 +31,9 @@ Loads held name limit before now Finds Refuses (Err (Rules line column why)) = (
 Loads held name limit before now Finds Refuses (Err (Change line why)) = (bytes : List ℕ) × HoldsWithin held name limit bytes × Refuses (Change line why) bytes
 Loads held name limit before now Finds Refuses (Err (LongLine length)) = (bytes : List ℕ) × HoldsWithin held name limit bytes × Refuses (LongLine length) bytes
 Loads held name limit before now Finds Refuses (Err Claims) = (bytes : List ℕ) × HoldsWithin held name limit bytes × Refuses Claims bytes
+Loads held name limit before now Finds Refuses (Err Keys) = (bytes : List ℕ) × HoldsWithin held name limit bytes × Refuses Keys bytes
 Loads held name limit before now Finds Refuses (Err (TooLong seen)) = (limit < seen) × HoldsMore held name limit
-Loads held name limit before now Finds Refuses (Err (CannotRead file)) = (file ≡ name) × Rose before now
+Loads held name limit before now Finds Refuses (Err (CannotRead file)) = (file.now ≡ name) × Rose before now
 Loads held name limit before now Finds Refuses (Err CannotWrite) = ⊥
 Loads held name limit before now Finds Refuses (Err Memory) = Unit {0}
 
@@ -47,10 +54,47 @@ IsRulesFault Usage bytes = ⊥
 IsRulesFault (Change line why) bytes = ⊥
 IsRulesFault (LongLine length) bytes = ⊥
 IsRulesFault Claims bytes = ⊥
+IsRulesFault Keys bytes = ⊥
 IsRulesFault (TooLong seen) bytes = ⊥
 IsRulesFault (CannotRead name) bytes = ⊥
 IsRulesFault CannotWrite bytes = ⊥
 IsRulesFault Memory bytes = ⊥
+
+-- keys of a key file, one of which has the kid
+abbrev pub FindsKey : List ℕ → List Key → List ℕ → Type 0
+FindsKey kid keys bytes = (key : Key) × (key_of kid keys ≡ Some key) × (key_of_file kid bytes ≡ Some key)
+
+abbrev pub IsKeysFault : List ℕ → Fault → List ℕ → Type 0
+IsKeysFault kid Keys bytes = key_of_file kid bytes ≡ None
+IsKeysFault kid Usage bytes = ⊥
+IsKeysFault kid (Rules line column why) bytes = ⊥
+IsKeysFault kid (Change line why) bytes = ⊥
+IsKeysFault kid (LongLine length) bytes = ⊥
+IsKeysFault kid Claims bytes = ⊥
+IsKeysFault kid (TooLong seen) bytes = ⊥
+IsKeysFault kid (CannotRead name) bytes = ⊥
+IsKeysFault kid CannotWrite bytes = ⊥
+IsKeysFault kid Memory bytes = ⊥
+
+-- keys of a key file are found, or refused; of want of memory nothing is said
+abbrev pub ChoosesKey : List ℕ → List ℕ → Result (List Key) Fault → Type 0
+ChoosesKey kid bytes (Ok keys) = FindsKey kid keys bytes
+ChoosesKey kid bytes (Err Memory) = Unit {0}
+ChoosesKey kid bytes (Err Keys) = IsKeysFault kid Keys bytes
+ChoosesKey kid bytes (Err Usage) = ⊥
+ChoosesKey kid bytes (Err (Rules line column why)) = ⊥
+ChoosesKey kid bytes (Err (Change line why)) = ⊥
+ChoosesKey kid bytes (Err (LongLine length)) = ⊥
+ChoosesKey kid bytes (Err Claims) = ⊥
+ChoosesKey kid bytes (Err (TooLong seen)) = ⊥
+ChoosesKey kid bytes (Err (CannotRead name)) = ⊥
+ChoosesKey kid bytes (Err CannotWrite) = ⊥
+
+-- a line with a token is that of the key of the kid; no key has it; want of memory says nothing
+abbrev pub SignsLine : List Key → List ℕ → List ℕ → Result (List ℕ) SignFault → Type 0
+SignsLine keys kid payload (Ok line) = (key : Key) × (key_of kid keys ≡ Some key) × (line ≡ signed_token key kid payload ++ codes "\n")
+SignsLine keys kid payload (Err UnknownKey) = key_of kid keys ≡ None
+SignsLine keys kid payload (Err sign.Memory) = Unit {0}
 
 -- the asker of a claims file
 abbrev pub FindsAsker : Asker → List ℕ → Type 0
@@ -62,6 +106,7 @@ IsClaimsFault Usage bytes = ⊥
 IsClaimsFault (Rules line column why) bytes = ⊥
 IsClaimsFault (Change line why) bytes = ⊥
 IsClaimsFault (LongLine length) bytes = ⊥
+IsClaimsFault Keys bytes = ⊥
 IsClaimsFault (TooLong seen) bytes = ⊥
 IsClaimsFault (CannotRead name) bytes = ⊥
 IsClaimsFault CannotWrite bytes = ⊥
@@ -77,6 +122,7 @@ RefusesLine (LongLine length) bytes = transactions_of bytes ≡ Err (LongLine le
 RefusesLine Usage bytes = ⊥
 RefusesLine (Rules line column why) bytes = ⊥
 RefusesLine Claims bytes = ⊥
+RefusesLine Keys bytes = ⊥
 RefusesLine (TooLong seen) bytes = ⊥
 RefusesLine (CannotRead name) bytes = ⊥
 RefusesLine CannotWrite bytes = ⊥
@@ -91,6 +137,7 @@ Prepares rules asker bytes (Err (LongLine length)) = RefusesLine (LongLine lengt
 Prepares rules asker bytes (Err Usage) = ⊥
 Prepares rules asker bytes (Err (Rules line column why)) = ⊥
 Prepares rules asker bytes (Err Claims) = ⊥
+Prepares rules asker bytes (Err Keys) = ⊥
 Prepares rules asker bytes (Err (TooLong seen)) = ⊥
 Prepares rules asker bytes (Err (CannotRead name)) = ⊥
 Prepares rules asker bytes (Err CannotWrite) = ⊥

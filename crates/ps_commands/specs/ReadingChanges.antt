@@ -10,7 +10,7 @@ use Rattle.ps_store.specs.Originals.{timed}
 use Rattle.ps_store.specs.Replicas.{Holds, IsReady}
 use Rattle.ps_commands.specs.declared.change_files.Written.{Written}
 use Rattle.ps_commands.specs.declared.faults.Fault.{Fault}
-use Rattle.ps_commands.specs.declared.faults.Fault.TheVariants.{Usage, Rules, Change, LongLine, Claims, TooLong, CannotRead, CannotWrite, Memory}
+use Rattle.ps_commands.specs.declared.faults.Fault.TheVariants.{Usage, Rules, Change, LongLine, Claims, Keys, TooLong, CannotRead, CannotWrite, Memory}
 use Rattle.ps_commands.specs.ChangeFiles.{lines_of, transactions_of, transactions_from}
 
 -- the lines of what is left of a file
@@ -41,6 +41,7 @@ ReadsRising (Err (Rules line column why)) meant = ⊥
 ReadsRising (Err (Change line why)) meant = meant ≡ Err (Change line why)
 ReadsRising (Err (LongLine length)) meant = meant ≡ Err (LongLine length)
 ReadsRising (Err Claims) meant = ⊥
+ReadsRising (Err Keys) meant = ⊥
 ReadsRising (Err (TooLong seen)) meant = ⊥
 ReadsRising (Err (CannotRead name)) meant = ⊥
 ReadsRising (Err CannotWrite) meant = ⊥
@@ -69,6 +70,7 @@ Writes rules meant (Err (Rules line column why)) = ⊥
 Writes rules meant (Err (Change line why)) = meant ≡ Err (Change line why)
 Writes rules meant (Err (LongLine length)) = meant ≡ Err (LongLine length)
 Writes rules meant (Err Claims) = ⊥
+Writes rules meant (Err Keys) = ⊥
 Writes rules meant (Err (TooLong seen)) = ⊥
 Writes rules meant (Err (CannotRead name)) = ⊥
 Writes rules meant (Err CannotWrite) = ⊥

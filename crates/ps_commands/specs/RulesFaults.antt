@@ -9,7 +9,7 @@ use Rattle.ps_rules.specs.declared.faults.RulesFault.TheVariants as rules
 use Rattle.ps_rules.specs.Reading.{rules_in}
 use Rattle.ps_rules.specs.RuleSets.{RuleSet}
 use Rattle.ps_commands.specs.declared.faults.Fault.{Fault}
-use Rattle.ps_commands.specs.declared.faults.Fault.TheVariants.{Usage, Rules, Change, LongLine, Claims, TooLong, CannotRead, CannotWrite, Memory}
+use Rattle.ps_commands.specs.declared.faults.Fault.TheVariants.{Usage, Rules, Change, LongLine, Claims, Keys, TooLong, CannotRead, CannotWrite, Memory}
 use Rattle.ps_commands.specs.declared.faults.RulesCause.{RulesCause}
 use Rattle.ps_commands.specs.declared.faults.RulesCause.TheVariants.{YamlIndent, YamlScalar, YamlDuplicateKey, YamlUnsupported, Shape, SqlToken, SqlUnexpected, SqlUnsupported, UnknownParameter, UnmatchedParameter, NoId, TooManyBranches, DuplicateName, MixedOutput}
 
@@ -76,6 +76,7 @@ ReadsRules (Err Usage) meant = ⊥
 ReadsRules (Err (Change line why)) meant = ⊥
 ReadsRules (Err (LongLine length)) meant = ⊥
 ReadsRules (Err Claims) meant = ⊥
+ReadsRules (Err Keys) meant = ⊥
 ReadsRules (Err (TooLong seen)) meant = ⊥
 ReadsRules (Err (CannotRead name)) meant = ⊥
 ReadsRules (Err CannotWrite) meant = ⊥

@@ -51,7 +51,7 @@ pub fn is_blank(line: &[u8]) -> bool
 /// before the next is read.
 /// Fails by the first line that is refused: with `LongLine` where it is longer than a line may be, and else with `Change`.
 /// What the lines before it wrote is dropped.
-pub fn write_changes(alloc: Global, rules: &Rules, changes: &[u8]) -> Result<Written, Fault>
+pub fn write_changes<'a>(alloc: Global, rules: &Rules, changes: &[u8]) -> Result<Written, Fault<'a>>
     requires { length changes.now < 2 ^ 63 }
     ensures { Writes rules.now (transactions_of changes.now) result }
 {
@@ -74,7 +74,12 @@ pub fn write_changes(alloc: Global, rules: &Rules, changes: &[u8]) -> Result<Wri
 }
 
 // The transaction of a line, where its position is past the last one.
-fn read_rising(alloc: Global, line: &[u8], number: u64, last: u64) -> Result<Transaction, Fault>
+fn read_rising<'a>(
+    alloc: Global,
+    line: &[u8],
+    number: u64,
+    last: u64,
+) -> Result<Transaction, Fault<'a>>
     ensures { ReadsRising result (rising number last (line_of line.now)) }
 {
     match read_line(alloc, line) {
@@ -96,7 +101,7 @@ fn read_rising(alloc: Global, line: &[u8], number: u64, last: u64) -> Result<Tra
 }
 
 // Refuses a line.
-fn refuse(line: u64, why: LineFault) -> Result<Transaction, Fault>
+fn refuse<'a>(line: u64, why: LineFault) -> Result<Transaction, Fault<'a>>
     ensures { result ≡ Err (Fault.Change line why) }
 {
     Err(Fault::Change { line, why })

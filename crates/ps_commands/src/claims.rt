@@ -2,20 +2,13 @@ ghost use Rattle.std.specs.Prelude.{◌≡◌, IfOk, option_map, option_and_then
 ghost use Rattle.serde_json.specs.Find.{get};
 ghost use Rattle.serde_json.specs.View.{view};
 ghost use Rattle.ps_sql_eval.specs.Evaluated.{asker_of};
-ghost use Rattle.ps_commands.specs.Claims.{plain_text as plain_text_of, parameters_text as parameters_text_of, client_id as client_id_of, asker_in as asker_in_json, asker_of_claims};
+ghost use Rattle.ps_commands.specs.Claims.{parameters_text as parameters_text_of, client_id as client_id_of, asker_in as asker_in_json, asker_of_claims};
 
 use ps_sql_eval::Asker;
-use ps_values::{Memory, Text, plain, read_json, text_of_json};
+use ps_token::plain_text;
+use ps_values::{Memory, Text, read_json};
 use serde_json::Value as Json;
 use std::alloc::Global;
-
-// The compact text of JSON, with null for each number that is no whole number of signed 64 bits.
-fn plain_text(alloc: Global, json: &Json) -> Result<Text, Memory>
-    ensures { IfOk result (λ text. text ≡ plain_text_of (view json.now)) }
-{
-    let json = plain(alloc, json)?;
-    text_of_json(alloc, &json)
-}
 
 // The parameters' text, `{}` where they are missing; None where they are no object.
 fn parameters_text(alloc: Global, claims: &Json) -> Result<Option<Text>, Memory>

@@ -56,7 +56,7 @@ pub enum RulesCause {
 
 /// Why the program did not do what it was asked: docs/FORMATS.md, "Fault texts".
 #[derive(Debug, Drop)]
-pub enum Fault {
+pub enum Fault<'a> {
     /// The words are no command.
     Usage,
     /// The rules file is refused.
@@ -82,6 +82,8 @@ pub enum Fault {
     },
     /// The claims file is not of its form.
     Claims,
+    /// The key file is not of its form, or it has no key of the kid.
+    Keys,
     /// A file is longer than its limit.
     TooLong {
         /// How many bytes of it were seen.
@@ -90,7 +92,7 @@ pub enum Fault {
     /// The faults of the files rose.
     CannotRead {
         /// The name of the file that was asked for.
-        name: Text,
+        name: &'a Text,
     },
     /// The faults of the output rose.
     CannotWrite,
@@ -98,35 +100,35 @@ pub enum Fault {
     Memory,
 }
 
-impl From<Memory> for Fault {
+impl<'a> From<Memory> for Fault<'a> {
     ghost use Rattle.std.specs.Prelude.{◌≡◌};
     ghost use Rattle.ps_commands.specs.declared.faults.Fault.TheVariants as faults;
 
     ghost from_gives = { λ _ fault. fault ≡ faults.Memory };
 
-    fn from(_refused: Memory) -> Fault {
+    fn from(_refused: Memory) -> Fault<'a> {
         Fault::Memory
     }
 }
 
-impl From<AllocError> for Fault {
+impl<'a> From<AllocError> for Fault<'a> {
     ghost use Rattle.std.specs.Prelude.{◌≡◌};
     ghost use Rattle.ps_commands.specs.declared.faults.Fault.TheVariants as faults;
 
     ghost from_gives = { λ _ fault. fault ≡ faults.Memory };
 
-    fn from(_refused: AllocError) -> Fault {
+    fn from(_refused: AllocError) -> Fault<'a> {
         Fault::Memory
     }
 }
 
-impl<T: Drop> From<AllocFailed<T>> for Fault {
+impl<'a, T: Drop> From<AllocFailed<T>> for Fault<'a> {
     ghost use Rattle.std.specs.Prelude.{◌≡◌};
     ghost use Rattle.ps_commands.specs.declared.faults.Fault.TheVariants as faults;
 
     ghost from_gives = { λ _ fault. fault ≡ faults.Memory };
 
-    fn from(_refused: AllocFailed<T>) -> Fault {
+    fn from(_refused: AllocFailed<T>) -> Fault<'a> {
         Fault::Memory
     }
 }

@@ -14,6 +14,7 @@ mod printing;
 mod rules_faults;
 mod saying;
 mod sessions;
+mod signing;
 mod streams;
 mod tables;
 

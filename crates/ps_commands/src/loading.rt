@@ -1,5 +1,5 @@
 ghost use Rattle.std.specs.Prelude.{◌≡◌, ◌≤◌, ◌<◌, ◌^◌, length};
-ghost use Rattle.ps_commands.specs.Loading.{Loads, IsContent, RefusesNothing, FindsRules, IsRulesFault, FindsAsker, IsClaimsFault, FindsRows, RefusesLine, Prepares};
+ghost use Rattle.ps_commands.specs.Loading.{Loads, IsContent, RefusesNothing, FindsRules, IsRulesFault, FindsKey, IsKeysFault, FindsAsker, IsClaimsFault, FindsRows, RefusesLine, Prepares};
 
 use crate::answering::due_rows;
 use crate::change_files::write_changes;
@@ -7,9 +7,11 @@ use crate::claims::read_claims;
 use crate::faults::Fault;
 use crate::printing::print_rows;
 use crate::rules_faults::read_rules_file;
+use crate::signing::choose_key;
 use ps_io::{FileFault, Files};
 use ps_rules::Rules;
 use ps_sql_eval::Asker;
+use ps_token::Keys;
 use ps_values::Text;
 use std::alloc::Global;
 
@@ -20,7 +22,12 @@ pub const RULES_LIMIT: u64 = 1048576;
 pub const FILE_LIMIT: u64 = 268435456;
 
 // Reads a file within a limit.
-fn load<F: Files>(alloc: Global, files: &mut F, name: &Text, limit: u64) -> Result<Vec<u8>, Fault>
+fn load<'a, F: Files>(
+    alloc: Global,
+    files: &mut F,
+    name: &'a Text,
+    limit: u64,
+) -> Result<Vec<u8>, Fault<'a>>
     ensures loads { Loads (F.held files.old) name.now limit (F.faults files.old) (F.faults files.new) IsContent RefusesNothing result }
     ensures held { F.held files.new ≡ F.held files.old }
     ensures faults { F.faults files.old ≤ F.faults files.new }
@@ -28,15 +35,17 @@ fn load<F: Files>(alloc: Global, files: &mut F, name: &Text, limit: u64) -> Resu
     match files.read(alloc, name, limit) {
         Ok(bytes) => Ok(bytes),
         Err(FileFault::TooLong { seen }) => Err(Fault::TooLong { seen }),
-        Err(FileFault::Failed) => Err(Fault::CannotRead {
-            name: name.copy(alloc)?,
-        }),
+        Err(FileFault::Failed) => Err(Fault::CannotRead { name }),
         Err(FileFault::Memory) => Err(Fault::Memory),
     }
 }
 
 /// Loads the rules of a rules file.
-pub fn load_rules<F: Files>(alloc: Global, files: &mut F, name: &Text) -> Result<Rules, Fault>
+pub fn load_rules<'a, F: Files>(
+    alloc: Global,
+    files: &mut F,
+    name: &'a Text,
+) -> Result<Rules, Fault<'a>>
     ensures loads { Loads (F.held files.old) name.now RULES_LIMIT (F.faults files.old) (F.faults files.new) FindsRules IsRulesFault result }
     ensures held { F.held files.new ≡ F.held files.old }
     ensures faults { F.faults files.old ≤ F.faults files.new }
@@ -45,8 +54,27 @@ pub fn load_rules<F: Files>(alloc: Global, files: &mut F, name: &Text) -> Result
     read_rules_file(alloc, bytes.as_slice())
 }
 
+/// Loads the keys of a key file, one of which has that kid.
+pub fn load_keys<'a, F: Files>(
+    alloc: Global,
+    files: &mut F,
+    name: &'a Text,
+    kid: &Text,
+) -> Result<Keys, Fault<'a>>
+    ensures loads { Loads (F.held files.old) name.now FILE_LIMIT (F.faults files.old) (F.faults files.new) (FindsKey kid.now) (IsKeysFault kid.now) result }
+    ensures held { F.held files.new ≡ F.held files.old }
+    ensures faults { F.faults files.old ≤ F.faults files.new }
+{
+    let bytes = load(alloc, files, name, FILE_LIMIT)?;
+    choose_key(alloc, bytes.as_slice(), kid)
+}
+
 /// Loads the asker of a claims file.
-pub fn load_asker<F: Files>(alloc: Global, files: &mut F, name: &Text) -> Result<Asker, Fault>
+pub fn load_asker<'a, F: Files>(
+    alloc: Global,
+    files: &mut F,
+    name: &'a Text,
+) -> Result<Asker, Fault<'a>>
     ensures loads { Loads (F.held files.old) name.now FILE_LIMIT (F.faults files.old) (F.faults files.new) FindsAsker IsClaimsFault result }
     ensures held { F.held files.new ≡ F.held files.old }
     ensures faults { F.faults files.old ≤ F.faults files.new }
@@ -59,7 +87,12 @@ pub fn load_asker<F: Files>(alloc: Global, files: &mut F, name: &Text) -> Result
 }
 
 // The printed rows of a change file's bytes that are due to an asker.
-fn prepare(alloc: Global, rules: &Rules, asker: &Asker, changes: &[u8]) -> Result<Vec<u8>, Fault>
+fn prepare<'a>(
+    alloc: Global,
+    rules: &Rules,
+    asker: &Asker,
+    changes: &[u8],
+) -> Result<Vec<u8>, Fault<'a>>
     requires { length changes.now < 2 ^ 63 }
     ensures { Prepares rules.now asker.now changes.now result }
 {
@@ -70,13 +103,13 @@ fn prepare(alloc: Global, rules: &Rules, asker: &Asker, changes: &[u8]) -> Resul
 }
 
 /// Loads the printed rows of a change file that are due to an asker.
-pub fn load_rows<F: Files>(
+pub fn load_rows<'a, F: Files>(
     alloc: Global,
     files: &mut F,
-    name: &Text,
+    name: &'a Text,
     rules: &Rules,
     asker: &Asker,
-) -> Result<Vec<u8>, Fault>
+) -> Result<Vec<u8>, Fault<'a>>
     ensures loads { Loads (F.held files.old) name.now FILE_LIMIT (F.faults files.old) (F.faults files.new)
         (FindsRows rules.now asker.now) RefusesLine result }
     ensures held { F.held files.new ≡ F.held files.old }

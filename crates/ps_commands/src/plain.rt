@@ -1,25 +1,27 @@
-ghost use Rattle.std.specs.Prelude.{◌≡◌, ◌≢◌, ◌≤◌, ◌↔◌, ℕ, List, [], ◌∷◌, None, true, bytes_eq, codes};
+ghost use Rattle.std.specs.Prelude.{◌≡◌, ◌≢◌, ◌≤◌, ◌⊎◌, ◌↔◌, ℕ, List, [], ◌∷◌, None, true, false, bytes_eq, codes};
 ghost use Rattle.ps_io.specs.Counts.{Rose};
-ghost use Rattle.ps_commands.specs.Commands.{command_of, Outcome, Prints, RefusesRules, RefusesChanges, RefusesClaims, ExceedsLimit, IsExact};
+ghost use Rattle.ps_commands.specs.Commands.{command_of, Outcome, Prints, PrintsFront, RefusesRules, RefusesChanges, RefusesKeys, RefusesClaims, ExceedsLimit, IsNext, IsExact};
 ghost use Rattle.ps_commands.specs.Saying.{SaysCause};
 ghost use Rattle.ps_commands.specs.declared.faults.LineFault.{LineFault as LineFaultData};
 ghost use Rattle.ps_commands.specs.declared.faults.RulesCause.{RulesCause as RulesCauseData};
 
 use crate::checking::print_check;
 use crate::faults::Fault;
-use crate::loading::{load_asker, load_rows, load_rules};
+use crate::loading::{load_asker, load_keys, load_rows, load_rules};
 use crate::saying::say;
+use crate::signing::sign_line;
 use ps_io::{Files, Sink};
+use ps_token::SignFault;
 use ps_values::{Memory, Text};
 use std::alloc::Global;
 
 // Does the command that the words are: docs/FORMATS.md, "Commands".
-fn command<F: Files, K: Sink>(
+fn command<'a, F: Files, K: Sink>(
     alloc: Global,
-    words: &[Text],
+    words: &'a [Text],
     files: &mut F,
     out: &mut K,
-) -> Result<(), Fault>
+) -> Result<(), Fault<'a>>
     ensures { Outcome (record {
       held = F.held files.old;
       read_before = F.faults files.old;
@@ -37,23 +39,26 @@ fn command<F: Files, K: Sink>(
             }
             check(alloc, rules, files, out)
         }
-        [word, rules, changes, claims] => {
-            if word.as_str() != "rows" {
-                return Err(Fault::Usage);
+        [word, first, second, third] => {
+            if word.as_str() == "rows" {
+                return rows(alloc, first, second, third, files, out);
             }
-            rows(alloc, rules, changes, claims, files, out)
+            if word.as_str() == "token" {
+                return token(alloc, first, second, third, files, out);
+            }
+            Err(Fault::Usage)
         }
         _ => Err(Fault::Usage),
     }
 }
 
 // Prints what rules have.
-fn check<F: Files, K: Sink>(
+fn check<'a, F: Files, K: Sink>(
     alloc: Global,
-    rules: &Text,
+    rules: &'a Text,
     files: &mut F,
     out: &mut K,
-) -> Result<(), Fault>
+) -> Result<(), Fault<'a>>
     ensures { (word : List ℕ) → bytes_eq word (codes "check") ≡ true → Outcome (record {
       held = F.held files.old;
       read_before = F.faults files.old;
@@ -80,14 +85,14 @@ fn check<F: Files, K: Sink>(
 }
 
 // Prints one user's rows.
-fn rows<F: Files, K: Sink>(
+fn rows<'a, F: Files, K: Sink>(
     alloc: Global,
-    rules: &Text,
-    changes: &Text,
-    claims: &Text,
+    rules: &'a Text,
+    changes: &'a Text,
+    claims: &'a Text,
     files: &mut F,
     out: &mut K,
-) -> Result<(), Fault>
+) -> Result<(), Fault<'a>>
     ensures { (word : List ℕ) → bytes_eq word (codes "rows") ≡ true → Outcome (record {
       held = F.held files.old;
       read_before = F.faults files.old;
@@ -117,10 +122,50 @@ fn rows<F: Files, K: Sink>(
     }
 }
 
+// Prints a signed token.
+fn token<'a, F: Files, K: Sink>(
+    alloc: Global,
+    keys: &'a Text,
+    kid: &Text,
+    claims: &'a Text,
+    files: &mut F,
+    out: &mut K,
+) -> Result<(), Fault<'a>>
+    ensures { (word : List ℕ) → bytes_eq word (codes "rows") ≡ false → bytes_eq word (codes "token") ≡ true → Outcome (record {
+      held = F.held files.old;
+      read_before = F.faults files.old;
+      read_now = F.faults files.new;
+      taken_before = K.taken out.old;
+      taken_now = K.taken out.new;
+      write_before = K.faults out.old;
+      write_now = K.faults out.new;
+    })
+        (word ∷ keys.now ∷ kid.now ∷ claims.now ∷ []) result }
+{
+    let keys = match load_keys(alloc, files, keys, kid) {
+        Ok(keys) => keys,
+        Err(fault) => return Err(fault),
+    };
+    let asker = match load_asker(alloc, files, claims) {
+        Ok(asker) => asker,
+        Err(fault) => return Err(fault),
+    };
+    let line = match sign_line(alloc, &keys, kid, &asker.payload) {
+        Ok(line) => line,
+        Err(SignFault::UnknownKey) => return Err(Fault::Keys),
+        Err(SignFault::Memory) => return Err(Fault::Memory),
+    };
+    match out.write(line.bytes()) {
+        Ok(()) => Ok(()),
+        Err(_) => Err(Fault::CannotWrite),
+    }
+}
+
 /// Does a command that does not wait, and answers its status: docs/FORMATS.md, "Commands" and "Statuses".
 ///
 /// The words are those after the program's name. `check RULES` prints what the rules have. `rows RULES CHANGES CLAIMS` prints the rows
-/// that are due to the asker of the claims over all transactions of the change file. Where anything is refused, nothing is printed.
+/// that are due to the asker of the claims over all transactions of the change file. `token KEYS KID CLAIMS` prints the token of the
+/// claims' payload, signed with the key of that kid. Where anything is refused, nothing is printed.
 pub fn run_plain<F: Files, K: Sink, E: Sink>(
     alloc: Global,
     words: &[Text],
@@ -128,7 +173,7 @@ pub fn run_plain<F: Files, K: Sink, E: Sink>(
     out: &mut K,
     err: &mut E,
 ) -> u8
-    // Status 0: exactly the lines of the rules or the rows that are due were printed, and nothing was said.
+    // Status 0: exactly the lines of the rules, the rows that are due or the signed token were printed, and nothing was said.
     ensures done { result ≡ 0 → Prints (F.held files.old) words.now (K.taken out.old) (K.taken out.new) }
     ensures quiet { result ≡ 0 → E.taken err.new ≡ E.taken err.old }
 
@@ -136,13 +181,14 @@ pub fn run_plain<F: Files, K: Sink, E: Sink>(
     ensures usage { (result ≡ 1) ↔ (command_of words.now ≡ None) }
     ensures rules { result ≡ 2 → (line column : ℕ) × (why : RulesCauseData) × RefusesRules (F.held files.old) words.now (Fault.Rules line column why) }
     ensures changes { result ≡ 3 → (line : ℕ) × (why : LineFaultData) × RefusesChanges (F.held files.old) words.now (Fault.Change line why) }
-    ensures claims { result ≡ 4 → RefusesClaims (F.held files.old) words.now }
+    ensures claims { result ≡ 4 → RefusesKeys (F.held files.old) words.now ⊎ RefusesClaims (F.held files.old) words.now }
     ensures limits { result ≡ 5 → (seen : ℕ) × ExceedsLimit (F.held files.old) words.now seen }
-    ensures unread { result ≡ 6 → Rose (F.faults files.old) (F.faults files.new) }
-    ensures unwritten { result ≡ 7 → Rose (K.faults out.old) (K.faults out.new) }
+    ensures unread { result ≡ 6 → Rose (F.faults files.old) (F.faults files.new) × (name : List ℕ) × IsNext (F.held files.old) words.now name }
+    ensures unwritten { result ≡ 7 → Rose (K.faults out.old) (K.faults out.new)
+        × PrintsFront (F.held files.old) words.now (K.taken out.old) (K.taken out.new) }
     ensures known { result ≤ 8 }
 
-    // Nothing is printed unless all went well: a failed write leaves a front of the text.
+    // Nothing is printed unless all went well, but for the front that a failed write leaves.
     ensures kept { result ≢ 0 → result ≢ 7 → K.taken out.new ≡ K.taken out.old }
 
     // What is said is the line of a fault that has its cause and that status.
@@ -163,6 +209,6 @@ pub fn run_plain<F: Files, K: Sink, E: Sink>(
 {
     match command(alloc, words, files, out) {
         Ok(()) => 0,
-        Err(fault) => say(alloc, err, &fault),
+        Err(fault) => say(err, &fault),
     }
 }

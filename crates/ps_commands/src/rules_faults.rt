@@ -7,7 +7,7 @@ use ps_sql::SqlFault;
 use ps_yaml::YamlFault;
 use std::alloc::Global;
 
-fn yaml_fault(fault: YamlFault) -> Fault
+fn yaml_fault<'a>(fault: YamlFault) -> Fault<'a>
     ensures { result ≡ yaml_fault_of fault }
 {
     match fault {
@@ -36,7 +36,7 @@ fn yaml_fault(fault: YamlFault) -> Fault
 }
 
 // The fault of the query at a place.
-fn sql_fault(line: u32, column: u32, fault: SqlFault) -> Fault
+fn sql_fault<'a>(line: u32, column: u32, fault: SqlFault) -> Fault<'a>
     ensures { result ≡ sql_fault_of line column fault }
 {
     match fault {
@@ -60,7 +60,7 @@ fn sql_fault(line: u32, column: u32, fault: SqlFault) -> Fault
 }
 
 // The program's name of a fault.
-fn rules_fault(fault: RulesFault) -> Fault
+fn rules_fault<'a>(fault: RulesFault) -> Fault<'a>
     ensures { result ≡ rules_fault_of fault }
 {
     match fault {
@@ -111,7 +111,7 @@ fn rules_fault(fault: RulesFault) -> Fault
 
 /// Reads a rules file: docs/FORMATS.md, "Rules". Fails by the first thing that is wrong in it.
 #[tactic(auto, using(crate::proofs::RulesReading::read_as), unfolding(crate::specs::RulesFaults::rules_of_file))]
-pub fn read_rules_file(alloc: Global, bytes: &[u8]) -> Result<Rules, Fault>
+pub fn read_rules_file<'a>(alloc: Global, bytes: &[u8]) -> Result<Rules, Fault<'a>>
     requires { length bytes.now < 4294967295 }
     ensures { ReadsRules result (rules_of_file bytes.now) }
 {

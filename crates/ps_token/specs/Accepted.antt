@@ -1,14 +1,13 @@
 -- Accepted tokens, in the words of RFC 7515 and RFC 7519.
 use Rattle.std.specs.Prelude.{◌≡◌, ℕ, ◌<◌, List, [], ◌∷◌, codes, Option, Some, None, Contains}
 use Rattle.serde_json.specs.Data.{Data as Json, string, number, unsigned}
-use Rattle.serde_json.specs.Written.{compact_text}
-use Rattle.ps_values.specs.Conversions.{plain_of}
 use Rattle.ps_values.specs.Documents.{json_of}
 use Rattle.ps_token.specs.declared.claim_sets.Claims.{Claims}
 use Rattle.ps_token.specs.declared.key_lists.Key.{Key}
 use Rattle.ps_token.specs.KeyFiles.{Has}
 use Rattle.ps_token.specs.Macs.{hmac}
 use Rattle.ps_token.specs.Parts.{bytes_of, joined}
+use Rattle.ps_token.specs.Payloads.{plain_text}
 use Rattle.serde_json.specs.Find.{get}
 
 -- a header names a key of the list: by its kid, or it has none and that is the only key
@@ -47,7 +46,7 @@ pub record Claimed (bytes : List ℕ) (claims : Claims) : Type 0 where
   pub read : json_of bytes ≡ Some json
   pub subject : Has (codes "sub") (string claims.subject) json
   pub exp : Has (codes "exp") (number (unsigned claims.exp)) json
-  pub payload : claims.payload ≡ compact_text (plain_of json)
+  pub payload : claims.payload ≡ plain_text json
 
 -- a token that is signed with a key of the list, speaks of a subject, and is not expired
 pub record IsAccepted (keys : List Key) (token : List ℕ) (now : ℕ) (claims : Claims) : Type 0 where

@@ -36,8 +36,12 @@ kid_of header = do
 abbrev pub exp_of : Json → Result ℕ TokenFault
 exp_of payload = or_fault Malformed (option_and_then as_u64 (option_and_then as_number (get (codes "exp") payload)))
 
+-- the compact text of JSON, with null for each number that is no whole number of signed 64 bits
+abbrev pub plain_text : Json → List ℕ
+plain_text json = compact_text (plain_of json)
+
 -- what a payload says
 abbrev pub claims_of : Json → ℕ → Result Claims TokenFault
 claims_of payload exp = do
   subject ← or_fault NoSubject (option_and_then as_str (get (codes "sub") payload))
-  Ok (record { subject = subject; payload = compact_text (plain_of payload); exp = exp })
+  Ok (record { subject = subject; payload = plain_text payload; exp = exp })

@@ -75,8 +75,8 @@ impl Keys {
         Ok(Keys { keys, places })
     }
 
-    /// The key of a kid.
-    pub(crate) fn find(&self, kid: &Text) -> Option<&Key>
+    /// The key of a kid; None exactly where no key has it.
+    pub fn find(&self, kid: &Text) -> Option<&Key>
         ensures { option_copied result ≡ key_of kid.now self.now }
     {
         let place = self.places.get(kid)?;

@@ -18,5 +18,6 @@ pub use key_files::read_keys;
 pub use key_lists::{Key, Keys};
 pub use laws::base64url_is_strict;
 pub use macs::mac;
+pub use payloads::plain_text;
 pub use signing::sign;
 pub use verifying::verify;

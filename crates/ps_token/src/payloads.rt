@@ -1,9 +1,7 @@
 ghost use Rattle.std.specs.Prelude.{◌≡◌, IfOk};
-ghost use Rattle.serde_json.specs.Written.{compact_text};
-ghost use Rattle.ps_values.specs.Conversions.{plain_of};
 ghost use Rattle.serde_json.specs.View.{view};
 ghost use Rattle.ps_token.specs.Members.{Verifies, seen_by};
-ghost use Rattle.ps_token.specs.Payloads.{json_of_part, kid_of, exp_of, claims_of};
+ghost use Rattle.ps_token.specs.Payloads.{json_of_part, kid_of, exp_of, claims_of, plain_text as plain_text_of};
 
 use crate::parts::decoded;
 use crate::{Claims, TokenFault};
@@ -51,9 +49,9 @@ pub(crate) fn read_exp(payload: &Json) -> Result<u64, TokenFault>
     }
 }
 
-// The compact text of JSON, with null for each number that is no whole number of signed 64 bits.
-fn plain_text(alloc: Global, json: &Json) -> Result<Text, Memory>
-    ensures { IfOk result (λ text. text ≡ compact_text (plain_of (view json.now))) }
+/// The compact text of JSON, with null for each number that is no whole number of signed 64 bits: docs/FORMATS.md, "Claims" and "Tokens".
+pub fn plain_text(alloc: Global, json: &Json) -> Result<Text, Memory>
+    ensures { IfOk result (λ text. text ≡ plain_text_of (view json.now)) }
 {
     let json = plain(alloc, json)?;
     text_of_json(alloc, &json)

@@ -1,4 +1,4 @@
-use Rattle.ps_commands.proofs.Exactness.{exact_ok, exact_err, limits_by}
+use Rattle.ps_commands.proofs.Exactness.{exact_ok, exact_err, limits_by, claims_by, unread_by, unwritten_by}
 use Rattle.ps_commands.proofs.plain.run_plain.Goals as goal
 
 pub returns-in-Ok-clause-exact : goal.returns-in-Ok-clause-exact
@@ -9,10 +9,20 @@ pub returns-in-Err-clause-exact : goal.returns-in-Err-clause-exact
 returns-in-Err-clause-exact g c = λ read written.
     exact_err (g.F.Files.held c.args.files.now) c.args.words.now (g.F.Files.faults c.args.files.now) (g.F.Files.faults c.command.new.files)
     (g.K.Sink.taken c.args.out.now) (g.K.Sink.taken c.command.new.out) (g.K.Sink.faults c.args.out.now) (g.K.Sink.faults c.command.new.out)
-    _ c.say.result c.in-Err.fault c.in-Err.ensures c.say.ensures read written
+    c.say.result c.in-Err.fault c.in-Err.ensures c.say.ensures.is read written
 
 pub returns-in-Err-clause-limits : goal.returns-in-Err-clause-limits
 returns-in-Err-clause-limits g c = λ five.
-    limits_by (g.F.Files.held c.args.files.now) c.args.words.now (g.F.Files.faults c.args.files.now) (g.F.Files.faults c.command.new.files)
-    (g.K.Sink.taken c.args.out.now) (g.K.Sink.taken c.command.new.out) (g.K.Sink.faults c.args.out.now) (g.K.Sink.faults c.command.new.out)
-    _ c.say.result c.in-Err.fault c.in-Err.ensures c.say.ensures five
+    limits_by (record { held = g.F.Files.held c.args.files.now; read_before = g.F.Files.faults c.args.files.now; read_now = g.F.Files.faults c.command.new.files; taken_before = g.K.Sink.taken c.args.out.now; taken_now = g.K.Sink.taken c.command.new.out; write_before = g.K.Sink.faults c.args.out.now; write_now = g.K.Sink.faults c.command.new.out }) c.args.words.now c.say.result c.in-Err.fault c.in-Err.ensures c.say.ensures.is five
+
+pub returns-in-Err-clause-claims : goal.returns-in-Err-clause-claims
+returns-in-Err-clause-claims g c = λ status.
+    claims_by (record { held = g.F.Files.held c.args.files.now; read_before = g.F.Files.faults c.args.files.now; read_now = g.F.Files.faults c.command.new.files; taken_before = g.K.Sink.taken c.args.out.now; taken_now = g.K.Sink.taken c.command.new.out; write_before = g.K.Sink.faults c.args.out.now; write_now = g.K.Sink.faults c.command.new.out }) c.args.words.now c.say.result c.in-Err.fault c.in-Err.ensures c.say.ensures.is status
+
+pub returns-in-Err-clause-unread : goal.returns-in-Err-clause-unread
+returns-in-Err-clause-unread g c = λ status.
+    unread_by (record { held = g.F.Files.held c.args.files.now; read_before = g.F.Files.faults c.args.files.now; read_now = g.F.Files.faults c.command.new.files; taken_before = g.K.Sink.taken c.args.out.now; taken_now = g.K.Sink.taken c.command.new.out; write_before = g.K.Sink.faults c.args.out.now; write_now = g.K.Sink.faults c.command.new.out }) c.args.words.now c.say.result c.in-Err.fault c.in-Err.ensures c.say.ensures.is status
+
+pub returns-in-Err-clause-unwritten : goal.returns-in-Err-clause-unwritten
+returns-in-Err-clause-unwritten g c = λ status.
+    unwritten_by (record { held = g.F.Files.held c.args.files.now; read_before = g.F.Files.faults c.args.files.now; read_now = g.F.Files.faults c.command.new.files; taken_before = g.K.Sink.taken c.args.out.now; taken_now = g.K.Sink.taken c.command.new.out; write_before = g.K.Sink.faults c.args.out.now; write_now = g.K.Sink.faults c.command.new.out }) c.args.words.now c.say.result c.in-Err.fault c.in-Err.ensures c.say.ensures.is status
