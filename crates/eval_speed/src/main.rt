@@ -161,55 +161,118 @@ fn times_held(
     Some(held)
 }
 
-// How often a condition holds on a row of ten columns, of as many times as a word says, if it is one and there is memory.
-fn held(alloc: Global, count: &str, condition: &str) -> Option<u64> {
-    let count = count.parse::<u64>().ok()?;
+// The condition that is written so, if it is one.
+fn condition_of(alloc: Global, condition: &str) -> Option<Expr> {
     let text = format!(in alloc; "SELECT 1 AS x FROM t WHERE {condition}").ok()?;
     if text.len() > 1048576 {
         return None;
     }
     let query = read_parameter_query(alloc, &Text::from_string(text)).ok()?;
-    let condition = query.condition?;
-    if condition.speaks_of(Subject::Bucket) {
-        return None;
-    }
+    query.condition
+}
+
+// A row of ten columns, with its id.
+fn worked_row(alloc: Global) -> Option<(Text, Row)> {
     let Change { table: _, id, row } = read_change(
         alloc,
         br#"{"op":"PUT","table":"t","id":"t1","row":{"created":"2024-01-01","done":false,"k":1,"list_id":"l1","members":["bob","ann"],"name":"Home","owner_id":"ann","priority":3,"title":"milk and bread","updated":null}}"#,
     )
     .ok()?;
+    match row {
+        Some(row) => Some((id, row)),
+        None => None,
+    }
+}
+
+// How often a condition holds on that row, of so many times.
+fn held_on_row(alloc: Global, count: u64, condition: &Expr) -> Option<u64>
+    requires { speaks subjects.Bucket condition.now ≡ false }
+{
+    let (id, row) = worked_row(alloc)?;
     let asker = asker(alloc).ok()?;
-    let row = row?;
-    times_held(alloc, count, &condition, &asker, &id, &row)
+    times_held(alloc, count, condition, &asker, &id, &row)
+}
+
+// The same for as many times as a word says, if it is such a word.
+fn held(alloc: Global, count: &str, condition: &str) -> Option<u64> {
+    let count = count.parse::<u64>().ok()?;
+    let condition = condition_of(alloc, condition)?;
+    if condition.speaks_of(Subject::Bucket) {
+        return None;
+    }
+    held_on_row(alloc, count, &condition)
 }
 
 const USAGE: &str =
     "usage: eval_speed rate COUNT CONDITION, or eval_speed deep brackets|nots|chain|right|joins|calls COUNT read|evaluate STACK";
 
-fn main(rt: HostRuntime) -> io::Result<()> {
-    let mut words = env::args(&rt)?;
-    let _program = words.next();
-    let (Some(task), Some(first), Some(second)) = (words.next(), words.next(), words.next()) else {
-        return println!(rt; "{USAGE}");
+// The words after the program's name; none where they cannot be had, as where one is not UTF-8.
+fn words_of(rt: &HostRuntime) -> Vec<String> {
+    let mut words = Vec::new(rt.alloc());
+    let Ok(arguments) = env::args(rt) else {
+        return words;
     };
-    let alloc = rt.alloc();
-    if task.as_str() == "rate" {
-        return match held(alloc, first.as_str(), second.as_str()) {
-            Some(held) => println!(rt; "{held}"),
-            None => println!(rt; "nothing"),
-        };
+    'words: for argument in arguments.skip(1) {
+        if words.push(argument).is_err() {
+            return Vec::new(rt.alloc());
+        }
     }
-    let (Some(work), Some(stack)) = (words.next(), words.next()) else {
-        return println!(rt; "{USAGE}");
+    words
+}
+
+// What is to be done, and with how many bytes of stack.
+#[derive(Clone, Copy)]
+struct Task {
+    shape: Shape,
+    count: u32,
+    work: Work,
+    stack: u32,
+}
+
+// The task of words, if they are such words.
+fn task_of(shape: &str, count: &str, work: &str, stack: &str) -> Option<Task> {
+    Some(Task {
+        shape: shape_of(shape)?,
+        count: count.parse::<u32>().ok()?,
+        work: work_of(work)?,
+        stack: stack.parse::<u32>().ok()?,
+    })
+}
+
+// How often a condition held, in words.
+fn write_rate(rt: &HostRuntime, count: &str, condition: &str) -> io::Result<()> {
+    match held(rt.alloc(), count, condition) {
+        Some(held) => println!(rt; "{held}"),
+        None => println!(rt; "nothing"),
+    }
+}
+
+fn main(rt: HostRuntime) -> io::Result<()> {
+    let words = words_of(&rt);
+    let task = match words.as_slice() {
+        [task, count, condition, ..] if task.as_str() == "rate" => {
+            return write_rate(&rt, count.as_str(), condition.as_str());
+        }
+        [_task, shape, count, work, stack, ..] => task_of(
+            shape.as_str(),
+            count.as_str(),
+            work.as_str(),
+            stack.as_str(),
+        ),
+        _ => return println!(rt; "{USAGE}"),
     };
-    let (Some(shape), Ok(count), Some(work), Ok(stack)) = (
-        shape_of(first.as_str()),
-        second.as_str().parse::<u32>(),
-        work_of(work.as_str()),
-        stack.as_str().parse::<u32>(),
-    ) else {
+    let Some(
+        Task {
+            shape,
+            count,
+            work,
+            stack,
+        },
+    ) = task
+    else {
         return println!(rt; "no such work");
     };
+    let alloc = rt.alloc();
     let outcome = match thread::Builder::new()
         .stack_size(stack as usize)
         .spawn(&rt, move || outcome_of(alloc, shape, count, work))

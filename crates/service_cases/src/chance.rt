@@ -101,35 +101,33 @@ fn random_rules(alloc: Global, dice: &mut Dice) -> Result<String, Memory> {
     Ok(rules)
 }
 
-fn push_change(dice: &mut Dice, changes: &mut String) -> Result<(), Memory> {
+// The begin of a change, up to the table.
+fn push_op(dice: &mut Dice, changes: &mut String) -> Result<(), Memory> {
     let table = if dice.roll() % 2 == 0 { "t" } else { "u" };
     let is_delete = dice.roll() % 5 == 0;
-    changes.push_str(if is_delete {
-        "{\"op\":\"DELETE\",\"table\":\""
-    } else {
-        "{\"op\":\"PUT\",\"table\":\""
-    })?;
-    changes.push_str(table)?;
-    changes.push_str("\",\"id\":\"")?;
-    changes.push_str(dice.pick(&IDS))?;
-    changes.push_str("\",\"row\":{\"v\":")?;
-    changes.push_str(dice.pick(&VALUES))?;
-    changes.push_str(",\"w\":")?;
-    changes.push_str(dice.pick(&LISTS))?;
-    changes.push_str("}}")?;
-    Ok(())
+    let op = if is_delete { "DELETE" } else { "PUT" };
+    Ok(write!(changes, "{{\"op\":\"{op}\",\"table\":\"{table}\"")?)
+}
+
+fn push_change(dice: &mut Dice, changes: &mut String) -> Result<(), Memory> {
+    push_op(dice, changes)?;
+    let (id, value, list) = (dice.pick(&IDS), dice.pick(&VALUES), dice.pick(&LISTS));
+    write!(changes, ",\"id\":\"{id}\"")?;
+    Ok(write!(changes, ",\"row\":{{\"v\":{value},\"w\":{list}}}}}")?)
+}
+
+fn push_transaction(dice: &mut Dice, changes: &mut String, position: u64) -> Result<(), Memory> {
+    write!(changes, "{{\"pos\":\"{position}\",\"changes\":[")?;
+    push_change(dice, changes)?;
+    changes.push_str(",")?;
+    push_change(dice, changes)?;
+    Ok(changes.push_str("]}\n")?)
 }
 
 fn random_changes(alloc: Global, dice: &mut Dice) -> Result<String, Memory> {
     let mut changes = String::new(alloc);
     'lines: for position in 1..15 {
-        changes.push_str("{\"pos\":\"")?;
-        changes.push_str(format!(in alloc; "{position}")?.as_str())?;
-        changes.push_str("\",\"changes\":[")?;
-        push_change(dice, &mut changes)?;
-        changes.push_str(",")?;
-        push_change(dice, &mut changes)?;
-        changes.push_str("]}\n")?;
+        push_transaction(dice, &mut changes, position)?;
     }
     Ok(changes)
 }
@@ -142,29 +140,60 @@ struct Outcome {
     without_rows: u64,
 }
 
+// The lines of the rows that the definitions grant.
+fn wanted_rows(
+    alloc: Global,
+    rules: &str,
+    changes: &str,
+    user: &str,
+    parameters: &str,
+) -> Result<String, Stop> {
+    let rules = rules_of(alloc, rules)?;
+    let transactions = transactions_of(alloc, changes)?;
+    let asker = asker_of(alloc, user, parameters)?;
+    Ok(due_text(alloc, &rules, &asker, transactions.as_slice())?)
+}
+
+// What the program prints.
+fn printed_rows(
+    alloc: Global,
+    rules: &str,
+    changes: &str,
+    user: &str,
+    parameters: &str,
+) -> Result<Option<Vec<u8>>, Stop> {
+    let claims = format!(in alloc;
+        "{{\"token\":{{\"sub\":\"{user}\"}},\"parameters\":{parameters}}}"
+    )?;
+    rows(alloc, rules, changes, claims.as_str())
+}
+
+fn is_text(printed: Option<Vec<u8>>, wanted: &str) -> bool {
+    match printed {
+        Some(printed) => printed.as_slice() == wanted.as_bytes(),
+        None => false,
+    }
+}
+
 // Whether the program prints what the definitions grant, and whether that is anything.
+fn compared(
+    alloc: Global,
+    rules: &str,
+    changes: &str,
+    user: &str,
+    parameters: &str,
+) -> Result<(bool, bool), Stop> {
+    let wanted = wanted_rows(alloc, rules, changes, user, parameters)?;
+    let printed = printed_rows(alloc, rules, changes, user, parameters)?;
+    Ok((is_text(printed, wanted.as_str()), wanted.is_empty()))
+}
+
+// The same of rules, changes and an asker that dice make.
 fn is_same(alloc: Global, dice: &mut Dice) -> Result<(bool, bool), Stop> {
     let rules = random_rules(alloc, dice)?;
     let changes = random_changes(alloc, dice)?;
     let (user, parameters) = ASKERS[dice.roll() % 4];
-    let claims = format!(in alloc;
-        "{{\"token\":{{\"sub\":\"{user}\"}},\"parameters\":{parameters}}}"
-    )?;
-    let asker = asker_of(alloc, user, parameters)?;
-    let transactions = transactions_of(alloc, changes.as_str())?;
-    let wanted = due_text(
-        alloc,
-        &rules_of(alloc, rules.as_str())?,
-        &asker,
-        transactions.as_slice(),
-    )?;
-    match rows(alloc, rules.as_str(), changes.as_str(), claims.as_str())? {
-        Some(printed) => Ok((
-            printed.as_slice() == wanted.as_str().as_bytes(),
-            wanted.is_empty(),
-        )),
-        None => Ok((false, wanted.is_empty())),
-    }
+    compared(alloc, rules.as_str(), changes.as_str(), user, parameters)
 }
 
 /// So many tries, with dice that follow from a first number: SEED COUNT.

@@ -14,14 +14,19 @@ struct Answer {
     said: Vec<u8>,
 }
 
+// A text as a file.
+fn file_of(alloc: Global, name: &str, text: &str) -> Result<MemoryFile, Stop> {
+    let content = Items::from_vec(Vec::from_slice(alloc, text.as_bytes())?);
+    let name = Text::from_str(alloc, name)?;
+    Ok(MemoryFile { name, content })
+}
+
 // The texts that words name, as files.
 fn files_of(alloc: Global, texts: &Texts, words: &str) -> Result<Items<MemoryFile>, Stop> {
     let mut files = Items::new(alloc);
     'words: for word in words.split(' ') {
         if let Some(text) = texts.get(word) {
-            let name = Text::from_str(alloc, word)?;
-            let content = Items::from_vec(Vec::from_slice(alloc, text.as_bytes())?);
-            files.push(MemoryFile { name, content })?;
+            files.push(file_of(alloc, word, text)?)?;
         }
     }
     Ok(files)
@@ -36,6 +41,44 @@ fn failing(alloc: Global, call: u64) -> Result<Items<u64>, Stop> {
     Ok(calls)
 }
 
+// The words of a command; none for an empty text.
+fn words_of(alloc: Global, text: &str) -> Result<Vec<Text>, Stop> {
+    let mut words = Vec::new(alloc);
+    if !text.is_empty() {
+        'words: for word in text.split(' ') {
+            words.push(Text::from_str(alloc, word)?)?;
+        }
+    }
+    Ok(words)
+}
+
+fn answer_of(
+    alloc: Global,
+    status: u8,
+    out: &MemorySink,
+    err: &MemorySink,
+) -> Result<Answer, Stop> {
+    let printed = Vec::from_slice(alloc, out.bytes())?;
+    let said = Vec::from_slice(alloc, err.bytes())?;
+    Ok(Answer {
+        status,
+        printed,
+        said,
+    })
+}
+
+// Does a command on files, with a sink for what it prints.
+fn do_words<F: Files>(
+    alloc: Global,
+    words: &[Text],
+    files: &mut F,
+    out: &mut MemorySink,
+) -> Result<Answer, Stop> {
+    let mut err = MemorySink::new(alloc, 4096, Items::new(alloc))?;
+    let status = run_plain(alloc, words, files, out, &mut err);
+    answer_of(alloc, status, out, &err)
+}
+
 // Does the command of words, with so much room and the failing calls of the output.
 fn do_command<F: Files>(
     alloc: Global,
@@ -44,26 +87,34 @@ fn do_command<F: Files>(
     room: usize,
     failing: Items<u64>,
 ) -> Result<Answer, Stop> {
-    let mut texts = Vec::new(alloc);
-    if !words.is_empty() {
-        'words: for word in words.split(' ') {
-            texts.push(Text::from_str(alloc, word)?)?;
-        }
-    }
     let mut out = MemorySink::new(alloc, room, failing)?;
-    let mut err = MemorySink::new(alloc, 4096, Items::new(alloc))?;
-    let status = run_plain(alloc, texts.as_slice(), files, &mut out, &mut err);
-    Ok(Answer {
-        status,
-        printed: Vec::from_slice(alloc, out.bytes())?,
-        said: Vec::from_slice(alloc, err.bytes())?,
-    })
+    let words = words_of(alloc, words)?;
+    do_words(alloc, words.as_slice(), files, &mut out)
 }
 
 // Does the command of words on the texts that they name.
 fn surely(alloc: Global, texts: &Texts, words: &str) -> Result<Answer, Stop> {
     let mut files = SureFiles::new(alloc, files_of(alloc, texts, words)?);
     do_command(alloc, words, &mut files, 4194304, Items::new(alloc))
+}
+
+// Does the command of words where a call of the files fails.
+fn unread(alloc: Global, texts: &Texts, words: &str, call: u64) -> Result<Answer, Stop> {
+    let failing = failing(alloc, call)?;
+    let mut files = MemoryFiles::new(alloc, files_of(alloc, texts, words)?, failing);
+    do_command(alloc, words, &mut files, 64, Items::new(alloc))
+}
+
+// Does the command of words where the output has so much room and a call of it fails.
+fn unwritten(
+    alloc: Global,
+    texts: &Texts,
+    words: &str,
+    room: usize,
+    call: u64,
+) -> Result<Answer, Stop> {
+    let mut files = SureFiles::new(alloc, files_of(alloc, texts, words)?);
+    do_command(alloc, words, &mut files, room, failing(alloc, call)?)
 }
 
 // The lines of a text, each behind a word. A last line without an end is marked.
@@ -78,11 +129,33 @@ fn write_lines(out: &mut String, word: &str, text: &[u8]) -> Result<(), Stop> {
     Ok(())
 }
 
+fn write_answer(out: &mut String, answer: &Answer) -> Result<(), Stop> {
+    write!(out, "status {}", answer.status)?;
+    write_lines(out, "out", answer.printed.as_slice())?;
+    write_lines(out, "err", answer.said.as_slice())
+}
+
 /// What a command answers, prints and says.
 pub fn write_run(alloc: Global, texts: &Texts, words: &str, out: &mut String) -> Result<(), Stop> {
     let answer = surely(alloc, texts, words)?;
-    write!(out, "status {}", answer.status)?;
-    write_lines(out, "out", answer.printed.as_slice())?;
+    write_answer(out, &answer)
+}
+
+// How many lines there are.
+fn count_lines(text: &str) -> u64 {
+    let mut count: u64 = 0;
+    'lines: for _ in text.lines() {
+        count = count.saturating_add(1);
+    }
+    count
+}
+
+fn write_counted(out: &mut String, answer: &Answer) -> Result<(), Stop> {
+    let text = str::from_utf8(answer.printed.as_slice())?;
+    let count = count_lines(text);
+    let first = text.lines().next().unwrap_or("");
+    write!(out, "status {} lines {count}", answer.status)?;
+    write!(out, "\nout {first}")?;
     write_lines(out, "err", answer.said.as_slice())
 }
 
@@ -94,14 +167,7 @@ pub fn write_count(
     out: &mut String,
 ) -> Result<(), Stop> {
     let answer = surely(alloc, texts, words)?;
-    let text = str::from_utf8(answer.printed.as_slice())?;
-    let first = text.lines().next().unwrap_or("");
-    let mut count: u64 = 0;
-    'lines: for _ in text.lines() {
-        count = count.saturating_add(1);
-    }
-    write!(out, "status {} lines {count}\nout {first}", answer.status)?;
-    write_lines(out, "err", answer.said.as_slice())
+    write_counted(out, &answer)
 }
 
 /// What a command answers and says where a call of the files fails.
@@ -112,11 +178,13 @@ pub fn write_unread(
     out: &mut String,
 ) -> Result<(), Stop> {
     let (call, words) = cut(words);
-    let failing = failing(alloc, number(call)?)?;
-    let mut files = MemoryFiles::new(alloc, files_of(alloc, texts, words)?, failing);
-    let answer = do_command(alloc, words, &mut files, 64, Items::new(alloc))?;
-    write!(out, "status {}", answer.status)?;
-    write_lines(out, "out", answer.printed.as_slice())?;
+    let answer = unread(alloc, texts, words, number(call)?)?;
+    write_answer(out, &answer)
+}
+
+fn write_sizes(out: &mut String, answer: &Answer) -> Result<(), Stop> {
+    let size = answer.printed.len();
+    write!(out, "status {} bytes {size}", answer.status)?;
     write_lines(out, "err", answer.said.as_slice())
 }
 
@@ -129,16 +197,20 @@ pub fn write_unwritten(
 ) -> Result<(), Stop> {
     let (room, words) = cut(words);
     let (call, words) = cut(words);
-    let failing = failing(alloc, number(call)?)?;
-    let mut files = SureFiles::new(alloc, files_of(alloc, texts, words)?);
-    let answer = do_command(alloc, words, &mut files, room.parse::<usize>()?, failing)?;
-    write!(
-        out,
-        "status {} bytes {}",
-        answer.status,
-        answer.printed.len()
-    )?;
-    write_lines(out, "err", answer.said.as_slice())
+    let answer = unwritten(alloc, texts, words, room.parse::<usize>()?, number(call)?)?;
+    write_sizes(out, &answer)
+}
+
+// The texts of a rules file, a change file and claims.
+fn three_texts(alloc: Global, rules: &str, changes: &str, claims: &str) -> Result<Texts, Stop> {
+    let mut texts = Texts::new(alloc);
+    texts.begin(alloc, "rules")?;
+    texts.push(rules)?;
+    texts.begin(alloc, "changes")?;
+    texts.push(changes)?;
+    texts.begin(alloc, "claims")?;
+    texts.push(claims)?;
+    Ok(texts)
 }
 
 /// The bytes that `rows` prints for a rules file, a change file and claims; None where the status is another than 0.
@@ -148,11 +220,7 @@ pub fn rows(
     changes: &str,
     claims: &str,
 ) -> Result<Option<Vec<u8>>, Stop> {
-    let mut texts = Texts::new(alloc);
-    'texts: for (name, text) in [("rules", rules), ("changes", changes), ("claims", claims)] {
-        texts.begin(alloc, name)?;
-        texts.push(text)?;
-    }
+    let texts = three_texts(alloc, rules, changes, claims)?;
     let Answer {
         status,
         printed,

@@ -3,11 +3,40 @@
 use crate::reading::{asker_of, rules_of, transactions_of};
 use crate::words::{Stop, Texts, cut, number};
 use ps_changes::{Shown, Transaction};
-use ps_grant::{Granted, grants_of, rows_of, source_at};
+use ps_grant::{Granted, SourceRows, grants_of, rows_of, source_at};
 use ps_rules::Rules;
 use ps_sql_eval::Asker;
 use ps_values::{Items, Memory, Position, quoted};
 use std::alloc::Global;
+
+// The source that a change file has at a position.
+fn source_of(alloc: Global, changes: &str, position: u64) -> Result<SourceRows, Stop> {
+    let all = transactions_of(alloc, changes)?;
+    Ok(source_at(alloc, all.as_slice(), Position(position))?)
+}
+
+// The copies that rules grant to an asker.
+fn copies_of(
+    alloc: Global,
+    rules: &str,
+    asker: &Asker,
+    source: &SourceRows,
+) -> Result<Items<Granted>, Stop> {
+    let rules = rules_of(alloc, rules)?;
+    Ok(grants_of(alloc, &rules, asker, source)?)
+}
+
+// The copies that rules grant to a user with parameters.
+fn granted_to(
+    alloc: Global,
+    rules: &str,
+    source: &SourceRows,
+    user: &str,
+    parameters: &str,
+) -> Result<Items<Granted>, Stop> {
+    let asker = asker_of(alloc, user, parameters)?;
+    copies_of(alloc, rules, &asker, source)
+}
 
 // The copies that the rules of the first words grant to an asker: RULES CHANGES USER PARAMETERS POSITION.
 fn granted(alloc: Global, texts: &Texts, words: &str) -> Result<Items<Granted>, Stop> {
@@ -15,11 +44,14 @@ fn granted(alloc: Global, texts: &Texts, words: &str) -> Result<Items<Granted>, 
     let (changes, words) = cut(words);
     let (user, words) = cut(words);
     let (parameters, position) = cut(words);
-    let all = transactions_of(alloc, texts.text(changes)?)?;
-    let source = source_at(alloc, all.as_slice(), Position(number(position)?))?;
-    let asker = asker_of(alloc, user, parameters)?;
-    let rules = rules_of(alloc, texts.text(rules)?)?;
-    Ok(grants_of(alloc, &rules, &asker, &source)?)
+    let source = source_of(alloc, texts.text(changes)?, number(position)?)?;
+    granted_to(alloc, texts.text(rules)?, &source, user, parameters)
+}
+
+fn write_row(out: &mut String, row: &Shown) -> Result<(), Stop> {
+    let (kind, id) = (row.kind.as_str(), row.id.as_str());
+    write!(out, "\n{kind} {id} ")?;
+    Ok(out.push_str(row.content.as_str())?)
 }
 
 /// The rows that are due.
@@ -28,10 +60,16 @@ pub fn write_due(alloc: Global, texts: &Texts, words: &str, out: &mut String) ->
     let rows = rows_of(alloc, granted.as_slice())?;
     out.push_str("due")?;
     'rows: for row in rows.as_slice() {
-        let (kind, id) = (row.kind.as_str(), row.id.as_str());
-        write!(out, "\n{kind} {id} {}", row.content.as_str())?;
+        write_row(out, row)?;
     }
     Ok(())
+}
+
+fn write_copy(out: &mut String, copy: &Granted) -> Result<(), Stop> {
+    let (kind, id) = (copy.kind.as_str(), copy.id.as_str());
+    write!(out, "\n{kind} {id}")?;
+    let (position, index, number) = (copy.position.0, copy.index, copy.number);
+    Ok(write!(out, " {position} {index} {number}")?)
 }
 
 /// The copies that are granted, each with its moment and the number of its query.
@@ -44,12 +82,7 @@ pub fn write_copies(
     let granted = granted(alloc, texts, words)?;
     out.push_str("copies")?;
     'copies: for copy in granted.as_slice() {
-        let (kind, id) = (copy.kind.as_str(), copy.id.as_str());
-        write!(
-            out,
-            "\n{kind} {id} {} {} {}",
-            copy.position.0, copy.index, copy.number
-        )?;
+        write_copy(out, copy)?;
     }
     Ok(())
 }
@@ -61,6 +94,16 @@ fn push_row(alloc: Global, text: &mut String, row: &Shown) -> Result<(), Memory>
     Ok(write!(text, "{} {} {content}\n", kind.as_str(), id.as_str())?)
 }
 
+// The lines of the rows that are due of copies.
+fn text_of(alloc: Global, copies: &[Granted]) -> Result<String, Memory> {
+    let rows = rows_of(alloc, copies)?;
+    let mut text = String::new(alloc);
+    'rows: for row in rows.as_slice() {
+        push_row(alloc, &mut text, row)?;
+    }
+    Ok(text)
+}
+
 /// The lines of the rows that are due over all transactions.
 pub fn due_text(
     alloc: Global,
@@ -70,10 +113,5 @@ pub fn due_text(
 ) -> Result<String, Memory> {
     let source = source_at(alloc, transactions, Position(18446744073709551615))?;
     let copies = grants_of(alloc, rules, asker, &source)?;
-    let rows = rows_of(alloc, copies.as_slice())?;
-    let mut text = String::new(alloc);
-    'rows: for row in rows.as_slice() {
-        push_row(alloc, &mut text, row)?;
-    }
-    Ok(text)
+    text_of(alloc, copies.as_slice())
 }

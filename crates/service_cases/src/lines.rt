@@ -76,6 +76,39 @@ fn push_line(out: &mut String, bytes: &[u8]) -> Result<(), Stop> {
     Ok(out.push_str(str::from_utf8(bytes)?.trim_end())?)
 }
 
+// Adds the checkpoint's line.
+fn push_checkpoint(
+    alloc: Global,
+    bucket: Bucket,
+    last_op: OpId,
+    out: &mut String,
+) -> Result<(), Stop>
+    requires { last_op.0 ≤ greatest }
+{
+    let buckets = vec![in alloc; bucket]?;
+    let checkpoint = checkpoint_bytes(alloc, buckets.as_slice(), last_op)?;
+    push_line(out, checkpoint.as_slice())
+}
+
+// Adds the complete line.
+fn push_complete(alloc: Global, last_op: OpId, out: &mut String) -> Result<(), Stop>
+    requires { last_op.0 ≤ greatest }
+{
+    let complete = complete_bytes(alloc, last_op)?;
+    push_line(out, complete.as_slice())
+}
+
+// Adds the three lines.
+fn push_lines(alloc: Global, bucket: Bucket, last_op: OpId, out: &mut String) -> Result<(), Stop>
+    requires log { AreEntries 0 bucket.log.ops }
+    requires last { last_op.0 ≤ greatest }
+{
+    let data = data_bytes(alloc, &bucket, last_op)?;
+    push_checkpoint(alloc, bucket, last_op, out)?;
+    push_line(out, data.as_slice())?;
+    push_complete(alloc, last_op, out)
+}
+
 /// The checkpoint's line, the first data line and the complete line of a bucket: RULES CHANGES BUCKET.
 pub fn write_lines(
     alloc: Global,
@@ -87,14 +120,15 @@ pub fn write_lines(
     let (changes, name) = cut(words);
     let rules = rules_of(alloc, texts.text(rules)?)?;
     let (bucket, last_op) = bucket_over(alloc, &rules, texts.text(changes)?, name)?;
-    let data = data_bytes(alloc, &bucket, last_op)?;
-    let complete = complete_bytes(alloc, last_op)?;
-    let buckets = vec![in alloc; bucket]?;
-    let checkpoint = checkpoint_bytes(alloc, buckets.as_slice(), last_op)?;
     out.push_str("lines")?;
-    push_line(out, checkpoint.as_slice())?;
-    push_line(out, data.as_slice())?;
-    push_line(out, complete.as_slice())
+    push_lines(alloc, bucket, last_op, out)
+}
+
+// The first data line of a bucket, as it is written.
+fn first_data(alloc: Global, rules: &str, changes: &str, name: &str) -> Result<Vec<u8>, Stop> {
+    let rules = rules_of(alloc, rules)?;
+    let (bucket, last_op) = bucket_over(alloc, &rules, changes, name)?;
+    Ok(data_bytes(alloc, &bucket, last_op)?)
 }
 
 /// The last bytes of the first data line of a bucket: COUNT RULES CHANGES BUCKET.
@@ -107,9 +141,7 @@ pub fn write_line_end(
     let (count, words) = cut(words);
     let (rules, words) = cut(words);
     let (changes, name) = cut(words);
-    let rules = rules_of(alloc, texts.text(rules)?)?;
-    let (bucket, last_op) = bucket_over(alloc, &rules, texts.text(changes)?, name)?;
-    let data = data_bytes(alloc, &bucket, last_op)?;
+    let data = first_data(alloc, texts.text(rules)?, texts.text(changes)?, name)?;
     let start = data.len().saturating_sub(count.parse::<usize>()?);
     Ok(out.push_str(str::from_utf8(&data.as_slice()[start..])?.trim_end())?)
 }

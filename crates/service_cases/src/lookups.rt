@@ -6,7 +6,9 @@ use crate::reading::{asker_of, rules_of};
 use crate::words::{Stop, Texts, cut, number};
 use ps_changes::{Transaction, read_line};
 use ps_params::ParameterIndex;
-use ps_values::{Memory, Position};
+use ps_rules::Rules;
+use ps_sql_eval::Asker;
+use ps_values::{Items, Memory, Position, Text};
 use std::alloc::Global;
 
 // Notes the changes of a transaction.
@@ -43,6 +45,46 @@ fn note_lines(alloc: Global, index: &mut ParameterIndex, text: &str) -> Result<(
     Ok(())
 }
 
+// The names of an asker's buckets at a position, with all before another one forgotten.
+fn names_at(
+    alloc: Global,
+    rules: &Rules,
+    changes: &str,
+    asker: &Asker,
+    forgotten: Position,
+    position: Position,
+) -> Result<Items<Text>, Stop> {
+    if position.0 < forgotten.0 {
+        return Err(Memory)?;
+    }
+    let mut index = ParameterIndex::new(alloc, rules)?;
+    note_lines(alloc, &mut index, changes)?;
+    index.forget(forgotten);
+    index.reserve(alloc, 1)?;
+    Ok(index.rows_for(alloc, rules, asker, position)?)
+}
+
+// The same by the rules of a text, for a user with parameters.
+fn names_for(
+    alloc: Global,
+    rules: &str,
+    changes: &str,
+    user: &str,
+    parameters: &str,
+    forgotten: Position,
+    position: Position,
+) -> Result<Items<Text>, Stop> {
+    let rules = rules_of(alloc, rules)?;
+    let asker = asker_of(alloc, user, parameters)?;
+    names_at(alloc, &rules, changes, &asker, forgotten, position)
+}
+
+// Positions with a space between them.
+fn positions(words: &str) -> Result<(Position, Position), Stop> {
+    let (forgotten, position) = cut(words);
+    Ok((Position(number(forgotten)?), Position(number(position)?)))
+}
+
 /// The names of an asker's buckets at a position, with all before another one forgotten: RULES CHANGES USER PARAMETERS
 /// FORGOTTEN POSITION.
 pub fn write_names(
@@ -55,18 +97,9 @@ pub fn write_names(
     let (changes, words) = cut(words);
     let (user, words) = cut(words);
     let (parameters, words) = cut(words);
-    let (forgotten, position) = cut(words);
-    let (forgotten, position) = (number(forgotten)?, number(position)?);
-    if position < forgotten {
-        return Err(Memory)?;
-    }
-    let asker = asker_of(alloc, user, parameters)?;
-    let rules = rules_of(alloc, texts.text(rules)?)?;
-    let mut index = ParameterIndex::new(alloc, &rules)?;
-    note_lines(alloc, &mut index, texts.text(changes)?)?;
-    index.forget(Position(forgotten));
-    index.reserve(alloc, 1)?;
-    let names = index.rows_for(alloc, &rules, &asker, Position(position))?;
+    let (forgotten, position) = positions(words)?;
+    let (rules, changes) = (texts.text(rules)?, texts.text(changes)?);
+    let names = names_for(alloc, rules, changes, user, parameters, forgotten, position)?;
     out.push_str("names")?;
     'names: for name in names.as_slice() {
         write!(out, " {}", name.as_str())?;

@@ -26,14 +26,15 @@ fn answer_command(
     rest: &str,
     out: &mut String,
 ) -> Result<bool, Stop> {
-    match word {
-        "run" => commands::write_run(alloc, texts, rest, out)?,
-        "count" => commands::write_count(alloc, texts, rest, out)?,
-        "unread" => commands::write_unread(alloc, texts, rest, out)?,
-        "unwritten" => commands::write_unwritten(alloc, texts, rest, out)?,
-        "chance" => chance::write_tries(alloc, rest, out)?,
+    let answered = match word {
+        "run" => commands::write_run(alloc, texts, rest, out),
+        "count" => commands::write_count(alloc, texts, rest, out),
+        "unread" => commands::write_unread(alloc, texts, rest, out),
+        "unwritten" => commands::write_unwritten(alloc, texts, rest, out),
+        "chance" => chance::write_tries(alloc, rest, out),
         _ => return Ok(false),
-    }
+    };
+    answered?;
     Ok(true)
 }
 
@@ -45,26 +46,27 @@ fn answer_part(
     rest: &str,
     out: &mut String,
 ) -> Result<bool, Stop> {
-    match word {
-        "entries" => placing::write_entries(alloc, texts, rest, out)?,
-        "wide" => placing::write_wide(alloc, texts, rest, out)?,
-        "name" => placing::write_name(alloc, rest, out)?,
-        "memory" => placing::write_memory(out)?,
-        "due" => granting::write_due(alloc, texts, rest, out)?,
-        "copies" => granting::write_copies(alloc, texts, rest, out)?,
-        "names" => lookups::write_names(alloc, texts, rest, out)?,
-        "written" => storing::write_written(alloc, texts, rest, out)?,
-        "at-once" => storing::write_at_once(alloc, texts, rest, out)?,
-        "lines" => lines::write_lines(alloc, texts, rest, out)?,
-        "line-end" => lines::write_line_end(alloc, texts, rest, out)?,
+    let answered = match word {
+        "entries" => placing::write_entries(alloc, texts, rest, out),
+        "wide" => placing::write_wide(alloc, texts, rest, out),
+        "name" => placing::write_name(alloc, rest, out),
+        "memory" => placing::write_memory(out),
+        "due" => granting::write_due(alloc, texts, rest, out),
+        "copies" => granting::write_copies(alloc, texts, rest, out),
+        "names" => lookups::write_names(alloc, texts, rest, out),
+        "written" => storing::write_written(alloc, texts, rest, out),
+        "at-once" => storing::write_at_once(alloc, texts, rest, out),
+        "lines" => lines::write_lines(alloc, texts, rest, out),
+        "line-end" => lines::write_line_end(alloc, texts, rest, out),
         _ => return Ok(false),
-    }
+    };
+    answered?;
     Ok(true)
 }
 
 // Answers a line, or takes what it adds to a text. Lines that begin with `-` say what follows.
 fn answer(alloc: Global, texts: &mut Texts, line: &str, out: &mut String) -> Result<(), Stop> {
-    if line.is_empty() || texts.add(alloc, line)? {
+    if line.is_empty() || texts.add(line)? {
         return Ok(());
     }
     let (word, rest) = words::cut(line);

@@ -7,22 +7,48 @@ use ps_bucket_eval::{
     names_are_distinct,
 };
 use ps_changes::{Change, Row, read_change};
-use ps_values::{Memory, Text, read_json, value_of_json};
+use ps_rules::Rules;
+use ps_values::{Items, Memory, Text, Value, read_json, value_of_json};
 use std::alloc::{AllocError, Global};
+
+// Writes the line of an entry.
+fn write_entry(out: &mut String, one: &Placed) -> Result<(), Stop> {
+    let (bucket, key) = (one.bucket.as_str(), &one.key);
+    let (kind, id, subkey) = (key.kind.as_str(), key.id.as_str(), key.subkey.as_str());
+    write!(out, "\n{bucket} {kind} {id} {subkey}")?;
+    let (content, number) = (one.content.as_str(), one.number);
+    Ok(write!(out, " {content} {number}")?)
+}
 
 // Writes a line for each entry.
 fn write_placed(out: &mut String, placed: &[Placed]) -> Result<(), Stop> {
     'entries: for one in placed {
-        let (bucket, key) = (one.bucket.as_str(), &one.key);
-        let (kind, id, subkey) = (key.kind.as_str(), key.id.as_str(), key.subkey.as_str());
-        let content = one.content.as_str();
-        write!(
-            out,
-            "\n{bucket} {kind} {id} {subkey} {content} {}",
-            one.number
-        )?;
+        write_entry(out, one)?;
     }
     Ok(())
+}
+
+// The entries of a row, behind its id.
+fn write_row(
+    alloc: Global,
+    rules: &Rules,
+    table: &Text,
+    id: &Text,
+    row: &Row,
+    out: &mut String,
+) -> Result<(), Stop> {
+    write!(out, "\n= {}", id.as_str())?;
+    let placed = entries_of_row(alloc, rules, table, id, row, 10)?;
+    write_placed(out, placed.as_slice())
+}
+
+// The entries of the row that a line puts.
+fn write_change(alloc: Global, rules: &Rules, line: &str, out: &mut String) -> Result<(), Stop> {
+    let change = read_change(alloc, line.as_bytes())?;
+    match &change.row {
+        Some(row) => write_row(alloc, rules, &change.table, &change.id, row, out),
+        None => Ok(()),
+    }
 }
 
 /// The entries of the rows that a text's lines put, with at most ten of each. Before those of a row stands its id.
@@ -36,26 +62,31 @@ pub fn write_entries(
     let rules = rules_of(alloc, texts.text(rules)?)?;
     out.push_str("entries")?;
     'lines: for line in texts.text(changes)?.lines() {
-        let Change { table, id, row } = read_change(alloc, line.as_bytes())?;
-        if let Some(row) = row {
-            write!(out, "\n= {}", id.as_str())?;
-            let placed = entries_of_row(alloc, &rules, &table, &id, &row, 10)?;
-            write_placed(out, placed.as_slice())?;
-        }
+        write_change(alloc, &rules, line, out)?;
     }
     Ok(())
 }
 
-// A row with three lists of the numbers from 0 on.
-fn wide_row(alloc: Global, count: u32) -> Result<Row, Stop> {
+// The numbers from 0 on, so many, with commas between them.
+fn numbers_below(alloc: Global, count: u32) -> Result<String, Stop> {
     let mut list = String::from_str(alloc, "0")?;
     'numbers: for number in 1..count {
         write!(list, ",{number}")?;
     }
-    let list = list.as_str();
-    let line = format!(in alloc;
-        "{{\"op\":\"PUT\",\"table\":\"t\",\"id\":\"x\",\"row\":{{\"l\":[{list}],\"m\":[{list}],\"n\":[{list}]}}}}"
-    )?;
+    Ok(list)
+}
+
+// The line of a change that puts three lists into a row.
+fn wide_line(alloc: Global, list: &str) -> Result<String, Stop> {
+    let row = format!(in alloc; "{{\"l\":[{list}],\"m\":[{list}],\"n\":[{list}]}}")?;
+    let row = row.as_str();
+    Ok(format!(in alloc; "{{\"op\":\"PUT\",\"table\":\"t\",\"id\":\"x\",\"row\":{row}}}")?)
+}
+
+// A row with three lists of the numbers from 0 on.
+fn wide_row(alloc: Global, count: u32) -> Result<Row, Stop> {
+    let list = numbers_below(alloc, count)?;
+    let line = wide_line(alloc, list.as_str())?;
     let Change {
         table: _,
         id: _,
@@ -67,36 +98,53 @@ fn wide_row(alloc: Global, count: u32) -> Result<Row, Stop> {
     }
 }
 
+// The entries of that row, where 1,000 are asked for.
+fn wide_entries(alloc: Global, rules: &Rules, row: &Row) -> Result<Items<Placed>, PlaceFault> {
+    let table = Text::from_str(alloc, "t")?;
+    let id = Text::from_str(alloc, "x")?;
+    entries_of_row(alloc, rules, &table, &id, row, 1000)
+}
+
+fn write_last(out: &mut String, placed: &[Placed]) -> Result<(), Stop> {
+    let last = match placed {
+        [.., last] => last.bucket.as_str(),
+        [] => "none",
+    };
+    Ok(write!(out, "{} {last}", placed.len())?)
+}
+
 /// What comes of the row with lists of so many elements, where 1,000 entries are asked for: how many there are and the
 /// last one's bucket, or the count at which they were too many.
 pub fn write_wide(alloc: Global, texts: &Texts, words: &str, out: &mut String) -> Result<(), Stop> {
     let (rules, count) = cut(words);
     let rules = rules_of(alloc, texts.text(rules)?)?;
     let row = wide_row(alloc, count.parse::<u32>()?)?;
-    let (table, id) = (Text::from_str(alloc, "t")?, Text::from_str(alloc, "x")?);
-    match entries_of_row(alloc, &rules, &table, &id, &row, 1000) {
-        Ok(placed) => {
-            let last = match placed.as_slice() {
-                [.., last] => last.bucket.as_str(),
-                [] => "none",
-            };
-            Ok(write!(out, "{} {last}", placed.len())?)
-        }
+    match wide_entries(alloc, &rules, &row) {
+        Ok(placed) => write_last(out, placed.as_slice()),
         Err(PlaceFault::TooWide { count }) => Ok(write!(out, "too wide {count}")?),
         Err(PlaceFault::Memory) => Err(Memory)?,
     }
 }
 
+fn value_of(alloc: Global, word: &str) -> Result<Value, Stop> {
+    let json = read_json(alloc, word.as_bytes())?.ok_or("no JSON")?;
+    Ok(value_of_json(alloc, &json)?)
+}
+
+fn values_of(alloc: Global, words: &str) -> Result<Vec<Value>, Stop> {
+    let mut values = Vec::new(alloc);
+    if !words.is_empty() {
+        'values: for word in words.split(' ') {
+            values.push(value_of(alloc, word)?)?;
+        }
+    }
+    Ok(values)
+}
+
 /// The name of the bucket of a definition and of values in JSON: DEFINITION|VALUE ..
 pub fn write_name(alloc: Global, words: &str, out: &mut String) -> Result<(), Stop> {
     let (definition, written) = words.split_once('|').ok_or("no definition")?;
-    let mut values = Vec::new(alloc);
-    if !written.is_empty() {
-        'values: for word in written.split(' ') {
-            let json = read_json(alloc, word.as_bytes())?.ok_or("no JSON")?;
-            values.push(value_of_json(alloc, &json)?)?;
-        }
-    }
+    let values = values_of(alloc, written)?;
     let definition = Text::from_str(alloc, definition)?;
     let name = bucket_name(alloc, &definition, values.as_slice())?;
     Ok(out.push_str(name.as_str())?)

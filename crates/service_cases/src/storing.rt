@@ -6,7 +6,7 @@ ghost use Rattle.ps_store.specs.Logs.{AreLogs};
 use crate::reading::rules_of;
 use crate::words::{Stop, Texts, cut};
 use ps_bucket_log::{Log, Op};
-use ps_changes::read_line;
+use ps_changes::{Transaction, read_line};
 use ps_rules::Rules;
 use ps_store::{
     BucketLogs, Replica, have_numbers, latest_rows_are_due, readers_hold_what_stands, replicate,
@@ -76,6 +76,25 @@ fn write_logs(
     Ok(())
 }
 
+fn write_last(logs: &BucketLogs, out: &mut String) -> Result<(), Stop> {
+    Ok(write!(out, "last {}", logs.last().0)?)
+}
+
+// What changes write into buckets, and the last operation's id before they are taken and after.
+fn write_changed(
+    alloc: Global,
+    rules: &Rules,
+    changes: &str,
+    buckets: &str,
+    out: &mut String,
+) -> Result<(), Stop> {
+    let mut logs = logs_of(alloc, rules, changes)?;
+    write_last(&logs, out)?;
+    write_logs(alloc, &mut logs, buckets, out)?;
+    out.push_str("\n")?;
+    write_last(&logs, out)
+}
+
 /// What changes write into buckets, and the last operation's id before they are taken and after: RULES CHANGES BUCKET ..
 pub fn write_written(
     alloc: Global,
@@ -86,10 +105,32 @@ pub fn write_written(
     let (rules, words) = cut(words);
     let (changes, buckets) = cut(words);
     let rules = rules_of(alloc, texts.text(rules)?)?;
-    let mut logs = logs_of(alloc, &rules, texts.text(changes)?)?;
-    write!(out, "last {}", logs.last().0)?;
-    write_logs(alloc, &mut logs, buckets, out)?;
-    Ok(write!(out, "\nlast {}", logs.last().0)?)
+    write_changed(alloc, &rules, texts.text(changes)?, buckets, out)
+}
+
+// The logs after one transaction.
+fn logs_at_once(alloc: Global, rules: &Rules, transaction: Transaction) -> Result<BucketLogs, Stop>
+    ensures { IfOk result AreLogs }
+{
+    if transaction.position.0 == 0 {
+        return Err(Memory)?;
+    }
+    let replica = replicate(alloc, rules, vec![in alloc; transaction]?)?;
+    let Replica { logs, .. } = replica;
+    Ok(logs)
+}
+
+// What one transaction writes into a bucket.
+fn write_transaction(
+    alloc: Global,
+    rules: &Rules,
+    line: &str,
+    bucket: &str,
+    out: &mut String,
+) -> Result<(), Stop> {
+    let transaction = read_line(alloc, line.as_bytes())?;
+    let mut logs = logs_at_once(alloc, rules, transaction)?;
+    write_log(alloc, &mut logs, bucket, out)
 }
 
 /// What the first transaction of a change file writes into a bucket at once: RULES CHANGES BUCKET. Calls the laws, which do
@@ -107,12 +148,6 @@ pub fn write_at_once(
     let rules = rules_of(alloc, texts.text(rules)?)?;
     have_numbers(&rules);
     let first = texts.text(changes)?.lines().next().ok_or("no line")?;
-    let transaction = read_line(alloc, first.as_bytes())?;
-    if transaction.position.0 == 0 {
-        return Err(Memory)?;
-    }
-    let replica = replicate(alloc, &rules, vec![in alloc; transaction]?)?;
-    let Replica { mut logs, .. } = replica;
     out.push_str("at once")?;
-    write_log(alloc, &mut logs, bucket, out)
+    write_transaction(alloc, &rules, first, bucket, out)
 }

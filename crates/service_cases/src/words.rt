@@ -39,36 +39,44 @@ pub struct Texts {
     all: Vec<Named>,
 }
 
+// Adds a number, and what stands behind it.
+fn push_number(text: &mut String, number: u64, behind: &str) -> Result<(), Stop> {
+    Ok(write!(text, "{number}{behind}")?)
+}
+
+// Adds what stands behind one `{` of a template, up to the next.
+fn push_part(text: &mut String, number: u64, part: &str) -> Result<(), Stop> {
+    match part.split_once('}') {
+        Some(("n", behind)) => push_number(text, number, behind),
+        Some(("r", behind)) => push_number(text, number % 100, behind),
+        Some(("o", behind)) => {
+            text.push_str(if number % 2 == 0 { "ann" } else { "bob" })?;
+            Ok(text.push_str(behind)?)
+        }
+        _ => {
+            text.push_str("{")?;
+            Ok(text.push_str(part)?)
+        }
+    }
+}
+
+// Adds the line of a template for a number.
+fn push_line(text: &mut String, number: u64, template: &str) -> Result<(), Stop> {
+    'parts: for (index, part) in template.split('{').enumerate() {
+        if index == 0 {
+            text.push_str(part)?;
+        } else {
+            push_part(text, number, part)?;
+        }
+    }
+    Ok(text.push_str("\n")?)
+}
+
 // Adds the lines of a template for the numbers from 1 on: `{n}` is the number, `{r}` the rest of it by 100, and `{o}` ann for
 // an even number, bob for an odd one.
-fn push_numbered(alloc: Global, text: &mut String, count: u64, template: &str) -> Result<(), Stop> {
+fn push_numbered(text: &mut String, count: u64, template: &str) -> Result<(), Stop> {
     'lines: for before in 0..count {
-        let number = before.wrapping_add(1);
-        let rest = number % 100;
-        let owner = if number % 2 == 0 { "ann" } else { "bob" };
-        'parts: for (index, part) in template.split('{').enumerate() {
-            if index == 0 {
-                text.push_str(part)?;
-                continue;
-            }
-            match part.split_once('}') {
-                Some(("n", behind)) => {
-                    text.push_str(format!(in alloc; "{number}{behind}")?.as_str())?;
-                }
-                Some(("r", behind)) => {
-                    text.push_str(format!(in alloc; "{rest}{behind}")?.as_str())?;
-                }
-                Some(("o", behind)) => {
-                    text.push_str(owner)?;
-                    text.push_str(behind)?;
-                }
-                _ => {
-                    text.push_str("{")?;
-                    text.push_str(part)?;
-                }
-            }
-        }
-        text.push_str("\n")?;
+        push_line(text, before.wrapping_add(1), template)?;
     }
     Ok(())
 }
@@ -94,9 +102,23 @@ impl Texts {
         Ok(last.text.push_str(more)?)
     }
 
+    // Adds a part so many times.
+    fn push_times(&mut self, count: u64, part: &str) -> Result<(), Stop> {
+        'times: for _ in 0..count {
+            self.push(part)?;
+        }
+        Ok(())
+    }
+
+    // Adds so many lines of a template.
+    fn push_lines(&mut self, count: u64, template: &str) -> Result<(), Stop> {
+        let last = self.all.last_mut().ok_or("no text")?;
+        push_numbered(&mut last.text, count, template)
+    }
+
     /// Adds what a line says to the text that was begun last: behind `|` a line, behind `>` a part of one, behind `*` and a
     /// number a part so many times, behind `+` and a number so many lines of a template. False for other lines.
-    pub fn add(&mut self, alloc: Global, line: &str) -> Result<bool, Stop> {
+    pub fn add(&mut self, line: &str) -> Result<bool, Stop> {
         if let Some(more) = line.strip_prefix('|') {
             self.push(more)?;
             self.push("\n")?;
@@ -104,13 +126,10 @@ impl Texts {
             self.push(more)?;
         } else if let Some(more) = line.strip_prefix('*') {
             let (count, part) = cut(more);
-            'parts: for _ in 0..number(count)? {
-                self.push(part)?;
-            }
+            self.push_times(number(count)?, part)?;
         } else if let Some(more) = line.strip_prefix('+') {
             let (count, template) = cut(more);
-            let last = self.all.last_mut().ok_or("no text")?;
-            push_numbered(alloc, &mut last.text, number(count)?, template)?;
+            self.push_lines(number(count)?, template)?;
         } else {
             return Ok(false);
         }
