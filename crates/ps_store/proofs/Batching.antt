@@ -1,32 +1,32 @@
 -- What a write needs, and what it leaves.
-use Rattle.std.proofs.Common.{◌≡◌, ℕ, zero, suc, ◌+◌, ◌≤◌, ◌<◌, Option, Some, None, List, [], ◌∷◌, ◌++◌, refl, sym, ap, ◌∙◌, subst, length, take, fold, arith}
-use Rattle.std.specs.Prelude.{Result, Ok, Err, IsSome}
-use Rattle.ps_changes.specs.Source.{Key}
+use Rattle.std.proofs.Common.{◌≡◌, ℕ, zero, suc, ◌+◌, ◌≤◌, ◌<◌, Option, Some, None, List, refl, sym, ap, ◌∙◌, subst, length, take, fold, arith, length-drop}
+use Rattle.std.specs.Prelude.{Ok, Err, IsSome}
+use Rattle.ps_bucket_log.specs.Logs.{IsRising}
 use Rattle.ps_store.specs.declared.events.Event.{Event}
 use Rattle.ps_store.specs.declared.events.Event.TheVariants.{Write}
 use Rattle.ps_store.specs.declared.faults.WriteFault.{WriteFault}
-use Rattle.ps_store.specs.declared.faults.WriteFault.TheVariants as writing
 use Rattle.ps_store.specs.declared.fixed.Fixed.{Fixed}
-use Rattle.ps_store.specs.declared.fixed.Limits.{Limits}
 use Rattle.ps_store.specs.declared.plans.Planned.{Planned}
 use Rattle.ps_store.specs.declared.plans.Refusal.{Refusal}
 use Rattle.ps_store.specs.declared.stores.Store.{Store}
 use Rattle.ps_store.specs.declared.stores.Wrote.{Wrote}
-use Rattle.ps_store.specs.declared.tails.Tail.{Tail}
+use Rattle.ps_store.specs.declared.totals.Totals.{Totals}
 use Rattle.ps_store.specs.Ledgers.{Ledger, unwritten, head_of, write_next, ledger_of}
 use Rattle.ps_store.specs.Limits.{greatest, AreWithin}
-use Rattle.ps_store.specs.Originals.{Timed}
+use Rattle.ps_store.specs.Originals.{Timed, timed}
 use Rattle.ps_store.specs.Plans.{IsStart, IsRun}
 use Rattle.ps_store.specs.Reach.{Reached, reached}
-use Rattle.ps_store.specs.Rows.{row_at, AreNarrow}
+use Rattle.ps_store.specs.Rows.{AreNarrow}
 use Rattle.ps_store.specs.Runs.{Run, run_from}
-use Rattle.ps_store.specs.StoreLogs.{log_at, Continue}
+use Rattle.ps_store.specs.StoreLogs.{log_at, AreRising, Continue}
 use Rattle.ps_store.specs.Stores.{Stands, StoreStandsFor, IsSame, IsFilled, IsNamed, IsRefused, next_run, Writes}
-use Rattle.ps_store.specs.Tails.{Tied, NotFalling, Ascend, AreRowsOf}
+use Rattle.ps_store.specs.Tails.{Tied, NotFalling, AreRowsOf}
+use Rattle.ps_store.specs.Totals.{HaveRoom}
+use Rattle.ps_store.proofs.Counting.{low_names}
 use Rattle.ps_store.proofs.Advancing.{not_falling}
 use Rattle.ps_store.proofs.Coming.{stands_event, stands_still}
 use Rattle.ps_store.proofs.Refusing.{refused_is, refusal_there}
-use Rattle.ps_store.proofs.StoreStands.{stands_same, is_start, narrow_rows, newer, counted, rows_are_there, stands_written, last_of_run, within_limit, count_there, ops_count, ops_low, count_low}
+use Rattle.ps_store.proofs.StoreStands.{stands_same, is_start, narrow_rows, newer, counted, rows_are_there, stands_written, last_of_run, within_limit, count_there, ops_count, low_of_run, ops_low, count_low}
 
 pub usual : (fixed : Fixed) (store : Store) (history : List Event) → StoreStandsFor fixed store history → AreWithin store.fixed.limits
 usual fixed store history h = subst (λ (f : Fixed). AreWithin f.limits) (sym h.fixed_is) h.limits
@@ -97,6 +97,36 @@ module _ (fixed : Fixed) (old : Store) (history : List Event) (h : StoreStandsFo
 
     pub fill_rise : NotFalling mid.index.last mid.tail.changes.items
     fill_rise = subst (λ (us : List Timed). NotFalling mid.index.last us) (sym stands_mid.changes) (not_falling (unwritten l) mid.index.last (head_of l.fed) stands_mid.index.ascend)
+
+    pub fill_rising : AreRising (log_at mid.logs)
+    fill_rising = λ bucket. subst (IsRising 0) (sym (stands_mid.logs bucket)) (stands_mid.kept.rising bucket)
+
+    pub fill_counts : HaveRoom mid.totals (length planned.plan.made.items) (length planned.plan.entered.items)
+    fill_counts =
+        let counted = stands_mid.totals in
+        let made = fill_count in
+        record {
+          for_changes = omega (
+            arith,
+            ap (λ (t : Totals). t.changes) counted,
+            made,
+            ap length stands_mid.changes,
+            length-drop l.written (timed l.fed),
+            stands_mid.kept.within,
+            stands_mid.kept.sized,
+            stands_mid.kept.heads,
+            stands_mid.kept.low,
+          );
+          for_operations = omega (
+            arith,
+            ap (λ (t : Totals). t.operations) counted,
+            stands_mid.kept.entered,
+            ops_count old l h.stands entries_low limit planned is_run,
+            low_of_run old l h.stands entries_low limit planned is_run,
+            (usual fixed old history h).ops,
+          );
+          for_buckets = omega (arith, ap (λ (t : Totals). t.operations) counted, ap (λ (t : Totals). t.buckets) counted, low_names l.entered);
+        }
 
     pub done : (new : Store) → IsFilled mid planned.plan new → (wrote : Wrote) → (planned.count ≡ 0 → ⊥) → wrote.changes ≡ planned.count → wrote.ops ≡ length planned.plan.entered.items → wrote.last_op ≡ planned.plan.last
         → Writes fixed history limit new (Ok wrote)

@@ -6,7 +6,7 @@ use Rattle.ps_changes.specs.Source.{Source}
 use Rattle.ps_rules.specs.declared.definitions.Definition.{Definition}
 use Rattle.ps_rules.specs.RuleSets.{RuleSet}
 use Rattle.ps_store.specs.declared.events.Event.{Event}
-use Rattle.ps_store.specs.declared.events.Event.TheVariants.{Feed, Close, Write, Commit}
+use Rattle.ps_store.specs.declared.events.Event.TheVariants.{Feed, Close, Write, Commit, Compact, WriteCheckpoint}
 use Rattle.ps_store.specs.Originals.{Entered, Timed, timed, after, change_ops, ops_from, original}
 use Rattle.ps_store.specs.Steps.{changes_of, lane_ops, StepsRise}
 use Rattle.ps_store.specs.Laws.{Rises}
@@ -15,6 +15,7 @@ use Rattle.ps_store.specs.Ledgers.{Given, Ledger, fresh, head_of, unwritten, new
 use Rattle.ps_store.specs.Histories.{written_in, Tells}
 use Rattle.ps_store.specs.LedgerLaws.{IsWhole, TellsOps}
 use Rattle.ps_store.proofs.Fronts.{not_le, past_from, upto_timed, upto-timed, Climbs, timed_climb, climbs_take, none_upto, moments_take, written_upto}
+use Rattle.ps_store.proofs.Compacting.{untouched}
 use Rattle.ps_store.proofs.Moments.{timed_rise}
 use Rattle.ps_store.proofs.Stepping.{steps_of, steps_of-from, steps_of-ops, steps_rise, lane_unmarked}
 use Rattle.ps_store.proofs.Telling.{Keeps, keeps_fresh, keeps_event, taken, head_fed, rises_push, over_is, reached_is, reached_head, nothing_gained, Gained, ops_past, given_of, gained_given, gained_source, gained_steps, entered_is, last_is, ops_of_first}
@@ -113,6 +114,16 @@ whole_event rules l Commit can h =
       keeps = keeps_event rules l Commit h.keeps;
       checkpoint = record { fed = w.fed; written = w.written; op_is = w.op_is };
     }
+whole_event rules l (Compact bucket) can h = record {
+  rises = h.rises;
+  keeps = keeps_event rules l (Compact bucket) h.keeps;
+  checkpoint = record { fed = h.checkpoint.fed; written = h.checkpoint.written; op_is = h.checkpoint.op_is };
+}
+whole_event rules l (WriteCheckpoint user client) can h = record {
+  rises = h.rises;
+  keeps = keeps_event rules l (WriteCheckpoint user client) h.keeps;
+  checkpoint = record { fed = h.checkpoint.fed; written = h.checkpoint.written; op_is = h.checkpoint.op_is };
+}
 
 whole_history : (rules : RuleSet) (history : List Event) (l : Ledger) → IsLegalFrom l history → Whole rules l → Whole rules (fold ledger_after l history)
 whole_history rules [] l legal h = h
@@ -205,6 +216,8 @@ counts (Write n ∷ history) l legal =
     let here = next_count (take n (unwritten l)) l in
     omega (arith, rest, here, taken n (unwritten l) legal.0.1)
 counts (Commit ∷ history) l legal = counts history (ledger_after l Commit) legal.1
+counts (Compact bucket ∷ history) l legal = counts history (ledger_after l (Compact bucket)) legal.1
+counts (WriteCheckpoint user client ∷ history) l legal = counts history (ledger_after l (WriteCheckpoint user client)) legal.1
 
 steps_changes : (definitions : List Definition) (source : Source) (next : ℕ) (ts : List Timed) → changes_of (steps_of definitions source next ts) ≡ ts
 steps_changes definitions source next [] = refl
@@ -225,7 +238,7 @@ ledgers_tell rules history legal =
       source = ap (λ (g : Gained). g.source) w.keeps.gained ∙ gained_source rules.definitions nothing_gained ts;
       entered = entered;
       by_steps = entered ∙ sym (steps_of-ops rules.definitions [] 1 ts) ∙ sym (lane_unmarked rules.definitions [] (steps_of rules.definitions [] 1 ts)) ∙ ap (lane_ops [] rules.definitions []) (sym steps);
-      log = w.keeps.log;
+      log = λ bucket none. untouched bucket history (fresh rules) none refl;
       last = last_is rules l w.keeps;
       position = w.keeps.place.position ∙ reached_is l.fed 0 0 0 l.written;
       op = op_given rules l w l.reach.position l.reach.op (reached_whole rules l w.rises w.keeps);

@@ -1,5 +1,5 @@
 -- Changes that are written next, one after the other.
-use Rattle.std.proofs.Common.{◌≡◌, ℕ, zero, suc, ◌+◌, ◌*◌, ◌≤◌, ◌<◌, Bool, true, false, not, cond, Option, Some, None, List, [], ◌∷◌, ◌++◌, refl, sym, ap, ◌∙◌, subst, length, map, filter, take, drop, fold, arith, append_assoc, append-nil, length-append, length-take}
+use Rattle.std.proofs.Common.{◌≡◌, ℕ, zero, suc, ◌+◌, ◌*◌, ◌≤◌, ◌<◌, Bool, true, false, not, cond, Option, Some, None, List, [], ◌∷◌, ◌++◌, refl, sym, ap, ◌∙◌, subst, length, filter, take, drop, fold, arith, append_assoc, append-nil, length-append}
 use Rattle.std.specs.Prelude.{bytes_eq, if◌then◌else◌, nat_lt}
 use Rattle.std.specs.FinMap.Entries.{find}
 use Rattle.std.specs.Ordering.{eq_by_cmp}
@@ -8,21 +8,17 @@ use Rattle.std.proofs.lemmas.List.Sums.{fold-append}
 use Rattle.ps_bucket_log.specs.declared.ops.Op.{Op}
 use Rattle.ps_bucket_log.specs.Logs.{IsRising}
 use Rattle.ps_bucket_log.specs.Ops.{id_of, is_clear, newest}
-use Rattle.ps_changes.specs.declared.changes.Transaction.{Transaction}
-use Rattle.ps_changes.specs.Source.{Key, key_cmp, Source, Version}
+use Rattle.ps_changes.specs.Source.{Key, key_cmp, Version}
 use Rattle.ps_changes.proofs.Sources.{find-after_row}
-use Rattle.ps_rules.specs.declared.definitions.Definition.{Definition}
-use Rattle.ps_rules.specs.RuleSets.{RuleSet}
 use Rattle.ps_bucket_eval.specs.declared.placed.Placed.{Placed}
 use Rattle.ps_store.specs.declared.fixed.Limits.{Limits}
 use Rattle.ps_store.specs.declared.plans.Refusal.{Refusal}
 use Rattle.ps_store.specs.declared.plans.Refusal.TheVariants.{TooWide, OpsFull}
 use Rattle.ps_store.specs.Ledgers.{Ledger, entries_after, next_ops, write_next}
-use Rattle.ps_store.specs.Originals.{Entered, Timed, key_of, after, entries_at, columns_of, standing_entries, stays, removed, put, leaving, numbered, change_ops, in_bucket}
-use Rattle.ps_store.specs.Reach.{Reached}
+use Rattle.ps_store.specs.Originals.{Entered, Timed, key_of, after, entries_at, columns_of, standing_entries, stays, removed, put, leaving, numbered, in_bucket}
 use Rattle.ps_store.specs.Runs.{Run, refusal_of, stopped, run_from, ops_from, lasts_from}
 use Rattle.ps_store.specs.StoreLogs.{with_op, Continue}
-use Rattle.ps_store.specs.Tails.{reach_after, version_of, with_row, rows_after}
+use Rattle.ps_store.specs.Tails.{reach_after, with_row, rows_after}
 use Rattle.ps_store.proofs.Filling.{in_bucket_cons, in_bucket_append}
 use Rattle.ps_store.proofs.Maps.{equal_rows}
 use Rattle.ps_store.proofs.Sources.{columns_after}
@@ -85,10 +81,11 @@ pub record Rests (l n : Ledger) : Type 0 where
   pub closed : n.closed ≡ l.closed
   pub position : n.position ≡ l.position
   pub op : n.op ≡ l.op
+  pub numbers : n.numbers ≡ l.numbers
 
 pub next_rests : (ts : List Timed) (l : Ledger) → Rests l (fold write_next l ts)
-next_rests [] l = record { fed = refl; closed = refl; position = refl; op = refl }
-next_rests (t ∷ ts) l = let h = next_rests ts (write_next l t) in record { fed = h.fed; closed = h.closed; position = h.position; op = h.op }
+next_rests [] l = record { fed = refl; closed = refl; position = refl; op = refl; numbers = refl }
+next_rests (t ∷ ts) l = let h = next_rests ts (write_next l t) in record { fed = h.fed; closed = h.closed; position = h.position; op = h.op; numbers = h.numbers }
 
 -- ---- ids
 
@@ -173,7 +170,7 @@ rising_lower : (ops : List Op) (p q : ℕ) → p ≤ q → IsRising q ops → Is
 rising_lower [] p q h k = tt
 rising_lower (op ∷ ops) p q h k = (omega (arith, h, k.0), k.1)
 
-rising_in : (bucket : List ℕ) (es : List Entered) (p q : ℕ) → Rises p es q → IsRising p (in_bucket bucket es)
+pub rising_in : (bucket : List ℕ) (es : List Entered) (p q : ℕ) → Rises p es q → IsRising p (in_bucket bucket es)
 rising_in bucket [] p q h = tt
 rising_in bucket (e ∷ es) p q h = subst (IsRising p) (sym (in_bucket_cons bucket e es)) (by (bytes_eq bucket e.bucket) (rising_in bucket es (id_of e.op) q h.2))
   where

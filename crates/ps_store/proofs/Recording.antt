@@ -5,7 +5,7 @@ use Rattle.std.proofs.lemmas.List.Sums.{fold-append}
 use Rattle.ps_changes.specs.declared.changes.Transaction.{Transaction}
 use Rattle.ps_rules.specs.RuleSets.{RuleSet}
 use Rattle.ps_store.specs.declared.events.Event.{Event}
-use Rattle.ps_store.specs.declared.events.Event.TheVariants.{Feed, Close, Write, Commit}
+use Rattle.ps_store.specs.declared.events.Event.TheVariants.{Feed, Close, Write, Commit, Compact, WriteCheckpoint}
 use Rattle.ps_store.specs.Ledgers.{Ledger, fresh, unwritten, ledger_after, ledger_of}
 use Rattle.ps_store.specs.LedgerLaws.{fed_in, has_close, has_commit, TellsFeeds}
 use Rattle.ps_store.proofs.Committing.{next_rests}
@@ -16,6 +16,8 @@ fed_from (Feed t ∷ history) l = fed_from history (ledger_after l (Feed t)) ∙
 fed_from (Close ∷ history) l = fed_from history (ledger_after l Close)
 fed_from (Write n ∷ history) l = fed_from history (ledger_after l (Write n)) ∙ ap (λ (fed : List Transaction). fed ++ fed_in history) (next_rests (take n (unwritten l)) l).fed
 fed_from (Commit ∷ history) l = fed_from history (ledger_after l Commit)
+fed_from (Compact bucket ∷ history) l = fed_from history (ledger_after l (Compact bucket))
+fed_from (WriteCheckpoint user client ∷ history) l = fed_from history (ledger_after l (WriteCheckpoint user client))
 
 closed_with : (b : Bool) → b || true ≡ true
 closed_with true = refl
@@ -31,6 +33,8 @@ closed_from (Feed t ∷ history) l = closed_from history (ledger_after l (Feed t
 closed_from (Close ∷ history) l = closed_from history (ledger_after l Close) ∙ sym (closed_with l.closed)
 closed_from (Write n ∷ history) l = closed_from history (ledger_after l (Write n)) ∙ ap (λ (b : Bool). b || has_close history) (next_rests (take n (unwritten l)) l).closed
 closed_from (Commit ∷ history) l = closed_from history (ledger_after l Commit)
+closed_from (Compact bucket ∷ history) l = closed_from history (ledger_after l (Compact bucket))
+closed_from (WriteCheckpoint user client ∷ history) l = closed_from history (ledger_after l (WriteCheckpoint user client))
 
 pub tells_feeds : (rules : RuleSet) (history : List Event) → TellsFeeds history (ledger_of rules history)
 tells_feeds rules history = record { fed = fed_from history (fresh rules); closed = closed_from history (fresh rules) }
@@ -49,6 +53,8 @@ stays (Write n ∷ history) l h =
     let here = next_rests (take n (unwritten l)) l in
     record { position = rest.position ∙ here.position; op = rest.op ∙ here.op }
 stays (Commit ∷ history) l h = absurd (cc)
+stays (Compact bucket ∷ history) l h = let rest = stays history (ledger_after l (Compact bucket)) h in record { position = rest.position; op = rest.op }
+stays (WriteCheckpoint user client ∷ history) l h = let rest = stays history (ledger_after l (WriteCheckpoint user client)) h in record { position = rest.position; op = rest.op }
 
 pub checkpoint_begins : (rules : RuleSet) (history : List Event) → has_commit history ≡ false → ((ledger_of rules history).position ≡ 0) × ((ledger_of rules history).op ≡ 0)
 checkpoint_begins rules history h = let rest = stays history (fresh rules) h in (rest.position, rest.op)

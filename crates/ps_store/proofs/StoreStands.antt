@@ -1,17 +1,19 @@
 -- The store stands for a ledger, before and after a call.
-use Rattle.std.proofs.Common.{◌≡◌, ℕ, zero, suc, ◌+◌, ◌*◌, ◌-◌, ◌≤◌, ◌<◌, max, Bool, true, false, Option, Some, None, List, [], ◌∷◌, ◌++◌, refl, sym, ap, ◌∙◌, subst, length, map, take, drop, fold, arith, append_assoc, append-nil, length-append, length-take, length-drop}
+use Rattle.std.proofs.Common.{◌≡◌, ℕ, zero, suc, ◌+◌, ◌*◌, ◌^◌, ◌≤◌, ◌<◌, max, Option, List, [], ◌∷◌, ◌++◌, refl, sym, ap, ◌∙◌, subst, length, map, take, drop, fold, arith, append_assoc, append-nil, length-append, length-take, length-drop}
 use Rattle.std.specs.FinMap.Entries.{find}
 use Rattle.ps_values.specs.declared.ids.OpId.{OpId}
 use Rattle.ps_values.specs.declared.ids.Position.{Position}
 use Rattle.ps_bucket_log.specs.declared.ops.Op.{Op}
 use Rattle.ps_bucket_log.specs.Logs.{IsRising}
-use Rattle.ps_bucket_log.specs.Ops.{newest}
+use Rattle.ps_bucket_log.specs.Ops.{newest, sum_of}
 use Rattle.ps_changes.specs.declared.changes.Change.{Change}
 use Rattle.ps_changes.specs.declared.changes.Transaction.{Transaction}
 use Rattle.ps_changes.specs.Source.{Key, key_cmp, Version}
 use Rattle.ps_rules.specs.RuleSets.{RuleSet}
 use Rattle.ps_params.specs.Indexes.{Index}
 use Rattle.ps_params.specs.Notes.{Note, SameFrom}
+use Rattle.ps_write_cp.specs.Kept.{Kept, heads_at}
+use Rattle.ps_write_cp.specs.Numbers.{Made as MadeNumber, heads_of}
 use Rattle.ps_store.specs.declared.fixed.Fixed.{Fixed}
 use Rattle.ps_store.specs.declared.fixed.Limits.{Limits}
 use Rattle.ps_store.specs.declared.plans.Made.{Made}
@@ -19,16 +21,21 @@ use Rattle.ps_store.specs.declared.plans.Planned.{Planned}
 use Rattle.ps_store.specs.declared.reach.End.{End}
 use Rattle.ps_store.specs.declared.stores.Store.{Store}
 use Rattle.ps_store.specs.declared.tails.Tail.{Tail}
+use Rattle.ps_store.specs.declared.totals.Totals.{Totals}
 use Rattle.ps_store.specs.Ledgers.{Ledger, fresh, unwritten, timed_of, end_of, write_next, head_of}
 use Rattle.ps_store.specs.Originals.{Entered, Timed, timed, timed_from, entries_at, columns_of, standing_entries, in_bucket}
 use Rattle.ps_store.specs.Plans.{IsStart, IsRun}
 use Rattle.ps_store.specs.Reach.{Reached, reached, settled}
 use Rattle.ps_store.specs.Rows.{row_at, AreNarrow}
 use Rattle.ps_store.specs.Runs.{Run, run_from, ops_from, lasts_from}
-use Rattle.ps_store.specs.StoreLogs.{log_at, Continue}
-use Rattle.ps_store.specs.Stores.{Stands, IndexStands, IsKept, IsSame, IsFilled}
-use Rattle.ps_store.specs.Tails.{repeated, positions_of, timed_positions, IsSettled, Tied, Ascend, EndsRise, last_end, ids, AreRowsOf, reach_after, rows_after, notes_after}
-use Rattle.ps_store.proofs.Advancing.{tied_settled, ascend_append, ascend_up, IsOn, settled_on, reach_on, ends_push, end_push, rows_front, notes_append, same_after}
+use Rattle.ps_store.specs.Limits.{greatest}
+use Rattle.ps_store.specs.StoreLogs.{log_at, has_ops, first_ops, Continue}
+use Rattle.ps_store.specs.Stores.{Stands, IndexStands, IsKept, IsSame, IsFilled, NumbersStand}
+use Rattle.ps_store.specs.Tails.{repeated, positions_of, timed_positions, IsSettled, Tied, Ascend, EndsRise, ids, AreRowsOf, reach_after, rows_after, notes_after, last_end}
+use Rattle.ps_store.specs.Totals.{names_of, ops_of as counted_ops, totals_of, with_changes}
+use Rattle.ps_store.proofs.Compacting.{next_entered}
+use Rattle.ps_store.proofs.Counting.{AreFilled, filled_append, names_more, sum_append}
+use Rattle.ps_store.proofs.Advancing.{tied_settled, ascend_append, IsOn, settled_on, reach_on, ends_push, end_push, rows_front, notes_append, same_after, ascend_up}
 use Rattle.ps_store.proofs.Lanes.{length_lasts, next_rules, next_log, next_last, next_reach, next_written, next_rows, next_rests, Rises, rises_ops, newest_within, rising_more, continues, IsFront, run_is_front, take_front, drop_again, IsLow, run_is_low}
 
 -- ---- nothing changed
@@ -45,6 +52,18 @@ index_same old new l rules last forgotten notes h = record {
   ascend = subst (λ (n : ℕ). Ascend n (unwritten l) (head_of l.fed)) (sym last) h.ascend;
 }
 
+pub numbers_alike : (top top' : ℕ) (kept kept' : Kept) (made made' : List MadeNumber) (head head' : ℕ) → top' ≡ top → kept' ≡ kept → made' ≡ made → head' ≡ head
+    → NumbersStand top kept made head → NumbersStand top' kept' made' head'
+numbers_alike top top' kept kept' made made' head head' same_top same_kept same_made same_head h = record {
+  made_are = λ user client. ap (λ (k : Kept). heads_at k user client) same_kept ∙ h.made_are user client ∙ ap (λ (m : List MadeNumber). heads_of user client m) (sym same_made);
+  top_is = ap (λ (k : Kept). k.top) same_kept ∙ h.top_is ∙ sym same_top;
+  behind = let kept_head : kept'.head ≡ kept.head = ap (λ (k : Kept). k.head) same_kept in omega (arith, kept_head, h.behind, same_head);
+}
+
+-- the head rises
+pub numbers_later : (top : ℕ) (kept : Kept) (made : List MadeNumber) (head later : ℕ) → head ≤ later → NumbersStand top kept made head → NumbersStand top kept made later
+numbers_later top kept made head later up h = record { made_are = h.made_are; top_is = h.top_is; behind = omega (arith, h.behind, up) }
+
 pub stands_same : (old new : Store) (l : Ledger) → IsSame old new → Stands old l → Stands new l
 stands_same old new l same h = record {
   rules = h.rules ∙ ap (λ (f : Fixed). f.rules) (sym same.fixed);
@@ -54,10 +73,13 @@ stands_same old new l same h = record {
   rows = λ key. same.rows key ∙ h.rows key;
   index = index_same old.index new.index l same.index_rules same.index_last same.index_forgotten same.index_notes h.index;
   last = ap (λ (id : OpId). id.0) same.last ∙ h.last;
+  totals = same.totals ∙ h.totals;
   position = ap (λ c. c.position.0) same.checkpoint ∙ h.position;
   op = ap (λ c. c.op.0) same.checkpoint ∙ h.op;
   head = ap (λ (p : Position). p.0) same.head ∙ h.head;
   closed = same.closed ∙ h.closed;
+  numbers = numbers_alike old.fixed.limits.numbers new.fixed.limits.numbers old.numbers new.numbers l.numbers l.numbers (head_of l.fed) (head_of l.fed)
+      (ap (λ (f : Fixed). f.limits.numbers) same.fixed) same.numbers refl refl h.numbers;
   kept = subst (λ (f : Fixed). IsKept f.limits l) (sym same.fixed) h.kept;
 }
 
@@ -70,6 +92,11 @@ kept_fresh rules limits = record {
   ends_rise = tt;
   last_is_head = refl;
   checkpoint = omega arith;
+  heads = omega arith;
+  low = omega arith;
+  sized = omega arith;
+  entered = omega arith;
+  filled = λ bucket. refl;
   rising = λ bucket. tt;
   newest = λ bucket. omega arith;
   last = omega arith;
@@ -77,6 +104,19 @@ kept_fresh rules limits = record {
 }
 
 -- ---- a run of changes is written
+
+-- what is counted of it
+totals_written : (ts : List Timed) (l : Ledger) → AreFilled l.log l.entered
+    → with_changes (totals_of l) (length ts) (first_ops l.log (ops_from l ts)) (ops_from l ts) ≡ totals_of (fold write_next l ts)
+totals_written ts l h =
+    let entered : l.entered ++ ops_from l ts ≡ (fold write_next l ts).entered = sym (next_entered ts l) in
+    λ i. record {
+      transactions = length (sym (next_rests ts l).fed i);
+      changes = sym (next_written ts l) i;
+      operations = (sym (length-append l.entered (ops_from l ts)) ∙ ap length entered) i;
+      buckets = (sym (names_more (ops_from l ts) l.entered l.log h) ∙ ap (λ (es : List Entered). length (names_of es)) entered) i;
+      sum = record { 0 = (sym (sum_append l.entered (ops_from l ts)) ∙ ap (λ (es : List Entered). sum_of (counted_ops es)) entered) i };
+    }
 
 -- rows are narrow
 pub narrow_rows : (store : Store) (l : Ledger) → Stands store l → AreNarrow store.fixed.rules.definitions store.fixed.limits.entries store.rows
@@ -146,6 +186,10 @@ module _ (old : Store) (l : Ledger) (h : Stands old l) (usual : old.fixed.limits
   -- how many operations there are
   pub ops_count : l.last + length planned.plan.entered.items ≡ run.ledger.last
   ops_count = sym (ap (λ (n : Ledger). n.last) ledger_is ∙ next_last ts l ∙ ap (λ (es : List Entered). l.last + length es) (sym ops_are))
+
+  -- the last id is within the limit
+  pub low_of_run : run.ledger.last ≤ old.fixed.limits.ops
+  low_of_run = low.ids
 
   pub ops_low : limit ≤ 1000000 → length planned.plan.entered.items ≤ 2000000000
   ops_low most = omega (arith, ops_count, low.grown, length-take limit (unwritten l), most)
@@ -225,6 +269,14 @@ module _ (old : Store) (l : Ledger) (h : Stands old l) (usual : old.fixed.limits
         ends_rise = on.rise;
         last_is_head = on.same_end ∙ h.kept.last_is_head ∙ ap head_of (sym fed_is);
         checkpoint = omega (arith, on.up, h.kept.checkpoint, (next_rests ts l).position);
+        heads = subst (λ (fed : List Transaction). length fed ≤ head_of fed) (sym fed_is) h.kept.heads;
+        low = subst (λ (fed : List Transaction). head_of fed ≤ greatest) (sym fed_is) h.kept.low;
+        sized = subst (λ (fed : List Transaction). length (timed fed) ≤ length fed * 2 ^ 64) (sym fed_is) h.kept.sized;
+        entered = omega (arith, ap length (next_entered ts l), length-append l.entered (ops_from l ts), next_last ts l, h.kept.entered);
+        filled = λ bucket.
+            ap has_ops (next_log bucket ts l)
+            ∙ filled_append l.log l.entered (ops_from l ts) h.kept.filled bucket
+            ∙ ap (λ (es : List Entered). has_ops (in_bucket bucket es)) (sym (next_entered ts l));
         rising = λ bucket. subst (IsRising 0) (sym (next_log bucket ts l)) (rising_more bucket (l.log bucket) (ops_from l ts) l.last after.last (h.kept.rising bucket) (h.kept.newest bucket) (rises_ops ts l));
         newest = λ bucket. subst (λ (ops : List Op). newest ops ≤ after.last) (sym (next_log bucket ts l)) (newest_within bucket (l.log bucket) (ops_from l ts) l.last after.last (h.kept.newest bucket) (rises_ops ts l));
         last = subst (λ (n : Ledger). n.last ≤ old.fixed.limits.ops) ledger_is low.ids;
@@ -274,10 +326,19 @@ module _ (old : Store) (l : Ledger) (h : Stands old l) (usual : old.fixed.limits
         rows = rows_are;
         index = index_after;
         last = last_is ∙ ap (λ (n : Ledger). n.last) ledger_is;
+        totals =
+            filled.totals
+            ∙ ap (λ (t : Totals). with_changes t (length planned.plan.made.items) (first_ops (log_at mid.logs) planned.plan.entered.items) planned.plan.entered.items) (same.totals ∙ h.totals)
+            ∙ ap (λ (logs : List ℕ → List Op). with_changes (totals_of l) (length planned.plan.made.items) (first_ops logs planned.plan.entered.items) planned.plan.entered.items) (λ i bucket. (same.logs bucket ∙ h.logs bucket) i)
+            ∙ ap (λ (es : List Entered). with_changes (totals_of l) (length planned.plan.made.items) (first_ops l.log es) es) ops_are
+            ∙ ap (λ (n : ℕ). with_changes (totals_of l) n (first_ops l.log (ops_from l ts)) (ops_from l ts)) (count_is ∙ sym length_ts)
+            ∙ totals_written ts l h.kept.filled;
         position = ap (λ c. c.position.0) (filled.checkpoint ∙ same.checkpoint) ∙ h.position ∙ sym (next_rests ts l).position;
         op = ap (λ c. c.op.0) (filled.checkpoint ∙ same.checkpoint) ∙ h.op ∙ sym (next_rests ts l).op;
         head = ap (λ (p : Position). p.0) (filled.head ∙ same.head) ∙ h.head ∙ ap head_of (sym fed_is);
         closed = filled.closed ∙ same.closed ∙ h.closed ∙ sym (next_rests ts l).closed;
+        numbers = numbers_alike old.fixed.limits.numbers new.fixed.limits.numbers old.numbers new.numbers l.numbers after.numbers (head_of l.fed) (head_of after.fed)
+            (ap (λ (f : Fixed). f.limits.numbers) fixed_is) (filled.numbers ∙ same.numbers) (next_rests ts l).numbers (ap head_of fed_is) h.numbers;
         kept = subst (λ (f : Fixed). IsKept f.limits after) (sym fixed_is) kept_after;
       }
 
@@ -361,11 +422,15 @@ tied_fed us r t last h =
     ∙ ap (drop r.over) (sym (positions_append r.left (end_of t))))
     (omega (arith, within, ap length (positions_append r.left (end_of t)), length-append (positions_of r.left) (repeated (length t.changes) t.position.0 [])))
 
+length_from : (position index : ℕ) (changes : List Change) → length (timed_from position index changes) ≡ length changes
+length_from position index [] = refl
+length_from position index (c ∷ changes) = ap suc (length_from position (index + 1) changes)
+
 ascend_at : (position index : ℕ) (changes : List Change) → Ascend position (timed_from position index changes) position
 ascend_at position index [] = omega arith
 ascend_at position index (c ∷ changes) = (omega arith, ascend_at position (index + 1) changes)
 
-module _ (limits : Limits) (l : Ledger) (t : Transaction) (later : head_of l.fed < t.position.0) where
+module _ (limits : Limits) (l : Ledger) (t : Transaction) (later : head_of l.fed < t.position.0) (usual : t.position.0 ≤ greatest) (few : length t.changes ≤ 2 ^ 64) where
   -- the ledger with the transaction
   abbrev pub fed_ledger : Ledger
   fed_ledger = record l { fed = l.fed ++ t ∷ []; reach = settled l.last (record l.reach { left = l.reach.left ++ end_of t ∷ [] }) }
@@ -380,6 +445,11 @@ module _ (limits : Limits) (l : Ledger) (t : Transaction) (later : head_of l.fed
         ends_rise = on.rise;
         last_is_head = on.same_end ∙ end_push l.reach.left (end_of t) l.reach.position ∙ sym (head_fed l.fed t);
         checkpoint = omega (arith, on.up, h.checkpoint);
+        heads = omega (arith, length-append l.fed (t ∷ []), h.heads, later, head_fed l.fed t);
+        low = omega (arith, head_fed l.fed t, usual);
+        sized = omega (arith, ap length (timed_append l.fed t), length-append (timed l.fed) (timed_of t), length-append l.fed (t ∷ []), length_from t.position.0 0 t.changes, h.sized, few);
+        entered = h.entered;
+        filled = h.filled;
         rising = h.rising;
         newest = h.newest;
         last = h.last;
@@ -405,6 +475,11 @@ kept_commit limits l h = record {
   ends_rise = h.ends_rise;
   last_is_head = h.last_is_head;
   checkpoint = omega arith;
+  heads = h.heads;
+  low = h.low;
+  sized = h.sized;
+  entered = h.entered;
+  filled = h.filled;
   rising = h.rising;
   newest = h.newest;
   last = h.last;

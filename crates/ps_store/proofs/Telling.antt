@@ -10,13 +10,13 @@ use Rattle.ps_rules.specs.declared.definitions.Definition.{Definition}
 use Rattle.ps_rules.specs.RuleSets.{RuleSet}
 use Rattle.ps_store.specs.declared.reach.End.{End}
 use Rattle.ps_store.specs.declared.events.Event.{Event}
-use Rattle.ps_store.specs.declared.events.Event.TheVariants.{Feed, Close, Write, Commit}
+use Rattle.ps_store.specs.declared.events.Event.TheVariants.{Feed, Close, Write, Commit, Compact, WriteCheckpoint}
 use Rattle.ps_store.specs.Originals.{Entered, Timed, timed_from, timed, after, change_ops, ops_from, in_bucket}
 use Rattle.ps_store.specs.Reach.{Reached, settled_from, settled}
 use Rattle.ps_store.specs.Steps.{Step}
 use Rattle.ps_store.specs.Laws.{Rises}
 use Rattle.ps_store.specs.StepLaws.{transactions_upto}
-use Rattle.ps_store.specs.Ledgers.{Given, Ledger, fresh, timed_of, unwritten, newest_of, next_ops, write_next, end_of, ledger_after, reached_by}
+use Rattle.ps_store.specs.Ledgers.{Given, Ledger, fresh, timed_of, unwritten, newest_of, write_next, end_of, ledger_after, reached_by}
 use Rattle.ps_store.proofs.Fronts.{not_le, is_le, le_from, past_from}
 use Rattle.ps_store.proofs.Stepping.{steps_of}
 
@@ -321,12 +321,11 @@ pub record Keeps (rules : RuleSet) (l : Ledger) : Type 0 where
   pub within : l.written ≤ length (timed l.fed)
   pub rules_are : l.force.rules ≡ rules
   pub gained : gained_by l ≡ fold (gain rules.definitions) nothing_gained (take l.written (timed l.fed))
-  pub log : (bucket : List ℕ) → l.log bucket ≡ in_bucket bucket l.entered
   pub place : SamePlace l.reach (placed l.written l.fed)
   pub op : l.reach.op ≡ ops_of_first rules l.fed (l.written - l.reach.over)
 
 pub keeps_fresh : (rules : RuleSet) → Keeps rules (fresh rules)
-keeps_fresh rules = record { within = omega arith; rules_are = refl; gained = refl; log = λ bucket. refl; place = record { position = refl; over = refl; left = refl }; op = refl }
+keeps_fresh rules = record { within = omega arith; rules_are = refl; gained = refl; place = record { position = refl; over = refl; left = refl }; op = refl }
 
 pub last_is : (rules : RuleSet) (l : Ledger) → Keeps rules l → l.last ≡ length l.entered
 last_is rules l h = subst (λ (g : Gained). g.last ≡ length g.entered) (sym h.gained) (gained_last rules.definitions nothing_gained (take l.written (timed l.fed)) refl)
@@ -354,7 +353,6 @@ keeps_fed rules l t h =
       within = omega (arith, h.within, ap length (timed_append l.fed t), length-append (timed l.fed) (timed_of t));
       rules_are = h.rules_are;
       gained = h.gained ∙ ap (fold (gain rules.definitions) nothing_gained) (sym (same l.written (omega arith)));
-      log = h.log;
       place = subst (λ (r : Reached). SamePlace r (placed l.written (l.fed ++ t ∷ []))) (sym here)
           (subst (λ (r : Reached). SamePlace (settled_from l.last s.position l.reach.op s.over (s.left ++ end_of t ∷ [])) r) (sym next)
           (settled_place (s.left ++ end_of t ∷ []) l.last 0 s.position l.reach.op s.op s.over));
@@ -431,7 +429,6 @@ keeps_next rules l t ts is h =
       within = omega (arith, n.2);
       rules_are = h.rules_are;
       gained = gained;
-      log = λ bucket. ap (λ ops. ops ++ in_bucket bucket (next_ops l t)) (h.log bucket) ∙ sym (in_more bucket l.entered (next_ops l t));
       place = subst (λ (r : Reached). SamePlace r (placed (l.written + 1) l.fed)) (sym here)
           (subst (λ (r : Reached). SamePlace (settled_from q s.position l.reach.op (s.over + 1) s.left) r) (sym next)
           (settled_place s.left q 0 s.position l.reach.op s.op (s.over + 1)));
@@ -449,6 +446,8 @@ keeps_all rules (t ∷ us) rest l is h = keeps_all rules us rest (write_next l t
 
 pub keeps_event : (rules : RuleSet) (l : Ledger) (e : Event) → Keeps rules l → Keeps rules (ledger_after l e)
 keeps_event rules l (Feed t) h = keeps_fed rules l t h
-keeps_event rules l Close h = record { within = h.within; rules_are = h.rules_are; gained = h.gained; log = h.log; place = h.place; op = h.op }
+keeps_event rules l Close h = record { within = h.within; rules_are = h.rules_are; gained = h.gained; place = h.place; op = h.op }
 keeps_event rules l (Write n) h = keeps_all rules (take n (unwritten l)) (drop n (unwritten l)) l (parted n (unwritten l)) h
-keeps_event rules l Commit h = record { within = h.within; rules_are = h.rules_are; gained = h.gained; log = h.log; place = h.place; op = h.op }
+keeps_event rules l Commit h = record { within = h.within; rules_are = h.rules_are; gained = h.gained; place = h.place; op = h.op }
+keeps_event rules l (Compact bucket) h = record { within = h.within; rules_are = h.rules_are; gained = h.gained; place = h.place; op = h.op }
+keeps_event rules l (WriteCheckpoint user client) h = record { within = h.within; rules_are = h.rules_are; gained = h.gained; place = h.place; op = h.op }

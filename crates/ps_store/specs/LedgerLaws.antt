@@ -11,7 +11,7 @@ use Rattle.ps_rules.specs.RuleSets.{RuleSet, AreRules}
 use Rattle.ps_grant.specs.Latest.{due}
 use Rattle.ps_grant.specs.Sources.{rows_in}
 use Rattle.ps_store.specs.declared.events.Event.{Event}
-use Rattle.ps_store.specs.declared.events.Event.TheVariants.{Feed, Close, Write, Commit}
+use Rattle.ps_store.specs.declared.events.Event.TheVariants.{Feed, Close, Write, Commit, Compact, WriteCheckpoint}
 use Rattle.ps_store.specs.Originals.{timed, original, in_bucket}
 use Rattle.ps_store.specs.Standing.{Holding, HoldsStanding}
 use Rattle.ps_store.specs.Steps.{StepsRise}
@@ -29,6 +29,8 @@ fed_in (Feed t ∷ history) = t ∷ fed_in history
 fed_in (Close ∷ history) = fed_in history
 fed_in (Write n ∷ history) = fed_in history
 fed_in (Commit ∷ history) = fed_in history
+fed_in (Compact bucket ∷ history) = fed_in history
+fed_in (WriteCheckpoint user client ∷ history) = fed_in history
 
 -- a history has a Close, and a Commit
 abbrev pub has_close : List Event → Bool
@@ -37,6 +39,8 @@ has_close (Feed t ∷ history) = has_close history
 has_close (Close ∷ history) = true
 has_close (Write n ∷ history) = has_close history
 has_close (Commit ∷ history) = has_close history
+has_close (Compact bucket ∷ history) = has_close history
+has_close (WriteCheckpoint user client ∷ history) = has_close history
 
 abbrev pub has_commit : List Event → Bool
 has_commit [] = false
@@ -44,6 +48,8 @@ has_commit (Feed t ∷ history) = has_commit history
 has_commit (Close ∷ history) = has_commit history
 has_commit (Write n ∷ history) = has_commit history
 has_commit (Commit ∷ history) = true
+has_commit (Compact bucket ∷ history) = has_commit history
+has_commit (WriteCheckpoint user client ∷ history) = has_commit history
 
 -- what is fed is the transactions of the Feeds, and it is closed where there is a Close
 pub record TellsFeeds (history : List Event) (l : Ledger) : Type 0 where

@@ -1,15 +1,18 @@
 -- A history, and what is known of it: one fold.
-use Rattle.std.specs.Prelude.{◌≡◌, ℕ, suc, ◌+◌, ◌-◌, ◌≤◌, ◌<◌, Bool, true, false, if◌then◌else◌, List, [], ◌∷◌, ◌++◌, length, take, drop, fold, max, nat_le, nat_lt, Option, Some, None}
+use Rattle.std.specs.Prelude.{◌≡◌, ℕ, ◌+◌, ◌-◌, ◌≤◌, ◌<◌, Bool, true, false, if◌then◌else◌, List, [], ◌∷◌, ◌++◌, length, take, drop, fold, max, nat_le, bytes_eq, ◌≢◌, Option}
+use Rattle.ps_values.specs.declared.ids.Position.{Position}
 use Rattle.ps_bucket_log.specs.declared.ops.Op.{Op}
+use Rattle.ps_compact.specs.Compaction.{compacted}
+use Rattle.ps_write_cp.specs.Numbers.{Made, heads_of, covered}
 use Rattle.ps_changes.specs.declared.changes.Transaction.{Transaction}
-use Rattle.ps_changes.specs.Source.{Key, Source}
+use Rattle.ps_changes.specs.Source.{Source}
 use Rattle.ps_rules.specs.RuleSets.{RuleSet}
 use Rattle.ps_bucket_eval.specs.declared.placed.Placed.{Placed}
 use Rattle.ps_store.specs.declared.events.Event.{Event}
-use Rattle.ps_store.specs.declared.events.Event.TheVariants.{Feed, Close, Write, Commit}
+use Rattle.ps_store.specs.declared.events.Event.TheVariants.{Feed, Close, Write, Commit, Compact, WriteCheckpoint}
 use Rattle.ps_store.specs.declared.reach.End.{End}
 use Rattle.ps_store.specs.Limits.{greatest}
-use Rattle.ps_store.specs.Originals.{Entered, Timed, timed_from, timed, key_of, after, entries_at, standing_entries, change_ops, in_bucket}
+use Rattle.ps_store.specs.Originals.{Entered, Timed, timed_from, timed, key_of, after, entries_at, change_ops, in_bucket}
 use Rattle.ps_store.specs.Reach.{Reached, settled}
 use Rattle.ps_store.specs.Steps.{Step}
 
@@ -42,9 +45,12 @@ pub record Ledger : Type 0 where
   pub op : ℕ
   -- the generation in force
   pub force : Lane
-  -- all original operations in the order of their ids, and the log of each bucket
+  -- all original operations in the order of their ids, the log of each bucket, and the op at its last compaction, 0 where none was
   pub entered : List Entered
   pub log : List ℕ → List Op
+  pub level : List ℕ → ℕ
+  -- the write checkpoints, each with the head at which it was made
+  pub numbers : List Made
 
 abbrev pub fresh : RuleSet → Ledger
 fresh rules = record {
@@ -59,6 +65,8 @@ fresh rules = record {
   force = record { number = 1; rules = rules; steps = []; source = [] };
   entered = [];
   log = λ bucket. [];
+  level = λ bucket. 0;
+  numbers = [];
 }
 
 -- the position of the last fed transaction, 0 where none
@@ -103,14 +111,38 @@ write_next l t = record l {
 abbrev pub end_of : Transaction → End
 end_of t = record { position = t.position; changes = length t.changes }
 
+-- the logs and the levels after a bucket's compaction at a level
+abbrev pub compacted_in : List ℕ → ℕ → (List ℕ → List Op) → List ℕ → List Op
+compacted_in bucket level log other = if bytes_eq other bucket then compacted level (log other) else log other
+
+abbrev pub level_in : List ℕ → ℕ → (List ℕ → ℕ) → List ℕ → ℕ
+level_in bucket level levels other = if bytes_eq other bucket then level else levels other
+
+-- the write checkpoint of a user's client that is made now
+abbrev pub made_by : List ℕ → List ℕ → List Transaction → Made
+made_by user client fed = record { user = user; client = client; head = record { 0 = head_of fed } }
+
 abbrev pub ledger_after : Ledger → Event → Ledger
 ledger_after l (Feed t) = record l { fed = l.fed ++ t ∷ []; reach = settled l.last (record l.reach { left = l.reach.left ++ end_of t ∷ [] }) }
 ledger_after l Close = record l { closed = true }
 ledger_after l (Write n) = fold write_next l (take n (unwritten l))
 ledger_after l Commit = record l { position = l.reach.position; op = l.reach.op }
+ledger_after l (Compact bucket) = record l { log = compacted_in bucket l.op l.log; level = level_in bucket l.op l.level }
+ledger_after l (WriteCheckpoint user client) = record l { numbers = l.numbers ++ made_by user client l.fed ∷ [] }
 
 abbrev pub ledger_of : RuleSet → List Event → Ledger
 ledger_of rules history = fold ledger_after (fresh rules) history
+
+-- the head of each number of a user's client; its last number, 0 where it has none
+abbrev pub heads_in : Ledger → List ℕ → List ℕ → List Position
+heads_in l user client = heads_of user client l.numbers
+
+abbrev pub last_number : Ledger → List ℕ → List ℕ → ℕ
+last_number l user client = length (heads_in l user client)
+
+-- the greatest number of a user's client whose head is at most a position
+abbrev pub covered_in : Ledger → List ℕ → List ℕ → ℕ → Option ℕ
+covered_in l user client position = covered position (heads_in l user client)
 
 -- an event may come
 abbrev pub CanCome : Ledger → Event → Type 0
@@ -118,6 +150,8 @@ CanCome l (Feed t) = (l.closed ≡ false) × (head_of l.fed < t.position.0) × (
 CanCome l Close = Unit {0}
 CanCome l (Write n) = (1 ≤ n) × (n ≤ length (unwritten l)) × ((ledger_after l (Write n)).last ≤ greatest)
 CanCome l Commit = l.position < l.reach.position
+CanCome l (Compact bucket) = in_bucket bucket l.entered ≢ []
+CanCome l (WriteCheckpoint user client) = last_number l user client < greatest
 
 abbrev pub IsLegalFrom : Ledger → List Event → Type 0
 IsLegalFrom l [] = Unit {0}

@@ -16,7 +16,14 @@ pub mod Runs
 pub mod StoreLogs
 pub mod Rows
 pub mod Tails
+pub mod Totals
 pub mod Plans
 pub mod Stores
+pub mod Readings
 pub mod Histories
 pub mod LedgerLaws
+pub mod TotalsLaws
+pub mod LogLaws
+pub mod Courses
+pub mod CourseLaws
+pub mod Sharing

@@ -1,13 +1,22 @@
 -- The store stands for a history.
-use Rattle.std.specs.Prelude.{◌≡◌, ℕ, ◌+◌, ◌*◌, ◌^◌, ◌≤◌, ◌<◌, ◌⊎◌, Bool, true, false, List, [], ◌∷◌, ◌++◌, length, take, drop, map, Option, Some, None, Result, Ok, Err}
-use Rattle.std.specs.List.{AllByRecursion}
+use Rattle.std.specs.Prelude.{◌≡◌, ◌≢◌, ℕ, ◌+◌, ◌*◌, ◌^◌, ◌≤◌, ◌<◌, ◌⊎◌, true, false, List, [], ◌∷◌, ◌++◌, length, take, drop, Option, Some, None, Result, Ok, Err}
 use Rattle.std.specs.FinMap.Entries.{find}
 use Rattle.ps_bucket_log.specs.Logs.{IsRising}
 use Rattle.ps_bucket_log.specs.Ops.{newest}
+use Rattle.ps_values.specs.declared.ids.Position.{Position}
+use Rattle.ps_changes.specs.declared.changes.Change.{Change}
 use Rattle.ps_changes.specs.declared.changes.Transaction.{Transaction}
 use Rattle.ps_changes.specs.Source.{Key, key_cmp}
 use Rattle.ps_params.specs.Indexes.{Index}
 use Rattle.ps_params.specs.Notes.{SameFrom}
+use Rattle.ps_compact.specs.declared.reports.Report.{Report}
+use Rattle.ps_compact.specs.Compaction.{report_of}
+use Rattle.ps_store.specs.declared.faults.CompactFault.{CompactFault}
+use Rattle.ps_store.specs.declared.faults.CompactFault.TheVariants as compacting
+use Rattle.ps_write_cp.specs.declared.faults.NumberFault.{NumberFault}
+use Rattle.ps_write_cp.specs.declared.faults.NumberFault.TheVariants as numbering
+use Rattle.ps_write_cp.specs.Kept.{Kept, StandsFor}
+use Rattle.ps_write_cp.specs.Numbers.{Made}
 use Rattle.ps_store.specs.declared.faults.FeedFault.{FeedFault}
 use Rattle.ps_store.specs.declared.faults.FeedFault.TheVariants as feeding
 use Rattle.ps_store.specs.declared.faults.NothingToCommit.{NothingToCommit}
@@ -16,21 +25,22 @@ use Rattle.ps_store.specs.declared.faults.WriteFault.TheVariants as writing
 use Rattle.ps_store.specs.declared.fixed.Fixed.{Fixed}
 use Rattle.ps_store.specs.declared.fixed.Limits.{Limits}
 use Rattle.ps_store.specs.declared.events.Event.{Event}
-use Rattle.ps_store.specs.declared.events.Event.TheVariants.{Feed, Close, Write, Commit}
+use Rattle.ps_store.specs.declared.events.Event.TheVariants.{Feed, Write, Commit, Compact, Close, WriteCheckpoint}
 use Rattle.ps_store.specs.declared.plans.Plan.{Plan}
 use Rattle.ps_store.specs.declared.plans.Refusal.{Refusal}
 use Rattle.ps_store.specs.declared.plans.Refusal.TheVariants as refusals
 use Rattle.ps_store.specs.declared.stores.Checkpoint.{Checkpoint}
 use Rattle.ps_store.specs.declared.stores.Store.{Store}
 use Rattle.ps_store.specs.declared.stores.Wrote.{Wrote}
-use Rattle.ps_store.specs.Ledgers.{Ledger, head_of, unwritten, entries_after, next_ops, ledger_of, IsLegal}
+use Rattle.ps_store.specs.Ledgers.{Ledger, head_of, unwritten, entries_after, next_ops, ledger_of, IsLegal, last_number}
 use Rattle.ps_store.specs.Limits.{greatest, AreWithin}
 use Rattle.ps_store.specs.Originals.{Timed, timed, standing_entries, in_bucket}
-use Rattle.ps_store.specs.Reach.{Reached, reached}
+use Rattle.ps_store.specs.Reach.{reached}
 use Rattle.ps_store.specs.Rows.{row_at}
 use Rattle.ps_store.specs.Runs.{Run, run_from}
-use Rattle.ps_store.specs.StoreLogs.{log_at}
+use Rattle.ps_store.specs.StoreLogs.{log_at, has_ops, first_ops}
 use Rattle.ps_store.specs.Tails.{Tied, Ascend, EndsRise, last_end, ids, reach_after, rows_after, notes_after}
+use Rattle.ps_store.specs.Totals.{totals_of, with_changes}
 
 -- ---- what the store stands for
 
@@ -42,6 +52,12 @@ pub record IndexStands (index : Index) (l : Ledger) : Type 0 where
   pub notes : SameFrom l.position (notes_after l.force.rules.definitions [] (take l.written (timed l.fed))) index.notes
   pub ascend : Ascend index.last (unwritten l) (head_of l.fed)
 
+-- the numbers are those of the write checkpoints that were made, under a greatest number, and none was made past the head
+pub record NumbersStand (top : ℕ) (kept : Kept) (made : List Made) (head : ℕ) : Type 0 where
+  pub made_are : StandsFor kept made
+  pub top_is : kept.top ≡ top
+  pub behind : kept.head ≤ head
+
 -- what holds of the ledger of each history
 pub record IsKept (limits : Limits) (l : Ledger) : Type 0 where
   pub within : l.written ≤ length (timed l.fed)
@@ -49,6 +65,13 @@ pub record IsKept (limits : Limits) (l : Ledger) : Type 0 where
   pub ends_rise : EndsRise l.reach.position l.reach.left
   pub last_is_head : last_end l.reach.position l.reach.left ≡ head_of l.fed
   pub checkpoint : l.position ≤ l.reach.position
+  -- there are no more transactions than positions, nor more changes than that many times those that one may have
+  pub heads : length l.fed ≤ head_of l.fed
+  pub low : head_of l.fed ≤ greatest
+  pub sized : length (timed l.fed) ≤ length l.fed * 2 ^ 64
+  pub entered : length l.entered ≤ l.last
+  -- a bucket has an operation where it ever had one
+  pub filled : (bucket : List ℕ) → has_ops (l.log bucket) ≡ has_ops (in_bucket bucket l.entered)
   pub rising : (bucket : List ℕ) → IsRising 0 (l.log bucket)
   pub newest : (bucket : List ℕ) → newest (l.log bucket) ≤ l.last
   pub last : l.last ≤ limits.ops
@@ -62,10 +85,12 @@ pub record Stands (store : Store) (l : Ledger) : Type 0 where
   pub rows : (key : Key) → row_at store.rows key ≡ find key_cmp key l.force.source
   pub index : IndexStands store.index l
   pub last : store.last.0 ≡ l.last
+  pub totals : store.totals ≡ totals_of l
   pub position : store.checkpoint.position.0 ≡ l.position
   pub op : store.checkpoint.op.0 ≡ l.op
   pub head : store.head.0 ≡ head_of l.fed
   pub closed : store.closed ≡ l.closed
+  pub numbers : NumbersStand store.fixed.limits.numbers store.numbers l.numbers (head_of l.fed)
   pub kept : IsKept store.fixed.limits l
 
 -- the store stands for a history that is legal, under its first rules and its limits
@@ -88,9 +113,11 @@ pub record IsSame (old new : Store) : Type 0 where
   pub index_forgotten : new.index.forgotten ≡ old.index.forgotten
   pub index_notes : SameFrom old.index.forgotten old.index.notes new.index.notes
   pub last : new.last ≡ old.last
+  pub totals : new.totals ≡ old.totals
   pub checkpoint : new.checkpoint ≡ old.checkpoint
   pub head : new.head ≡ old.head
   pub closed : new.closed ≡ old.closed
+  pub numbers : new.numbers ≡ old.numbers
 
 -- a plan is written
 pub record IsFilled (old : Store) (plan : Plan) (new : Store) : Type 0 where
@@ -105,9 +132,11 @@ pub record IsFilled (old : Store) (plan : Plan) (new : Store) : Type 0 where
   pub index_notes : new.index.notes ≡ notes_after old.index.rules.definitions old.index.notes (take (length plan.made.items) old.tail.changes.items)
   pub index_ascend : (head : ℕ) → Ascend old.index.last old.tail.changes.items head → Ascend new.index.last new.tail.changes.items head
   pub last : new.last ≡ plan.last
+  pub totals : new.totals ≡ with_changes old.totals (length plan.made.items) (first_ops (log_at old.logs) plan.entered.items) plan.entered.items
   pub checkpoint : new.checkpoint ≡ old.checkpoint
   pub head : new.head ≡ old.head
   pub closed : new.closed ≡ old.closed
+  pub numbers : new.numbers ≡ old.numbers
 
 -- the row of the next change has more entries than one may have, or memory is wanting to name it
 abbrev pub IsTooWide : Store → ℕ → WriteFault → Type 0
@@ -130,7 +159,21 @@ Feeds fixed history t new (Err feeding.FeedClosed) = ((ledger_of fixed.rules his
 Feeds fixed history t new (Err (feeding.NotRising last given)) =
     ((ledger_of fixed.rules history).closed ≡ false) × (t.position.0 ≤ head_of (ledger_of fixed.rules history).fed)
     × (last.0 ≡ head_of (ledger_of fixed.rules history).fed) × (given ≡ t.position) × StoreStandsFor fixed new history
+Feeds fixed history t new (Err (feeding.PositionFull head)) = ⊥
 Feeds fixed history t new (Err feeding.Memory) = StoreStandsFor fixed new history
+
+-- changes were fed at the position after the head, or why they were not
+abbrev pub Uploads : Fixed → List Event → List Change → Store → Result Position FeedFault → Type 0
+Uploads fixed history changes new (Ok position) =
+    (head_of (ledger_of fixed.rules history).fed < fixed.limits.positions) × (position.0 ≡ head_of (ledger_of fixed.rules history).fed + 1)
+    × StoreStandsFor fixed new (history ++ Feed (record { position = position; changes = changes }) ∷ [])
+Uploads fixed history changes new (Err feeding.FeedClosed) = ((ledger_of fixed.rules history).closed ≡ true) × StoreStandsFor fixed new history
+Uploads fixed history changes new (Err (feeding.NotRising last given)) = ⊥
+Uploads fixed history changes new (Err (feeding.PositionFull head)) =
+    ((ledger_of fixed.rules history).closed ≡ false) × (fixed.limits.positions ≤ head_of (ledger_of fixed.rules history).fed)
+    × (head.0 ≡ head_of (ledger_of fixed.rules history).fed) × StoreStandsFor fixed new history
+Uploads fixed history changes new (Err feeding.Memory) =
+    ((ledger_of fixed.rules history).closed ≡ false) × (head_of (ledger_of fixed.rules history).fed < fixed.limits.positions) × StoreStandsFor fixed new history
 
 -- why no change is written
 abbrev pub IsRefused : Limits → Ledger → WriteFault → Type 0
@@ -155,9 +198,27 @@ Writes fixed history limit new (Ok wrote) =
     × StoreStandsFor fixed new (history ++ Write wrote.changes ∷ [])
 Writes fixed history limit new (Err fault) = IsRefused fixed.limits (ledger_of fixed.rules history) fault × StoreStandsFor fixed new history
 
+-- a bucket's log was compacted at the checkpoint's op, or why it was not
+abbrev pub Compacts : Fixed → List Event → List ℕ → Store → Result Report CompactFault → Type 0
+Compacts fixed history bucket new (Ok report) =
+    (report ≡ report_of (ledger_of fixed.rules history).op ((ledger_of fixed.rules history).log bucket))
+    × StoreStandsFor fixed new (history ++ Compact bucket ∷ [])
+Compacts fixed history bucket new (Err compacting.NoBucket) = (in_bucket bucket (ledger_of fixed.rules history).entered ≡ []) × StoreStandsFor fixed new history
+Compacts fixed history bucket new (Err compacting.Memory) = (in_bucket bucket (ledger_of fixed.rules history).entered ≢ []) × StoreStandsFor fixed new history
+
 -- what was reached is the checkpoint, or was before
 abbrev pub Commits : Fixed → List Event → Store → Result Checkpoint NothingToCommit → Type 0
 Commits fixed history new (Ok checkpoint) =
     (checkpoint.position.0 ≡ (ledger_of fixed.rules history).reach.position) × (checkpoint.op.0 ≡ (ledger_of fixed.rules history).reach.op)
     × StoreStandsFor fixed new (history ++ Commit ∷ [])
 Commits fixed history new (Err nothing) = ((ledger_of fixed.rules history).reach.position ≡ (ledger_of fixed.rules history).position) × StoreStandsFor fixed new history
+
+-- a user's client got its next number, at the head, or why it did not
+abbrev pub MakesNumber : Fixed → List Event → List ℕ → List ℕ → Store → Result ℕ NumberFault → Type 0
+MakesNumber fixed history user client new (Ok number) =
+    (number ≡ last_number (ledger_of fixed.rules history) user client + 1) × (last_number (ledger_of fixed.rules history) user client < fixed.limits.numbers)
+    × StoreStandsFor fixed new (history ++ WriteCheckpoint user client ∷ [])
+MakesNumber fixed history user client new (Err (numbering.NumberFull last)) =
+    (last ≡ last_number (ledger_of fixed.rules history) user client) × (last ≡ fixed.limits.numbers) × StoreStandsFor fixed new history
+MakesNumber fixed history user client new (Err numbering.Memory) =
+    (last_number (ledger_of fixed.rules history) user client < fixed.limits.numbers) × StoreStandsFor fixed new history

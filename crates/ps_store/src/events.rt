@@ -1,4 +1,5 @@
 use ps_changes::Transaction;
+use ps_values::Text;
 
 /// One accepted changing call of a store. A history is a list of them.
 #[derive(Debug, Drop)]
@@ -11,4 +12,16 @@ pub enum Event {
     Write(u32),
     /// What is reached becomes the checkpoint.
     Commit,
+    /// The log of a bucket is compacted, at the checkpoint's op.
+    Compact {
+        /// The bucket's name.
+        bucket: Text,
+    },
+    /// A client of a user gets its next number, at the head of what is fed.
+    WriteCheckpoint {
+        /// The user.
+        user: Text,
+        /// Its client.
+        client: Text,
+    },
 }

@@ -1,6 +1,6 @@
 use ps_values::{Memory, OpId, Position, Text};
 
-/// Why a transaction was not fed.
+/// Why a transaction or an upload was not fed.
 #[derive(Debug, Drop)]
 pub enum FeedFault {
     /// The feed is closed.
@@ -11,6 +11,11 @@ pub enum FeedFault {
         last: Position,
         /// The position that was given.
         given: Position,
+    },
+    /// The position after the head would be past the store's limit. Only uploads are refused so.
+    PositionFull {
+        /// The position of the last fed transaction, 0 where none.
+        head: Position,
     },
     /// Want of memory.
     Memory,
@@ -58,6 +63,26 @@ impl From<Memory> for WriteFault {
 
     fn from(_refused: Memory) -> WriteFault {
         WriteFault::Memory
+    }
+}
+
+/// Why a bucket was not compacted.
+#[derive(Clone, Copy, Debug, PartialEq, Eq)]
+pub enum CompactFault {
+    /// The bucket never had an operation.
+    NoBucket,
+    /// Want of memory.
+    Memory,
+}
+
+impl From<Memory> for CompactFault {
+    ghost use Rattle.std.specs.Prelude.{◌≡◌};
+    ghost use Rattle.ps_store.specs.declared.faults.CompactFault.TheVariants as faults;
+
+    ghost from_gives = { λ _ fault. fault ≡ faults.Memory };
+
+    fn from(_refused: Memory) -> CompactFault {
+        CompactFault::Memory
     }
 }
 

@@ -3,10 +3,20 @@
 ghost use Rattle.ps_store.specs.Laws.{ReadersHoldStanding, LatestRowsAreDue};
 ghost use Rattle.ps_store.specs.StepLaws.{ReadersHoldStepped, LatestRowsAreGranted, StepsLeadToSources};
 ghost use Rattle.ps_store.specs.Histories.{LedgersTellHistories};
+ghost use Rattle.ps_store.specs.CourseLaws.{CoursesAreLawful, PlacesStay, EndsAreWhole, UploadsAreCovered, CoveredNumbersAreLow, UploadsAreFed};
 ghost use Rattle.ps_store.specs.LedgerLaws.{LedgersTellFeeds, CheckpointsBegin, CheckpointsAreReached, LedgersTellOps, ReadersHoldCommitted, CommittedRowsAreDue};
+ghost use Rattle.ps_store.specs.TotalsLaws.{TotalsTell, BucketNamesTell, CompactionKeepsTotals};
+ghost use Rattle.ps_store.specs.LogLaws.{LogsStand};
 
 use ps_bucket_eval::{entries_stand_where_conditions_hold, names_are_distinct};
+use ps_bucket_log::{
+    batches_are_the_log, batches_keep_readers_honest, honest_readers_stay_honest,
+    readers_are_whole_at_the_newest, standing_logs_have_the_sums_of_their_originals,
+    standing_logs_stay_standing, totals_are_sums, what_is_written_later_adds_nothing,
+};
+use ps_compact::compacted_logs_stand;
 use ps_sql::same_for_every_asker;
+use ps_write_cp::{covered_is_the_greatest, covers_all_before};
 
 /// A law: what the readers of a lane's buckets hold, once they took the original operations of its steps, is the entries of
 /// the rows that the steps leave, and the ids of their PUTs rise with the moments of the rows and then with the queries'
@@ -72,6 +82,23 @@ pub fn ledgers_tell_ops()
     ensures { LedgersTellOps }
 {}
 
+/// A law: totals are the numbers of a history's Feeds, of the changes that it writes, of their original operations and of the buckets of
+/// these, and their sum; the names are those of these buckets, in byte order. A compaction changes none of them.
+pub fn totals_tell_histories()
+    ensures totals { TotalsTell }
+    ensures names { BucketNamesTell }
+    ensures compaction { CompactionKeepsTotals }
+{}
+
+/// A law: whatever is fed, written, committed and compacted, the log of each bucket stands for its original operations, at the op of its
+/// last compaction, which is at most the checkpoint's.
+pub fn logs_stand_for_originals()
+    ensures { LogsStand }
+{
+    standing_logs_stay_standing();
+    compacted_logs_stand();
+}
+
 /// A law: what readers hold that took all original operations up to a checkpoint's op is the entries of the rows that stand in
 /// the source at its position, and the ids of their PUTs rise with the moments of the rows and then with the queries' numbers.
 pub fn readers_hold_what_is_committed()
@@ -86,4 +113,46 @@ pub fn committed_rows_are_due()
     ensures { CommittedRowsAreDue }
 {
     latest_rows_are_granted();
+}
+
+/// A law: what one asker reads at the places of a legal history is lawful. Who is honest stays so while the history grows and
+/// over each batch, and up to an id over a batch whose target is not past it; who has reached the newest operation up to the
+/// checkpoint's op holds what the originals hold there. Checkpoints do not fall, and what a take names is read on or passed by.
+/// A take tells the sums and the newest ids of the originals; who holds what these make of the taken buckets, and nothing
+/// else, shows the rows that are due. A take covers what was uploaded before the write checkpoint that it names. What was committed stays.
+pub fn courses_are_lawful()
+    ensures { CoursesAreLawful }
+{
+    batches_keep_readers_honest();
+    readers_are_whole_at_the_newest();
+    honest_readers_stay_honest();
+    standing_logs_stay_standing();
+    standing_logs_have_the_sums_of_their_originals();
+    totals_are_sums();
+    batches_are_the_log();
+    what_is_written_later_adds_nothing();
+    compacted_logs_stand();
+    committed_rows_are_due();
+    covered_is_the_greatest();
+    covers_all_before();
+}
+
+/// A law: what comes later in a history changes nothing that is read at a place before it; and what is read at its end is that
+/// of the whole history.
+pub fn places_are_fronts()
+    ensures stay { PlacesStay }
+    ensures whole { EndsAreWhole }
+{}
+
+/// A law: what was fed before a write checkpoint of a client is within the position of each checkpoint that covers its number.
+/// Covered numbers are at most 9223372036854775807.
+pub fn uploads_are_covered()
+    ensures covered { UploadsAreCovered }
+    ensures low { CoveredNumbersAreLow }
+    ensures fed { UploadsAreFed }
+{
+    standing_logs_stay_standing();
+    compacted_logs_stand();
+    covered_is_the_greatest();
+    covers_all_before();
 }

@@ -6,29 +6,36 @@ mod entered;
 mod events;
 mod faults;
 mod fixed;
+mod kept;
 mod laws;
 mod logs;
 mod numbers;
 mod places;
 mod plans;
 mod reach;
+mod readings;
 mod replicas;
 mod rooms;
 mod rows;
 mod stores;
 mod tails;
+mod totals;
 mod waiting;
 
 pub use bucket_logs::BucketLogs;
 pub use entered::Entered;
 pub use events::Event;
-pub use faults::{FeedFault, NothingToCommit, WriteFault};
+pub use faults::{CompactFault, FeedFault, NothingToCommit, WriteFault};
 pub use fixed::{Fixed, Limits};
 pub use laws::{
-    committed_rows_are_due, latest_rows_are_due, latest_rows_are_granted, ledgers_tell_events,
-    ledgers_tell_histories, ledgers_tell_ops, readers_hold_what_is_committed,
-    readers_hold_what_stands, readers_hold_what_steps_leave, steps_lead_to_sources,
+    committed_rows_are_due, courses_are_lawful, latest_rows_are_due, latest_rows_are_granted,
+    ledgers_tell_events, ledgers_tell_histories, ledgers_tell_ops, logs_stand_for_originals,
+    places_are_fronts, readers_hold_what_is_committed, readers_hold_what_stands,
+    readers_hold_what_steps_leave, steps_lead_to_sources, totals_tell_histories,
+    uploads_are_covered,
 };
 pub use numbers::have_numbers;
+pub use readings::{TakeFault, Taken, TakenBucket};
 pub use replicas::{Replica, replicate};
 pub use stores::{Checkpoint, Store, Wrote};
+pub use totals::Totals;

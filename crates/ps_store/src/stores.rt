@@ -1,30 +1,43 @@
 //! The store.
 
-ghost use Rattle.std.specs.Prelude.{◌≡◌, ℕ, ◌+◌, ◌≤◌, ◌<◌, ◌∷◌, ◌++◌, [], take, length, List, OnOk, IfOk, IsSome};
+ghost use Rattle.std.specs.Prelude.{◌≡◌, ℕ, ◌+◌, ◌≤◌, ◌<◌, ◌∷◌, ◌++◌, [], take, length, List, OnOk, IfOk, IsSome, All};
+ghost use Rattle.ps_changes.specs.declared.changes.Change.{Change as ChangeSeen};
 ghost use Rattle.ps_changes.specs.Source.{Key};
+ghost use Rattle.ps_sql_eval.specs.Evaluated.{asker_of};
 ghost use Rattle.ps_store.specs.declared.events.Event.{Event as EventSeen};
 ghost use Rattle.ps_store.specs.declared.events.Event.TheVariants.{Close};
 ghost use Rattle.ps_store.specs.declared.fixed.Fixed.{Fixed as FixedSeen};
 ghost use Rattle.ps_store.specs.Ledgers.{ledger_of, head_of};
 ghost use Rattle.ps_store.specs.Limits.{greatest, AreWithin};
-ghost use Rattle.ps_store.specs.StoreLogs.{HasRoom, Continue, log_at};
+ghost use Rattle.ps_store.specs.Readings.{Takes, batch_of, covered_of};
+ghost use Rattle.ps_store.specs.StoreLogs.{HasRoom, Continue, AreRising, log_at};
 ghost use Rattle.ps_store.specs.Rows.{row_at};
 ghost use Rattle.ps_store.specs.Reach.{reached};
 ghost use Rattle.ps_store.specs.Tails.{Tied, HasPlaces, NotFalling, AreRowsOf};
-ghost use Rattle.ps_store.specs.Stores.{StoreStandsFor, Writes, Feeds, Commits, IsSame, IsFilled, IsTooWide, IsNamed};
+ghost use Rattle.ps_store.specs.Totals.{totals_of, bucket_names_of, HaveRoom};
+ghost use Rattle.ps_store.specs.Stores.{StoreStandsFor, Writes, Feeds, Commits, Compacts, IsSame, IsFilled, IsTooWide, IsNamed, Uploads, MakesNumber};
 
-use crate::faults::{FeedFault, NothingToCommit, WriteFault};
+use crate::faults::{CompactFault, FeedFault, NothingToCommit, WriteFault};
 use crate::fixed::{Fixed, Limits};
+use crate::laws::logs_stand_for_originals;
 use crate::logs::Logs;
 use crate::plans::{Plan, Planned, Refusal, plan_run, tidy_all};
+use crate::readings::{TakeFault, Taken};
 use crate::rooms::rooms_for;
 use crate::rows::Rows;
 use crate::tails::{Tail, advance};
+use crate::totals::{Totals, sum_of};
 use crate::waiting::Waiting;
-use ps_changes::Transaction;
-use ps_params::ParameterIndex;
+use ps_bucket_log::{
+    Batch, standing_logs_have_the_sums_of_their_originals, standing_logs_stay_standing,
+};
+use ps_changes::{Change, Transaction};
+use ps_compact::Report;
+use ps_params::{ParameterIndex, notes_of_changes_are_the_source};
 use ps_rules::Rules;
-use ps_values::{Memory, OpId, Position, Text};
+use ps_sql_eval::Asker;
+use ps_values::{Items, Memory, OpId, Position, Text};
+use ps_write_cp::{NumberFault, WriteCheckpoints};
 use std::alloc::Global;
 use std::collections::VecDeque;
 
@@ -58,9 +71,11 @@ pub struct Store {
     tail: Tail,
     index: ParameterIndex,
     last: OpId,
+    totals: Totals,
     checkpoint: Checkpoint,
     head: Position,
     closed: bool,
+    numbers: WriteCheckpoints,
 }
 
 impl Store {
@@ -77,12 +92,14 @@ impl Store {
             tail: Tail::new(alloc),
             index,
             last: OpId(0),
+            totals: Totals::new(),
             checkpoint: Checkpoint {
                 position: Position(0),
                 op: OpId(0),
             },
             head: Position(0),
             closed: false,
+            numbers: WriteCheckpoints::new(alloc, limits.numbers),
         })
     }
 
@@ -103,9 +120,28 @@ impl Store {
             });
         }
         self.tail.reserve(transaction.changes.len())?;
+        self.totals.feed();
         self.head = transaction.position;
         self.tail.feed(transaction, self.last);
         Ok(())
+    }
+
+    /// Feeds changes as a transaction at the position after the head, and gives that position. The first that applies of `FeedClosed`, and
+    /// `PositionFull` where the head is at the limit of positions or past it. No table is empty. Refused changes are dropped.
+    pub fn upload(&mut self, changes: Items<Change>) -> Result<Position, FeedFault>
+        requires tables { All (λ (change : ChangeSeen). 0 < length change.table) changes }
+        requires stands { (fixed : FixedSeen) × (history : List EventSeen) × StoreStandsFor fixed self.old history }
+        ensures { (fixed : FixedSeen) (history : List EventSeen) → StoreStandsFor fixed self.old history → Uploads fixed history changes self.new result }
+    {
+        if self.closed {
+            return Err(FeedFault::FeedClosed);
+        }
+        if self.fixed.limits.positions <= self.head.0 {
+            return Err(FeedFault::PositionFull { head: self.head });
+        }
+        let position = Position(self.head.0 + 1);
+        self.feed(Transaction { position, changes })?;
+        Ok(position)
     }
 
     /// Nothing more is fed from now on. Takes no memory.
@@ -138,13 +174,19 @@ impl Store {
         requires rows_are { AreRowsOf plan.made.items self.old.tail.changes.items }
         requires notes { length plan.made.items ≤ self.old.index.spare }
         requires rise { NotFalling self.old.index.last self.old.tail.changes.items }
+        requires rising { AreRising (log_at self.old.logs) }
+        requires counts { HaveRoom self.old.totals (length plan.made.items) (length plan.entered.items) }
         ensures { IsFilled self.old plan self.new }
     {
         let last = plan.last();
         let (seen, entered, made) = plan.into_parts();
-        self.logs.fill(entered);
+        let changes = made.len();
+        let operations = entered.len();
+        let sum = sum_of(entered.as_slice());
+        let first = self.logs.fill(entered);
         advance(&mut self.tail, &mut self.rows, &mut self.index, made);
         tidy_all(&mut self.rows, &seen);
+        self.totals.write(changes, operations, first, sum);
         self.last = last;
     }
 
@@ -232,6 +274,93 @@ impl Store {
         Ok(self.checkpoint)
     }
 
+    /// Compacts the log of a bucket at the checkpoint's op. `NoBucket` exactly where the bucket never had an operation, before
+    /// any memory is taken. After an error the store stands for the same history.
+    pub fn compact(&mut self, alloc: Global, bucket: &Text) -> Result<Report, CompactFault>
+        ensures { (fixed : FixedSeen) (history : List EventSeen) → StoreStandsFor fixed self.old history → Compacts fixed history bucket.now self.new result }
+    {
+        if self.log_length(bucket) == 0 {
+            return Err(CompactFault::NoBucket);
+        }
+        logs_stand_for_originals();
+        standing_logs_stay_standing();
+        standing_logs_have_the_sums_of_their_originals();
+        let report = self.logs.compact(alloc, bucket, self.checkpoint.op)?;
+        Ok(report)
+    }
+
+    // The greatest number of a write checkpoint of the asker's client that the checkpoint covers.
+    fn covered(&self, asker: &Asker) -> Option<u64>
+        ensures { (fixed : FixedSeen) (history : List EventSeen) → StoreStandsFor fixed self.now history → result ≡ covered_of (ledger_of fixed.rules history) (asker_of asker.now) }
+    {
+        match &asker.client {
+            Some(client) => {
+                self.numbers
+                    .covered(&asker.user, client, self.checkpoint.position)
+            }
+            None => None,
+        }
+    }
+
+    /// The checkpoint as it is for an asker: of each bucket that the asker has at its position what the log has up to its op.
+    /// What is written and not committed is not seen. It carries the number of the client's last write checkpoint that its
+    /// position covers, none where there is none. `TooManyBuckets` exactly where the asker has more buckets than the
+    /// limit. It takes time in the logs of the asker's buckets alone.
+    pub fn take(&self, alloc: Global, asker: &Asker) -> Result<Taken, TakeFault>
+        requires { (fixed : FixedSeen) × (history : List EventSeen) × StoreStandsFor fixed self.now history }
+        ensures { (fixed : FixedSeen) (history : List EventSeen) → StoreStandsFor fixed self.now history → Takes fixed history (asker_of asker.now) result }
+    {
+        notes_of_changes_are_the_source();
+        let names = self
+            .index
+            .rows_for(alloc, &self.fixed.rules, asker, self.checkpoint.position)?;
+        let count = names.len();
+        if count > self.fixed.limits.buckets as usize {
+            return Err(TakeFault::TooManyBuckets {
+                count: count as u64,
+            });
+        }
+        let number = self.covered(asker);
+        let buckets = self.logs.buckets(alloc, names, self.checkpoint.op)?;
+        Ok(Taken {
+            position: self.checkpoint.position,
+            head: self.head,
+            closed: self.closed,
+            last_op: self.checkpoint.op,
+            number,
+            buckets,
+        })
+    }
+
+    /// The next operations of a bucket with ids past `after` and up to `upto`, as many as one batch may have; an empty batch
+    /// for a bucket that is not there.
+    pub fn read_batch(
+        &self,
+        alloc: Global,
+        bucket: &Text,
+        after: OpId,
+        upto: OpId,
+    ) -> Result<Batch, Memory>
+        ensures { (fixed : FixedSeen) (history : List EventSeen) → StoreStandsFor fixed self.now history
+            → IfOk result (λ batch. batch ≡ batch_of (ledger_of fixed.rules history) bucket.now after.0 upto.0) }
+    {
+        self.logs.read(alloc, bucket, after, upto)
+    }
+
+    /// Makes a write checkpoint of a user's client at the position of the last fed transaction, 0 where none, and gives its number: one more
+    /// than the client's last one, first 1. `NumberFull` exactly where the last one is the limit of numbers, and before any want of memory.
+    pub fn write_checkpoint(
+        &mut self,
+        alloc: Global,
+        user: &Text,
+        client: &Text,
+    ) -> Result<u64, NumberFault>
+        requires { (fixed : FixedSeen) × (history : List EventSeen) × StoreStandsFor fixed self.old history }
+        ensures { (fixed : FixedSeen) (history : List EventSeen) → StoreStandsFor fixed self.old history → MakesNumber fixed history user.now client.now self.new result }
+    {
+        self.numbers.make(alloc, user, client, self.head)
+    }
+
     /// The checkpoint.
     pub fn checkpoint(&self) -> Checkpoint
         ensures position { (fixed : FixedSeen) (history : List EventSeen) → StoreStandsFor fixed self.now history → result.position.0 ≡ (ledger_of fixed.rules history).position }
@@ -252,6 +381,21 @@ impl Store {
         ensures { (fixed : FixedSeen) (history : List EventSeen) → StoreStandsFor fixed self.now history → result ≡ (ledger_of fixed.rules history).closed }
     {
         self.closed
+    }
+
+    /// What was fed and written, and all operations that were ever made. Compaction changes nothing of it.
+    pub fn totals(&self) -> Totals
+        ensures { (fixed : FixedSeen) (history : List EventSeen) → StoreStandsFor fixed self.now history → result ≡ totals_of (ledger_of fixed.rules history) }
+    {
+        self.totals
+    }
+
+    /// The names of the buckets that ever had an operation, in byte order.
+    pub fn bucket_names(&self, alloc: Global) -> Result<Items<Text>, Memory>
+        ensures { IfOk result (λ names. (fixed : FixedSeen) (history : List EventSeen) → StoreStandsFor fixed self.now history → names ≡ bucket_names_of (ledger_of fixed.rules history)) }
+    {
+        let names = self.logs.names(alloc, self.last)?;
+        Ok(names)
     }
 
     /// How many operations the log of a bucket has now, 0 where there is none.

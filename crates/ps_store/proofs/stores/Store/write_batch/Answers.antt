@@ -1,9 +1,8 @@
-use Rattle.std.proofs.Common.{◌≡◌, ℕ, ◌≤◌, List, refl, ◌∙◌, length, arith}
-use Rattle.ps_store.specs.declared.plans.Planned.{Planned}
+use Rattle.std.proofs.Common.{◌≡◌, ◌≤◌, refl, ◌∙◌, length, arith}
 use Rattle.ps_store.specs.declared.stores.Store.{Store}
 use Rattle.ps_store.specs.declared.stores.Wrote.{Wrote}
 use Rattle.ps_store.specs.Stores.{IsSame}
-use Rattle.ps_store.proofs.Batching.{there, refused, wants, counts_low, ops_are_low, fill_newer, fill_count, fill_rows, fill_rise, done}
+use Rattle.ps_store.proofs.Batching.{there, refused, wants, counts_low, ops_are_low, fill_newer, fill_count, fill_rows, fill_rise, fill_rising, fill_counts, done}
 use Rattle.ps_store.proofs.stores.Store.write_batch.Goals as goal
 
 pub refused-requires : goal.refused-requires
@@ -29,9 +28,11 @@ returns-then-is_err c = λ fixed history h.
       index_forgotten = same.index_forgotten;
       index_notes = same.index_notes;
       last = same.last;
+      totals = same.totals;
       checkpoint = same.checkpoint;
       head = same.head;
       closed = same.closed;
+      numbers = same.numbers;
     } in
     (tt, wants fixed c.args.self.now history h c.args.limit c.in_ok-planned.planned c.in_ok-planned.ensures new tidied)
 
@@ -62,6 +63,14 @@ fill-requires-clause-rows_are c =
 pub fill-requires-clause-rise : goal.fill-requires-clause-rise
 fill-requires-clause-rise c =
     fill_rise c.requires.stands.0 c.args.self.now c.requires.stands.1 c.requires.stands.2 c.args.limit c.in_ok-planned.planned c.in_ok-planned.ensures c.grow.new.self c.grow.ensures.same
+
+pub fill-requires-clause-rising : goal.fill-requires-clause-rising
+fill-requires-clause-rising c =
+    fill_rising c.requires.stands.0 c.args.self.now c.requires.stands.1 c.requires.stands.2 c.args.limit c.in_ok-planned.planned c.in_ok-planned.ensures c.grow.new.self c.grow.ensures.same
+
+pub fill-requires-clause-counts : goal.fill-requires-clause-counts
+fill-requires-clause-counts c =
+    fill_counts c.requires.stands.0 c.args.self.now c.requires.stands.1 c.requires.stands.2 c.args.limit c.in_ok-planned.planned c.in_ok-planned.ensures c.grow.new.self c.grow.ensures.same
 
 pub returns : goal.returns
 returns c = λ fixed history h.

@@ -1,0 +1,383 @@
+-- What is read at the places of a legal history is lawful.
+use Rattle.std.proofs.Common.{◌≡◌, ◌≢◌, ℕ, zero, suc, ◌+◌, ◌-◌, ◌≤◌, ◌<◌, Bool, true, false, Option, Some, None, List, [], ◌∷◌, ◌++◌, refl, sym, ap, ◌∙◌, subst, length, map, flat_map, take, fold, arith, append_assoc, inl, inr}
+use Rattle.std.specs.Prelude.{bytes_eq, nat_le, if◌then◌else◌, is_some, IfSome, Contains, slice_get}
+use Rattle.std.specs.List.{AllByRecursion}
+use Rattle.std.proofs.lemmas.Bool.{and_from}
+use Rattle.std.proofs.lemmas.List.Sums.{fold-append}
+use Rattle.std.specs.List.Sorted.{IsStrictlySortedBy}
+use Rattle.std.specs.Ordering.{nat_cmp}
+use Rattle.std.specs.Cmp.Lexicographic.{slice_cmp}
+use Rattle.std.specs.declared.cmp.Ordering.TheVariants.{Less}
+use Rattle.std.proofs.lemmas.Slice.Eq.{bytes_eq-Decides}
+use Rattle.ps_values.specs.declared.ids.Position.{Position}
+use Rattle.ps_bucket_log.specs.declared.ops.Key.{Key}
+use Rattle.ps_bucket_log.specs.declared.ops.Op.{Op}
+use Rattle.ps_compact.specs.Laws.{CompactedStands}
+use Rattle.ps_bucket_log.specs.Laws.{GrowsLater, StandsLater, StandsForItself}
+use Rattle.ps_changes.specs.declared.changes.Transaction.{Transaction}
+use Rattle.ps_write_cp.specs.Kept.{Rises}
+use Rattle.ps_write_cp.specs.Laws.{HasHead, IsGreatestReached, CoveredIsGreatest, CoversAllBefore}
+use Rattle.ps_write_cp.specs.Numbers.{Made, is_of, covered}
+use Rattle.ps_sql.specs.Meaning.{Asker}
+use Rattle.ps_rules.specs.declared.definitions.Definition.{Definition}
+use Rattle.ps_rules.specs.RuleSets.{RuleSet, AreRules, IsSound as IsSoundDefinition}
+use Rattle.ps_rules.specs.Vectors.{SourceRow, parameter_vectors}
+use Rattle.ps_grant.specs.Sources.{rows_in}
+use Rattle.ps_bucket_eval.specs.Buckets.{bucket_name_of}
+use Rattle.ps_params.specs.Names.{definition_names, bucket_names, IsTold, AreTold}
+use Rattle.ps_store.specs.declared.events.Event.{Event}
+use Rattle.ps_store.specs.declared.events.Event.TheVariants.{WriteCheckpoint}
+use Rattle.ps_store.specs.declared.readings.TakenBucket.{TakenBucket}
+use Rattle.ps_store.specs.CourseLaws.{IsLawful, AreApart, HoldsTaken, PlacesStay, EndsAreWhole}
+use Rattle.ps_store.specs.Courses.{Course, Upload, ledger_at, course_of, upload_of, uploads_from, uploads_of, bucket_in, is_in}
+use Rattle.ps_store.specs.Laws.{Rises as RisesFrom, HaveNumbers, AreSqlVectors, IsBucketOf}
+use Rattle.ps_store.specs.Ledgers.{Ledger, fresh, head_of, heads_in, last_number, made_by, ledger_after, ledger_of, IsLegalFrom, IsLegal}
+use Rattle.ps_store.specs.Limits.{greatest}
+use Rattle.ps_store.specs.LedgerLaws.{checkpoint_held, checkpoint_source, CommittedRowsAreDue}
+use Rattle.ps_store.specs.Readings.{names_of, bucket_upto, covered_of, heads_for}
+use Rattle.ps_store.specs.Standing.{Holding}
+use Rattle.ps_store.specs.StepLaws.{HoldsLaneBuckets, transactions_upto}
+use Rattle.ps_store.proofs.Committing.{whole_ledger}
+use Rattle.ps_store.proofs.Growing.{IsSound, IsLater, entries_lower, sound_fresh, heads_push, sound_after, sound_at, later_at, later_whole, later_end, legal_at, legal_parts}
+use Rattle.ps_store.proofs.Lawful.{BucketLaws, KeepsLogs, KeepsTakes, lawful}
+use Rattle.ps_store.proofs.Fronts.{is_le, le_from}
+use Rattle.ps_store.proofs.Members.{Has, has_left, has_right, has_cases, has_filter, from_filter, has_map, from_map, has_flat, from_flat, has_contains, contains_has}
+use Rattle.ps_store.proofs.Ordered.{NamesRise, in_order_rise, has_in_order, from_in_order, names_sorted, never_below}
+use Rattle.ps_store.proofs.Taking.{names_kept}
+use Rattle.ps_store.proofs.Telling.{take_append, head_above}
+
+-- ---- places
+
+take_whole : {X : Type 0} (xs : List X) → take (length xs) xs ≡ xs
+take_whole [] = refl
+take_whole (x ∷ xs) = ap (λ ys. x ∷ ys) (take_whole xs)
+
+pub places_stay : PlacesStay
+places_stay rules history more n within = ap (ledger_of rules) (take_append n history more within)
+
+pub ends_are_whole : EndsAreWhole
+ends_are_whole rules history = ap (ledger_of rules) (take_whole history)
+
+-- ---- the buckets of names
+
+module _ (op : ℕ) (log : List ℕ → List Op) where
+  abbrev told : List (List ℕ) → List TakenBucket
+  told names = map (λ (name : List ℕ). bucket_upto op name (log name)) names
+
+  -- the bucket of a name is what its log has
+  told_by : (names : List (List ℕ)) (name : List ℕ) (bucket : TakenBucket) → bucket_in name (told names) ≡ Some bucket → bucket ≡ bucket_upto op name (log name)
+  told_by [] name bucket is = absurd (cc)
+  told_by (q ∷ names) name bucket is = by (bytes_eq name q) refl is (told_by names name bucket)
+    where
+      by : (b : Bool) → bytes_eq name q ≡ b → (if b then Some (bucket_upto op q (log q)) else bucket_in name (told names)) ≡ Some bucket
+          → (bucket_in name (told names) ≡ Some bucket → bucket ≡ bucket_upto op name (log name)) → bucket ≡ bucket_upto op name (log name)
+      by true e is rest =
+          let same : bucket_upto op q (log q) ≡ bucket = cc in
+          sym same ∙ ap (λ (n : List ℕ). bucket_upto op n (log n)) (sym ((bytes_eq-Decides name q).0 e))
+      by false e is rest = rest is
+
+  is_told : (names : List (List ℕ)) (name : List ℕ) → Has names name → is_in (told names) name ≡ true
+  is_told [] name h = absurd h
+  is_told (q ∷ names) name h = by (bytes_eq name q) refl (is_told names name)
+    where
+      by : (b : Bool) → bytes_eq name q ≡ b → (Has names name → is_in (told names) name ≡ true) → is_some (if b then Some (bucket_upto op q (log q)) else bucket_in name (told names)) ≡ true
+      by true e rest = refl
+      by false e rest = elim h [ inl same ↦ absurd (let there : bytes_eq name q ≡ true = (bytes_eq-Decides name q).1 (sym same) in cc) | inr t ↦ rest t ]
+
+  from_told : (names : List (List ℕ)) (name : List ℕ) → is_in (told names) name ≡ true → Has names name
+  from_told [] name h = absurd (cc)
+  from_told (q ∷ names) name h = by (bytes_eq name q) refl h (from_told names name)
+    where
+      by : (b : Bool) → bytes_eq name q ≡ b → is_some (if b then Some (bucket_upto op q (log q)) else bucket_in name (told names)) ≡ true → (is_in (told names) name ≡ true → Has names name) → Has (q ∷ names) name
+      by true e is rest = inl (sym ((bytes_eq-Decides name q).0 e))
+      by false e is rest = inr (rest is)
+
+  none_told : (name : List ℕ) (names : List (List ℕ)) → ((y : List ℕ) → Has names y → slice_cmp nat_cmp name y ≡ Less) → bucket_in name (told names) ≡ None
+  none_told name [] h = refl
+  none_told name (q ∷ names) h = by (bytes_eq name q) refl (none_told name names (λ y i. h y (inr i)))
+    where
+      by : (b : Bool) → bytes_eq name q ≡ b → bucket_in name (told names) ≡ None → (if b then Some (bucket_upto op q (log q)) else bucket_in name (told names)) ≡ None
+      by true e rest = absurd (never_below name (subst (λ (z : List ℕ). slice_cmp nat_cmp name z ≡ Less) (sym ((bytes_eq-Decides name q).0 e)) (h q (inl refl))))
+      by false e rest = rest
+
+  told_apart : (names : List (List ℕ)) → NamesRise names → AreApart (told names)
+  told_apart [] h = tt
+  told_apart (q ∷ names) h = (none_told q names h.0, told_apart names h.1)
+
+-- ---- the buckets of an asker
+
+module _ (definitions : List Definition) (asker : Asker) (rows : List SourceRow) where
+  is_bucket : (name : List ℕ) → Has (bucket_names definitions asker rows) name → IsBucketOf definitions asker rows name
+  is_bucket name h =
+      let f = from_flat (definition_names asker rows) definitions name (from_in_order (flat_map (definition_names asker rows) definitions) name h) in
+      let v = from_map (bucket_name_of f.0.name) (parameter_vectors f.0 asker rows) name f.2 in
+      (f.0, v.0, has_contains definitions f.0 f.1, has_contains (parameter_vectors f.0 asker rows) v.0 v.1, sym v.2)
+
+  has_bucket : (name : List ℕ) → IsBucketOf definitions asker rows name → Has (bucket_names definitions asker rows) name
+  has_bucket name b = subst (λ n. Has (bucket_names definitions asker rows) n) (sym b.4)
+      (has_in_order (flat_map (definition_names asker rows) definitions) (bucket_name_of b.0.name b.1)
+      (has_flat (definition_names asker rows) definitions b.0 (bucket_name_of b.0.name b.1) (contains_has definitions b.0 b.2)
+      (has_map (bucket_name_of b.0.name) (parameter_vectors b.0 asker rows) b.1 (contains_has (parameter_vectors b.0 asker rows) b.1 b.3))))
+
+  -- their names tell that the vectors are of integers of 64 bits
+  vectors_told : AllByRecursion IsSoundDefinition definitions → AreTold (bucket_names definitions asker rows) → AreSqlVectors definitions asker rows
+  vectors_told sound names definition values i j =
+      let name = bucket_name_of definition.name values in
+      let one : IsTold name = at_name IsTold (bucket_names definitions asker rows) name names (has_bucket name (definition, values, i, j, refl)) in
+      one definition.name values (at_name IsSoundDefinition definitions definition sound (contains_has definitions definition i)).name refl
+    where
+      at_name : {X : Type 0} (P : X → Type 0) (xs : List X) (x : X) → AllByRecursion P xs → Has xs x → P x
+      at_name P [] x h i = absurd i
+      at_name P (y ∷ ys) x h i = elim i [ inl e ↦ subst P e h.0 | inr t ↦ at_name P ys x h.1 t ]
+
+-- ---- a course
+
+pub record StoreLaws : Type 0 where
+  pub buckets : BucketLaws
+  pub grows : GrowsLater
+  pub stands : StandsLater
+  pub compacted : CompactedStands
+  pub rows : CommittedRowsAreDue
+  pub greatest : CoveredIsGreatest
+  pub before : CoversAllBefore
+
+-- ---- what was uploaded
+
+-- an upload has a head, and its number
+from_uploads : (heads : List Position) (first : ℕ) (fed : List Transaction) (upload : Upload) → Has (uploads_from first heads fed) upload
+    → (k : ℕ) × (head : Position) × (slice_get heads k ≡ Some head) × (upload.number ≡ first + k) × (upload.position ≤ head.0)
+from_uploads [] first fed upload h = absurd h
+from_uploads (head ∷ heads) first fed upload h =
+    elim (has_cases (map (upload_of first) (transactions_upto head.0 fed)) (uploads_from (suc first) heads fed) upload h) [
+      | inl here ↦
+          let t = from_map (upload_of first) (transactions_upto head.0 fed) upload here in
+          let low : t.0.position.0 ≤ head.0 = le_from t.0.position.0 head.0 (from_filter (λ (t : Transaction). nat_le t.position.0 head.0) fed t.0 t.1).1 in
+          let number : upload.number ≡ first + 0 = omega (arith, ap (λ (u : Upload). u.number) t.2) in
+          (0, head, refl, number, omega (arith, low, ap (λ (u : Upload). u.position) t.2))
+      | inr behind ↦
+          let r = from_uploads heads (suc first) fed upload behind in
+          let number : upload.number ≡ first + suc r.0 = omega (arith, r.3) in
+          (suc r.0, r.1, r.2, number, r.4)
+    ]
+
+-- what was fed up to a head is an upload of its number
+has_uploads : (heads : List Position) (k first : ℕ) (fed : List Transaction) (head : Position) (t : Transaction) → slice_get heads k ≡ Some head → Has fed t → t.position.0 ≤ head.0
+    → Has (uploads_from first heads fed) (upload_of (first + k) t)
+has_uploads [] k first fed head t is h low = absurd (let n : None ≡ Some head = is in cc)
+has_uploads (x ∷ heads) zero first fed head t is h low =
+    let same : x ≡ head = cc in
+    let below : nat_le t.position.0 x.0 ≡ true = is_le t.position.0 x.0 (omega (arith, low, ap (λ (p : Position). p.0) same)) in
+    let number : first ≡ first + 0 = omega arith in
+    has_left (map (upload_of first) (transactions_upto x.0 fed)) (uploads_from (suc first) heads fed) (upload_of (first + 0) t)
+    (subst (λ (n : ℕ). Has (map (upload_of first) (transactions_upto x.0 fed)) (upload_of n t)) number
+    (has_map (upload_of first) (transactions_upto x.0 fed) t (has_filter (λ (u : Transaction). nat_le u.position.0 x.0) fed t h below)))
+has_uploads (x ∷ heads) (suc k) first fed head t is h low =
+    let number : suc first + k ≡ first + suc k = omega arith in
+    has_right (map (upload_of first) (transactions_upto x.0 fed)) (uploads_from (suc first) heads fed) (upload_of (first + suc k) t)
+    (subst (λ (n : ℕ). Has (uploads_from (suc first) heads fed) (upload_of n t)) number (has_uploads heads k (suc first) fed head t is h low))
+
+-- the next head
+next_head : (heads more : List Position) (head : Position) → slice_get (heads ++ head ∷ more) (length heads) ≡ Some head
+next_head [] more head = refl
+next_head (x ∷ heads) more head = next_head heads more head
+
+-- what was fed is up to the head
+fed_low : (fed : List Transaction) (p : ℕ) (t : Transaction) → RisesFrom p fed → Has fed t → t.position.0 ≤ fold (λ (p : ℕ) (u : Transaction). u.position.0) p fed
+fed_low [] p t rise h = absurd h
+fed_low (x ∷ fed) p t rise h = elim h [
+  | inl same ↦ let up = head_above fed x.position.0 rise.1 in omega (arith, up, ap (λ (u : Transaction). u.position.0) same)
+  | inr behind ↦ fed_low fed x.position.0 t rise.1 behind
+]
+
+-- a front of heads has the same ones
+within_front : (heads more : List Position) (k : ℕ) → k < length heads → slice_get (heads ++ more) k ≡ slice_get heads k
+within_front [] more k h = absurd (omega (arith, h))
+within_front (head ∷ heads) more zero h = refl
+within_front (head ∷ heads) more (suc k) h = within_front heads more k (omega (arith, h))
+
+within_heads : (heads : List Position) (k : ℕ) (head : Position) → slice_get heads k ≡ Some head → k < length heads
+within_heads [] k head is = absurd (let n : None ≡ Some head = is in cc)
+within_heads (x ∷ heads) zero head is = omega arith
+within_heads (x ∷ heads) (suc k) head is = let r = within_heads heads k head is in omega (arith, r)
+
+covers_heads : CoveredIsGreatest → CoversAllBefore → (heads more : List Position) (fed : List Transaction) (position : ℕ) (upload : Upload) → Rises heads
+    → Has (uploads_from 1 (heads ++ more) fed) upload → IfSome (covered position heads) (λ number. upload.number ≤ number → upload.position ≤ position)
+covers_heads is_greatest before heads more fed position upload rise has = by (covered position heads) refl
+  where
+    by : (o : Option ℕ) → covered position heads ≡ o → IfSome o (λ number. upload.number ≤ number → upload.position ≤ position)
+    by None is = tt
+    by (Some number) is = λ most.
+        let at = from_uploads (heads ++ more) 1 fed upload has in
+        let found : IsGreatestReached heads position (Some number) = subst (IsGreatestReached heads position) is (is_greatest heads position) in
+        let last : number - 1 < length heads = within_heads heads (number - 1) found.0.0 found.0.1.is in
+        let place : upload.number - 1 ≡ at.0 = omega (arith, at.3) in
+        let within : at.0 < length heads = omega (arith, at.3, most, last, found.0.1.from_one) in
+        let here : slice_get heads (upload.number - 1) ≡ Some at.1 = ap (slice_get heads) place ∙ sym (within_front heads more at.0 within) ∙ at.2 in
+        let own : HasHead heads upload.number at.1 = record { from_one = omega (arith, at.3); is = here } in
+        let low : at.1.0 ≤ position = before heads position number upload.number at.1 rise is most own in
+        omega (arith, low, at.4)
+
+covered_low : CoveredIsGreatest → (heads : List Position) (position : ℕ) → length heads ≤ greatest → IfSome (covered position heads) (λ number. number ≤ greatest)
+covered_low is_greatest heads position few = by (covered position heads) refl
+  where
+    by : (o : Option ℕ) → covered position heads ≡ o → IfSome o (λ number. number ≤ greatest)
+    by None is = tt
+    by (Some number) is =
+        let found : IsGreatestReached heads position (Some number) = subst (IsGreatestReached heads position) is (is_greatest heads position) in
+        let last : number - 1 < length heads = within_heads heads (number - 1) found.0.0 found.0.1.is in
+        omega (arith, last, few)
+
+-- ---- what a checkpoint covers
+
+module _ (grows : GrowsLater) (stands : StandsLater) (itself : StandsForItself) (compacts : CompactedStands) (rules : RuleSet) (history : List Event) (asker : Asker) (n : ℕ) (legal : IsLegal rules history) where
+  abbrev here : Ledger
+  here = ledger_at rules history n
+
+  sound_here : IsSound here
+  sound_here = sound_at grows stands itself compacts history (fresh rules) n legal (sound_fresh grows stands itself compacts rules)
+
+  till_end : IsLater here (ledger_of rules history)
+  till_end = later_end grows stands itself compacts history (fresh rules) n legal (sound_fresh grows stands itself compacts rules)
+
+  pub uploads_covered : CoveredIsGreatest → CoversAllBefore → (upload : Upload) → Contains (uploads_of (ledger_of rules history) asker) upload
+      → IfSome (covered_of here asker) (λ number. upload.number ≤ number → upload.position ≤ here.position)
+  uploads_covered is_greatest before upload is = by asker.client is
+    where
+      by : (client : Option (List ℕ)) → Contains (uploads_from 1 (heads_for (ledger_of rules history) asker.user client) (ledger_of rules history).fed) upload
+          → IfSome (covered here.position (heads_for here asker.user client)) (λ number. upload.number ≤ number → upload.position ≤ here.position)
+      by None is = tt
+      by (Some client) is =
+          let whole : Ledger = ledger_of rules history in
+          let more = till_end.heads asker.user client in
+          covers_heads is_greatest before (heads_in here asker.user client) more.0 whole.fed here.position upload (sound_here.heads asker.user client).rise
+          (subst (λ (heads : List Position). Has (uploads_from 1 heads whole.fed) upload) more.1 (contains_has (uploads_from 1 (heads_in whole asker.user client) whole.fed) upload is))
+
+  pub numbers_low : CoveredIsGreatest → IfSome (covered_of here asker) (λ number. number ≤ greatest)
+  numbers_low is_greatest = by asker.client
+    where
+      by : (client : Option (List ℕ)) → IfSome (covered here.position (heads_for here asker.user client)) (λ number. number ≤ greatest)
+      by None = tt
+      by (Some client) = covered_low is_greatest (heads_in here asker.user client) here.position (sound_here.numbers_low asker.user client)
+
+-- ---- the course
+
+module _ (laws : StoreLaws) (rules : RuleSet) (history : List Event) (asker : Asker) (are : AreRules rules) (numbers : HaveNumbers rules.definitions) (legal : IsLegal rules history) where
+  abbrev course : Course
+  course = course_of rules history asker
+
+  abbrev place : ℕ → Ledger
+  place n = ledger_at rules history n
+
+  sound : (n : ℕ) → IsSound (place n)
+  sound n = sound_at laws.grows laws.stands laws.buckets.itself laws.compacted history (fresh rules) n legal (sound_fresh laws.grows laws.stands laws.buckets.itself laws.compacted rules)
+
+  later : (n m : ℕ) → n ≤ m → IsLater (place n) (place m)
+  later n m low = later_at laws.grows laws.stands laws.buckets.itself laws.compacted history (fresh rules) n m legal (sound_fresh laws.grows laws.stands laws.buckets.itself laws.compacted rules) low
+
+  legal_place : (n : ℕ) → IsLegal rules (take n history)
+  legal_place n = legal_at history (fresh rules) n legal
+
+  keeps_logs : KeepsLogs course (λ n bucket. (place n).log bucket) (λ n bucket. (place n).level bucket)
+  keeps_logs = record {
+    op = λ n m low. (later n m low).op;
+    greatest_op = λ n. omega (arith, (sound n).op_low, (sound n).reach_low, (sound n).last_low);
+    entries = λ n name. (sound n).entries name;
+    grows = λ n m name low.
+        let grown = (later n m low).grows name in
+        record {
+          more = grown.more;
+          is = grown.is;
+          past_op = entries_lower (place n).op (place n).last grown.more (omega (arith, (sound n).op_low, (sound n).reach_low)) grown.past_op;
+        };
+    stands = λ n name. (sound n).stands name;
+    level_low = λ n name. (sound n).level_low name;
+    batch = λ n low high name. refl;
+    takes = λ n name bucket is.
+        let told_is = told_by (place n).op (place n).log (names_of (place n) asker) name bucket is in
+        record { sum = ap (λ (b : TakenBucket). b.sum.0) told_is; newest_is = ap (λ (b : TakenBucket). b.newest.0) told_is };
+  }
+
+  -- the names of a place are those of the asker's buckets
+  names_at : (n : ℕ) → names_of (place n) asker ≡ bucket_names rules.definitions asker (rows_in (checkpoint_source rules (take n history)))
+  names_at n = ap (λ (r : RuleSet). bucket_names r.definitions asker (rows_in (checkpoint_source rules (take n history)))) (whole_ledger rules (take n history) (legal_place n)).keeps.rules_are
+
+  module _ (n : ℕ) (held : Holding) (holds : HoldsTaken course n held) where
+    abbrev rows : List SourceRow
+    rows = rows_in (checkpoint_source rules (take n history))
+
+    holds_buckets : HoldsLaneBuckets [] rules.definitions asker rows (checkpoint_held rules (take n history)) held
+    holds_buckets = record {
+      own = λ bucket is key. holds.own bucket
+          (is_told (place n).op (place n).log (names_of (place n) asker) bucket (subst (λ (ns : List (List ℕ)). Has ns bucket) (sym (names_at n)) (has_bucket rules.definitions asker rows bucket is))) key;
+      only = λ bucket key some. by bucket key some (is_in (course.take n).buckets bucket) refl;
+    }
+      where
+        by : (bucket : List ℕ) (key : Key) → held bucket key ≢ None → (b : Bool) → is_in (course.take n).buckets bucket ≡ b
+            → (name : List ℕ) × (bucket ≡ [] ++ name) × IsBucketOf rules.definitions asker rows name
+        by bucket key some true is = (
+          bucket,
+          refl,
+          is_bucket rules.definitions asker rows bucket (subst (λ (ns : List (List ℕ)). Has ns bucket) (names_at n) (from_told (place n).op (place n).log (names_of (place n) asker) bucket is)),
+        )
+        by bucket key some false is = absurd (some (holds.only bucket is key))
+
+  names_rise : (n : ℕ) → NamesRise (names_of (place n) asker)
+  names_rise n = in_order_rise (flat_map (definition_names asker (rows_in (checkpoint_source rules (take n history)))) (place n).force.rules.definitions)
+
+  keeps_takes : KeepsTakes course
+  keeps_takes = record {
+    op = λ n. refl;
+    number = λ n. numbers_low laws.grows laws.stands laws.buckets.itself laws.compacted rules history asker n legal laws.greatest;
+    rise = λ n. subst (IsStrictlySortedBy (slice_cmp nat_cmp)) (names_kept (place n).op (place n).log (names_of (place n) asker)) (names_sorted (names_of (place n) asker) (names_rise n));
+    apart = λ n. told_apart (place n).op (place n).log (names_of (place n) asker) (names_rise n);
+    position = λ n m low. (later n m low).position;
+    rows = λ n held shown told holds shows.
+        let read : List SourceRow = rows_in (checkpoint_source rules (take n history)) in
+        let wide : AreSqlVectors rules.definitions asker read =
+        vectors_told rules.definitions asker read are.sound (subst AreTold (sym (names_kept (place n).op (place n).log (names_of (place n) asker)) ∙ names_at n) told) in
+        laws.rows rules (take n history) asker held shown are numbers (legal_place n) wide (holds_buckets n held holds) shows;
+    covers = λ n upload is. uploads_covered laws.grows laws.stands laws.buckets.itself laws.compacted rules history asker n legal laws.greatest laws.before upload is;
+  }
+
+  pub course_lawful : IsLawful course
+  course_lawful = lawful laws.buckets course (λ n bucket. (place n).log bucket) (λ n bucket. (place n).level bucket) keeps_logs keeps_takes
+
+module _ (grows : GrowsLater) (stands : StandsLater) (itself : StandsForItself) (compacts : CompactedStands) (rules : RuleSet) (front back : List Event) (asker : Asker) (client : List ℕ) where
+  abbrev early : Ledger
+  early = ledger_of rules front
+
+  abbrev asked : Ledger
+  asked = ledger_after early (WriteCheckpoint asker.user client)
+
+  abbrev all : List Event
+  all = front ++ WriteCheckpoint asker.user client ∷ back
+
+  pub uploads_fed : (t : Transaction) → asker.client ≡ Some client → IsLegal rules all → Contains early.fed t
+      → Contains (uploads_of (ledger_of rules all) asker) (upload_of (last_number early asker.user client + 1) t)
+  uploads_fed t own legal is =
+      let parts = legal_parts front (WriteCheckpoint asker.user client ∷ back) (fresh rules) legal in
+      let sound_early : IsSound early = sound_all front (fresh rules) parts.0 (sound_fresh grows stands itself compacts rules) in
+      let sound_asked : IsSound asked = sound_after grows stands itself compacts early (WriteCheckpoint asker.user client) parts.1.0 sound_early in
+      let later : IsLater asked (fold ledger_after asked back) = later_whole grows stands itself compacts back asked parts.1.1 sound_asked in
+      let end : ledger_of rules all ≡ fold ledger_after asked back = fold-append ledger_after (fresh rules) front (WriteCheckpoint asker.user client ∷ back) in
+      let heads : List Position = heads_in early asker.user client in
+      let head : Position = record { 0 = head_of early.fed } in
+      let made : Made = made_by asker.user client early.fed in
+      let mine : is_of asker.user client made ≡ true = and_from (bytes_eq asker.user asker.user) (bytes_eq client client) ((bytes_eq-Decides asker.user asker.user).1 refl) ((bytes_eq-Decides client client).1 refl) in
+      let more = later.heads asker.user client in
+      let all_heads : heads_in (fold ledger_after asked back) asker.user client ≡ heads ++ head ∷ more.0 =
+      more.1 ∙ ap (λ (hs : List Position). hs ++ more.0) (heads_push asker.user client made early.numbers ∙ ap (λ (b : Bool). heads ++ (if b then head ∷ [] else [])) mine)
+      ∙ append_assoc heads (head ∷ []) more.0 in
+      let at : slice_get (heads_in (fold ledger_after asked back) asker.user client) (length heads) ≡ Some head = ap (λ (hs : List Position). slice_get hs (length heads)) all_heads ∙ next_head heads more.0 head in
+      let there : Has (fold ledger_after asked back).fed t = subst (λ (fed : List Transaction). Has fed t) (sym later.fed.1) (has_left early.fed later.fed.0 t (contains_has early.fed t is)) in
+      let low : t.position.0 ≤ head.0 = fed_low early.fed 0 t (whole_ledger rules front parts.0).rises (contains_has early.fed t is) in
+      let number : 1 + length heads ≡ length heads + 1 = omega arith in
+      has_contains (uploads_of (ledger_of rules all) asker) (upload_of (length heads + 1) t)
+      (subst (λ (l : Ledger). Has (uploads_of l asker) (upload_of (length heads + 1) t)) (sym end)
+      (subst (λ (c : Option (List ℕ)). Has (uploads_from 1 (heads_for (fold ledger_after asked back) asker.user c) (fold ledger_after asked back).fed) (upload_of (length heads + 1) t)) (sym own)
+      (subst (λ (n : ℕ). Has (uploads_from 1 (heads_in (fold ledger_after asked back) asker.user client) (fold ledger_after asked back).fed) (upload_of n t)) number
+      (has_uploads (heads_in (fold ledger_after asked back) asker.user client) (length heads) 1 (fold ledger_after asked back).fed head t at there low))))
+    where
+      sound_all : (history : List Event) (l : Ledger) → IsLegalFrom l history → IsSound l → IsSound (fold ledger_after l history)
+      sound_all [] l legal h = h
+      sound_all (e ∷ history) l legal h = sound_all history (ledger_after l e) legal.1 (sound_after grows stands itself compacts l e legal.0 h)

@@ -1,0 +1,184 @@
+-- A course whose logs stand for their originals is lawful, by the laws of one bucket.
+use Rattle.std.proofs.Common.{◌≡◌, ◌≢◌, ℕ, ◌<◌, ◌≤◌, ◌⊎◌, inl, inr, Option, Some, None, IfSome, List, [], ◌++◌, sym, ◌∙◌, arith}
+use Rattle.std.specs.Cmp.Lexicographic.{slice_cmp}
+use Rattle.std.specs.List.Sorted.{IsStrictlySortedBy}
+use Rattle.std.specs.Ordering.{nat_cmp}
+use Rattle.std.proofs.lemmas.Bool.{cases_lt, lt-ltb, le-ltb}
+use Rattle.ps_values.specs.declared.ids.OpId.{OpId}
+use Rattle.ps_bucket_log.specs.declared.ops.Op.{Op}
+use Rattle.ps_bucket_log.specs.declared.batches.Batch.{Batch}
+use Rattle.ps_bucket_log.specs.Ops.{greatest_target, upto, past, newest, sum_of}
+use Rattle.ps_bucket_log.specs.Logs.{IsRising, IsLog, AreEntries, cleared}
+use Rattle.ps_bucket_log.specs.Standing.{StandsFor}
+use Rattle.ps_bucket_log.specs.Batches.{batch_of}
+use Rattle.ps_bucket_log.specs.Laws.{StaysHonest, StaysHonestUpTo, WholeAtNewest, FreshIsHonest, HonestLater, AddsNothing, StandsForItself, StandingIsLog, WithinLevel, TargetWithinLevel, SameSums, TotalIsSum, BatchRises, ReadsLongestFront, ReadsOn}
+use Rattle.ps_changes.specs.declared.shown.Shown.{Shown}
+use Rattle.ps_params.specs.Names.{AreTold}
+use Rattle.ps_store.specs.declared.readings.TakenBucket.{TakenBucket}
+use Rattle.ps_store.specs.Courses.{Course, bucket_in}
+use Rattle.ps_store.specs.CourseLaws.{IsLawful, StayHonest, BatchesKeepHonest, Stays, Covers, AreApart, HoldsTaken, due_bucket}
+use Rattle.ps_store.specs.Latest.{ShowsLatest}
+use Rattle.ps_store.specs.Limits.{greatest}
+use Rattle.ps_store.specs.Readings.{taken_names}
+use Rattle.ps_store.specs.Standing.{Holding}
+
+-- the laws of one bucket
+pub record BucketLaws : Type 0 where
+  pub honest : StaysHonest
+  pub up_to : StaysHonestUpTo
+  pub whole : WholeAtNewest
+  pub afresh : FreshIsHonest
+  pub later : HonestLater
+  pub nothing : AddsNothing
+  pub itself : StandsForItself
+  pub is_log : StandingIsLog
+  pub within : WithinLevel
+  pub target : TargetWithinLevel
+  pub sums : SameSums
+  pub total : TotalIsSum
+  pub rising : BatchRises
+  pub longest : ReadsLongestFront
+  pub on : ReadsOn
+
+-- ---- what is to be known of a course
+
+-- an original that grew past an id
+pub record Grown (old new : List Op) (op : ℕ) : Type 0 where
+  pub more : List Op
+  pub is : new ≡ old ++ more
+  pub past_op : AreEntries op more
+
+-- a bucket tells of a log up to an op
+pub record TellsLog (op : ℕ) (log : List Op) (bucket : TakenBucket) : Type 0 where
+  pub sum : bucket.sum.0 ≡ sum_of (upto op log)
+  pub newest_is : bucket.newest.0 ≡ newest (upto op log)
+
+-- the logs of a course at each place, and their levels
+pub record KeepsLogs (course : Course) (log : ℕ → List ℕ → List Op) (level : ℕ → List ℕ → ℕ) : Type 0 where
+  pub op : (n m : ℕ) → n ≤ m → course.op n ≤ course.op m
+  pub greatest_op : (n : ℕ) → course.op n ≤ greatest
+  pub entries : (n : ℕ) (name : List ℕ) → AreEntries 0 (course.original n name)
+  pub grows : (n m : ℕ) (name : List ℕ) → n ≤ m → Grown (course.original n name) (course.original m name) (course.op n)
+  pub stands : (n : ℕ) (name : List ℕ) → StandsFor (log n name) (course.original n name) (level n name)
+  pub level_low : (n : ℕ) (name : List ℕ) → level n name ≤ course.op n
+  pub batch : (n low high : ℕ) (name : List ℕ) → course.batch n name low high ≡ batch_of low high (log n name)
+  pub takes : (n : ℕ) (name : List ℕ) (bucket : TakenBucket) → bucket_in name (course.take n).buckets ≡ Some bucket → TellsLog (course.op n) (log n name) bucket
+
+-- what is said of takes besides
+pub record KeepsTakes (course : Course) : Type 0 where
+  pub op : (n : ℕ) → (course.take n).last_op.0 ≡ course.op n
+  pub number : (n : ℕ) → IfSome (course.take n).number (λ number. number ≤ greatest)
+  pub rise : (n : ℕ) → IsStrictlySortedBy (slice_cmp nat_cmp) (taken_names (course.take n))
+  pub apart : (n : ℕ) → AreApart (course.take n).buckets
+  pub position : (n m : ℕ) → n ≤ m → (course.take n).position.0 ≤ (course.take m).position.0
+  pub rows : (n : ℕ) (held : Holding) (rows : List Shown) → AreTold (taken_names (course.take n)) → HoldsTaken course n held → ShowsLatest held rows → rows ≡ course.due n
+  pub covers : Covers course
+
+-- ---- the laws of a course
+
+higher : (c d : ℕ) (o : Option OpId) → c ≤ d → IfSome o (λ t. t.0 ≤ c) → IfSome o (λ t. t.0 ≤ d)
+higher c d None low some = tt
+higher c d (Some t) low some = omega arith
+
+-- what is read of a log: a CLEAR past what was asked for, or a front of the operations past one id and up to another
+pub data Reads (log : List Op) (low high : ℕ) (batch : Batch) : Type 0 where
+  nothing : batch.ops ≡ [] → Reads log low high batch
+  front : (left : List Op) → upto high (past low log) ≡ batch.ops ++ left → Reads log low high batch
+
+module _ (laws : BucketLaws) (course : Course) (log : ℕ → List ℕ → List Op) (level : ℕ → List ℕ → ℕ) (keeps : KeepsLogs course log level) where
+  reads : (ops : List Op) (low high : ℕ) → Reads ops low high (batch_of low high ops)
+  reads ops low high = elim (cases_lt high (cleared ops)) [
+    | inl above ↦ nothing ((laws.longest low high ops).passed above).1
+    | inr within ↦ let is = ((laws.longest low high ops).taken within).1.front in front is.0 is.1
+  ]
+
+  reads_at : (n low high : ℕ) (name : List ℕ) → Reads (log n name) low high (course.batch n name low high)
+  reads_at n low high name = rw (keeps.batch n low high name) (reads (log n name) low high)
+
+  target_is : (n low high : ℕ) (name : List ℕ) → (course.batch n name low high).target ≡ greatest_target (course.batch n name low high).ops
+  target_is n low high name = rw (keeps.batch n low high name) (laws.longest low high (log n name)).target
+
+  -- ---- honesty
+  stay_honest : StayHonest course
+  stay_honest = record {
+    later = λ n m name bucket late honest.
+        let grown = keeps.grows n m name late in
+        rw grown.is (laws.later (course.original n name) grown.more (course.op n) (course.op n) (course.op m) (course.op m) bucket grown.past_op (keeps.op n m late) (keeps.op n m late) honest);
+    afresh = λ n name. laws.afresh (course.original n name) (course.op n) (course.op n) (keeps.entries n name);
+  }
+
+  batches_keep : BatchesKeepHonest course
+  batches_keep = record {
+    honest = λ n c name bucket low honest. elim (reads_at n bucket.position c name) [
+      | nothing none ↦ rw none honest
+      | front left split ↦
+          laws.honest (log n name) (course.original n name) (level n name) (course.op n) c bucket _ left
+          (keeps.stands n name) (keeps.entries n name) (keeps.level_low n name) low split honest
+    ];
+    up_to = λ n c name bucket low targets honest. elim (reads_at n bucket.position c name) [
+      | nothing none ↦ rw none honest
+      | front left split ↦
+          laws.up_to (log n name) (course.original n name) (level n name) c c c bucket _ left
+          (keeps.stands n name) (keeps.entries n name) (omega arith) split (rw (target_is n bucket.position c name) at targets) honest
+    ];
+    whole = λ n name bucket newest_low honest.
+        laws.whole (course.original n name) (course.op n) (course.op n) bucket (keeps.entries n name) newest_low honest.reached honest;
+  }
+
+  -- ---- what stays
+  stays : Stays course
+  stays n m name late =
+      let grown = keeps.grows n m name late in
+      rw grown.is (laws.nothing (course.original n name) grown.more (course.op n) (course.op n) grown.past_op.rising (omega arith))
+
+  -- ---- what climbs
+  log_is : (n : ℕ) (name : List ℕ) → IsLog (log n name)
+  log_is n name = laws.is_log (log n name) (course.original n name) (level n name) (keeps.entries n name) (keeps.stands n name)
+
+  cleared_low : (n : ℕ) (name : List ℕ) → cleared (log n name) ≤ course.op n
+  cleared_low n name =
+      let low = (laws.within (log n name) (course.original n name) (level n name) 0 0 (keeps.entries n name) (keeps.stands n name)).0 in
+      omega (arith, low, keeps.level_low n name)
+
+  target_low : (n low high : ℕ) (name : List ℕ) → IfSome (course.batch n name low high).target (λ t. t.0 ≤ course.op n)
+  target_low n low high name = rw (keeps.batch n low high name)
+      (higher (level n name) (course.op n) _ (keeps.level_low n name) (laws.target (log n name) (course.original n name) (level n name) low high (keeps.entries n name) (keeps.stands n name)))
+
+  passed_low : (n low high : ℕ) (name : List ℕ) → IfSome (course.batch n name low high).passed (λ p. (high < p.0) × (p.0 ≤ course.op n))
+  passed_low n low high name = rw (keeps.batch n low high name) (elim (cases_lt high (cleared (log n name))) [
+    | inl above ↦ rw (lt-ltb high (cleared (log n name)) above) (above, cleared_low n name)
+    | inr below ↦ rw (le-ltb high (cleared (log n name)) below) tt
+  ])
+
+  rises : (n low high : ℕ) (name : List ℕ) → IsRising low (course.batch n name low high).ops
+  rises n low high name = rw (keeps.batch n low high name) (laws.rising low high (log n name) (log_is n name)).0
+
+  fits_within : (n low high : ℕ) (name : List ℕ) → upto high (course.batch n name low high).ops ≡ (course.batch n name low high).ops
+  fits_within n low high name = rw (keeps.batch n low high name) (laws.rising low high (log n name) (log_is n name)).1
+
+  -- ---- what a take tells
+  sums_are : (n : ℕ) (name : List ℕ) (bucket : TakenBucket) → bucket_in name (course.take n).buckets ≡ Some bucket
+      → (bucket.sum.0 ≡ (due_bucket course n name).total) × (bucket.newest.0 ≡ newest (upto (course.op n) (course.original n name)))
+  sums_are n name bucket is =
+      let tells = keeps.takes n name bucket is in
+      let written = keeps.entries n name in
+      let same = laws.sums (log n name) (course.original n name) (level n name) (course.op n) (keeps.stands n name) written (cleared_low n name) in
+      let own = laws.total (course.original n name) (course.op n) (laws.is_log (course.original n name) (course.original n name) 0 written (laws.itself (course.original n name) written)) in
+      (tells.sum ∙ same.0 ∙ sym own.0, tells.newest_is ∙ same.1)
+
+  reads_on : (n m low : ℕ) (bucket : TakenBucket) → n ≤ m → bucket_in bucket.name (course.take n).buckets ≡ Some bucket → low < bucket.newest.0
+      → ((course.batch m bucket.name low (course.op n)).ops ≢ []) ⊎ ((course.batch m bucket.name low (course.op n)).passed ≢ None)
+  reads_on n m low bucket late is below =
+      let ahead : low < newest (upto (course.op n) (course.original m bucket.name)) = rw (stays n m bucket.name late) (omega (arith, below, (sums_are n bucket.name bucket is).1)) in
+      rw (keeps.batch m low (course.op n) bucket.name)
+      (laws.on (log m bucket.name) (course.original m bucket.name) (level m bucket.name) low (course.op n) (keeps.stands m bucket.name) (keeps.entries m bucket.name) ahead)
+
+  pub lawful : KeepsTakes course → IsLawful course
+  lawful takes = record {
+    later = stay_honest;
+    batches = batches_keep;
+    climb = record { op = keeps.op; greatest_op = keeps.greatest_op; position = takes.position; target = target_low; passed = passed_low; rising = rises; within = fits_within; reads_on = reads_on };
+    takes = record { op = takes.op; number = takes.number; rise = takes.rise; apart = takes.apart; sums = sums_are; rows = takes.rows };
+    stays = stays;
+    covers = takes.covers;
+  }

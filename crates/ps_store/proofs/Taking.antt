@@ -1,0 +1,185 @@
+-- What is taken of a store and read of it.
+use Rattle.std.proofs.Common.{◌≡◌, ℕ, suc, ◌+◌, ◌≤◌, ◌<◌, Bool, true, false, cond, Option, None, List, [], ◌∷◌, ◌++◌, refl, sym, ap, ◌∙◌, subst, length, map, filter, flat_map, take, arith, append_assoc, append-nil}
+use Rattle.std.specs.Prelude.{nat_le, bytes_eq, ◌&&◌, if◌then◌else◌, Result, Ok, Err, IfOk}
+use Rattle.std.specs.Cmp.Lexicographic.{slice_cmp}
+use Rattle.std.specs.List.Sorted.{IsStrictlySortedBy}
+use Rattle.std.specs.Ordering.{nat_cmp}
+use Rattle.ps_values.specs.declared.columns.Column.{Column}
+use Rattle.ps_values.specs.declared.shortage.Memory.{Memory}
+use Rattle.ps_bucket_log.specs.declared.ops.Op.{Op}
+use Rattle.ps_bucket_log.specs.declared.batches.Batch.{Batch}
+use Rattle.ps_bucket_log.specs.Batches as logs
+use Rattle.ps_changes.specs.declared.changes.Change.{Change}
+use Rattle.ps_changes.specs.declared.changes.Transaction.{Transaction}
+use Rattle.ps_changes.specs.Source.{source_at}
+use Rattle.ps_sql.specs.Meaning.{Asker}
+use Rattle.ps_rules.specs.declared.definitions.Definition.{Definition}
+use Rattle.ps_rules.specs.RuleSets.{RuleSet}
+use Rattle.ps_rules.specs.Vectors.{SourceRow}
+use Rattle.ps_grant.specs.Sources.{rows_in}
+use Rattle.ps_params.specs.Indexes.{is_read, StandsAt}
+use Rattle.ps_params.specs.Laws.{note_of_change, notes_of_transaction, notes_of, notes_read, NotesReadAreTheSource}
+use Rattle.ps_params.specs.Names.{definition_names, bucket_names, AreTold}
+use Rattle.ps_params.specs.Notes.{Note, counts_for, row_after, row_at}
+use Rattle.ps_store.specs.declared.events.Event.{Event}
+use Rattle.ps_store.specs.declared.fixed.Fixed.{Fixed}
+use Rattle.ps_store.specs.declared.readings.TakenBucket.{TakenBucket}
+use Rattle.ps_store.specs.declared.readings.TakeFault.TheVariants.{TooManyBuckets}
+use Rattle.ps_store.specs.declared.stores.Store.{Store}
+use Rattle.ps_store.specs.Ledgers.{Ledger, ledger_of}
+use Rattle.ps_store.specs.Noting.{noted}
+use Rattle.ps_store.specs.Originals.{Timed, timed_from, timed}
+use Rattle.ps_store.specs.Readings.{names_of, bucket_upto, Takes, batch_of, covered_of}
+use Rattle.ps_store.specs.StoreLogs.{log_at}
+use Rattle.ps_store.specs.Stores.{StoreStandsFor}
+use Rattle.ps_store.specs.Tails.{notes_after}
+use Rattle.ps_store.proofs.Committing.{Whole, whole_ledger}
+use Rattle.ps_store.proofs.Fronts.{upto_timed, upto-timed, written_upto}
+use Rattle.ps_store.proofs.Ordered.{in_order_rise, names_sorted}
+
+-- ---- notes of changes
+
+-- the notes of changes, of the tables that are read
+abbrev read_notes : List Definition → List Timed → List Note
+read_notes definitions ts = filter (λ (n : Note). is_read definitions n.table) (map noted ts)
+
+noted_more : (definitions : List Definition) (notes : List Note) (ts : List Timed) → notes_after definitions notes ts ≡ notes ++ read_notes definitions ts
+noted_more definitions notes [] = sym (append-nil notes)
+noted_more definitions notes (t ∷ ts) = elim (is_read definitions t.change.table) as (λ b. notes_after definitions (if b then notes ++ noted t ∷ [] else notes) ts
+    ≡ notes ++ (if b then noted t ∷ read_notes definitions ts else read_notes definitions ts)) [
+      | true ↦ noted_more definitions (notes ++ noted t ∷ []) ts ∙ append_assoc notes (noted t ∷ []) (read_notes definitions ts)
+      | false ↦ noted_more definitions notes ts
+    ]
+
+noted_changes : (position index : ℕ) (changes : List Change) → map noted (timed_from position index changes) ≡ map (note_of_change position) changes
+noted_changes position index [] = refl
+noted_changes position index (c ∷ cs) = ap (λ ns. note_of_change position c ∷ ns) (noted_changes position (index + 1) cs)
+
+map_append : {X Y : Type 0} (f : X → Y) (xs ys : List X) → map f (xs ++ ys) ≡ map f xs ++ map f ys
+map_append f [] ys = refl
+map_append f (x ∷ xs) ys = ap (λ zs. f x ∷ zs) (map_append f xs ys)
+
+noted_all : (fed : List Transaction) → map noted (timed fed) ≡ notes_of fed
+noted_all [] = refl
+noted_all (t ∷ fed) = map_append noted (timed_from t.position.0 0 t.changes) (timed fed)
+    ∙ ap (λ ns. ns ++ map noted (timed fed)) (noted_changes t.position.0 0 t.changes) ∙ ap (λ ns. notes_of_transaction t ++ ns) (noted_all fed)
+
+reads_are : (definitions : List Definition) (fed : List Transaction) → read_notes definitions (timed fed) ≡ notes_read definitions fed
+reads_are definitions fed = ap (filter (λ (n : Note). is_read definitions n.table)) (noted_all fed)
+
+-- what changes past a position leave is not seen there
+unseen : (definitions : List Definition) (table id : List ℕ) (p : ℕ) (row : Option (List Column)) (ts : List Timed)
+    → row_after table id p row (read_notes definitions ts) ≡ row_after table id p row (read_notes definitions (upto_timed p ts))
+unseen definitions table id p row [] = refl
+unseen definitions table id p row (t ∷ ts) = by (nat_le t.position p) refl (λ (r : Option (List Column)). unseen definitions table id p r ts)
+  where
+    by : (c : Bool) → nat_le t.position p ≡ c
+        → ((r : Option (List Column)) → row_after table id p r (read_notes definitions ts) ≡ row_after table id p r (read_notes definitions (upto_timed p ts)))
+        → row_after table id p row (read_notes definitions (t ∷ ts)) ≡ row_after table id p row (read_notes definitions (cond c (t ∷ upto_timed p ts) (upto_timed p ts)))
+    by true e rest = elim (is_read definitions t.change.table) as (λ b. row_after table id p row (cond b (noted t ∷ read_notes definitions ts) (read_notes definitions ts))
+        ≡ row_after table id p row (cond b (noted t ∷ read_notes definitions (upto_timed p ts)) (read_notes definitions (upto_timed p ts)))) [
+          | true ↦ rest (if counts_for table id p (noted t) then t.change.row else row)
+          | false ↦ rest row
+        ]
+    by false e rest = elim (is_read definitions t.change.table) as (λ b. row_after table id p row (cond b (noted t ∷ read_notes definitions ts) (read_notes definitions ts))
+        ≡ row_after table id p row (read_notes definitions (upto_timed p ts))) [
+          | true ↦ ap (λ (b : Bool). row_after table id p (if b && (bytes_eq t.change.table table && bytes_eq t.change.id id) then t.change.row else row) (read_notes definitions ts)) e ∙ rest row
+          | false ↦ rest row
+        ]
+
+-- ---- a checkpoint
+
+length_map : {X Y : Type 0} (f : X → Y) (xs : List X) → length (map f xs) ≡ length xs
+length_map f [] = refl
+length_map f (x ∷ xs) = ap suc (length_map f xs)
+
+-- what is taken of buckets has their names
+pub names_kept : (op : ℕ) (log : List ℕ → List Op) (names : List (List ℕ)) → names ≡ map (λ (b : TakenBucket). b.name) (map (λ (name : List ℕ). bucket_upto op name (log name)) names)
+names_kept op log [] = refl
+names_kept op log (name ∷ names) = ap (λ ns. name ∷ ns) (names_kept op log names)
+
+module _ (fixed : Fixed) (store : Store) (history : List Event) (h : StoreStandsFor fixed store history) where
+  abbrev l : Ledger
+  l = ledger_of fixed.rules history
+
+  abbrev definitions : List Definition
+  definitions = l.force.rules.definitions
+
+  -- at the checkpoint's position rows stand by the index as by the changes of all that is fed
+  rows_same : (table id : List ℕ) → row_at store.index.notes table id l.position ≡ row_at (notes_read definitions l.fed) table id l.position
+  rows_same table id =
+      let w : Whole fixed.rules l = whole_ledger fixed.rules history h.legal in
+      let written : List Timed = take l.written (timed l.fed) in
+      let front : upto_timed l.position written ≡ upto_timed l.position (timed l.fed) = written_upto l.fed l.written l.position w.rises w.checkpoint.written ∙ sym (upto-timed l.position l.fed) in
+      sym (h.stands.index.notes table id l.position (omega arith))
+      ∙ ap (λ (ns : List Note). row_at ns table id l.position) (noted_more definitions [] written)
+      ∙ unseen definitions table id l.position None written
+      ∙ ap (λ (us : List Timed). row_at (read_notes definitions us) table id l.position) front
+      ∙ sym (unseen definitions table id l.position None (timed l.fed))
+      ∙ ap (λ (ns : List Note). row_at ns table id l.position) (reads_are definitions l.fed)
+
+  -- so the index stands for the source there
+  stands_at : NotesReadAreTheSource → StandsAt store.index.rules.definitions store.index.notes store.checkpoint.position.0 (rows_in (source_at l.fed l.position))
+  stands_at law =
+      let here : StandsAt definitions store.index.notes l.position (rows_in (source_at l.fed l.position)) =
+      λ r read. let e = rows_same r.table r.id in let s = law definitions l.fed l.position r read in (λ c. e ∙ s.0 c, λ k. s.1 (sym e ∙ k)) in
+      subst (λ (p : ℕ). StandsAt store.index.rules.definitions store.index.notes p (rows_in (source_at l.fed l.position))) (sym h.stands.position)
+      (subst (λ (r : RuleSet). StandsAt r.definitions store.index.notes l.position (rows_in (source_at l.fed l.position))) (sym h.stands.index.rules) here)
+
+  pub same_rules : store.fixed.rules ≡ store.index.rules
+  same_rules = sym (h.stands.index.rules ∙ h.stands.rules)
+
+  pub not_forgotten : store.index.forgotten ≤ store.checkpoint.position.0
+  not_forgotten = omega (arith, h.stands.index.forgotten, h.stands.position)
+
+  module _ (asker : Asker) (names : List (List ℕ)) (law : NotesReadAreTheSource)
+      (tells : (source : List SourceRow) → StandsAt store.index.rules.definitions store.index.notes store.checkpoint.position.0 source → names ≡ bucket_names store.fixed.rules.definitions asker source) where
+    names_are : names ≡ names_of l asker
+    names_are = tells (rows_in (source_at l.fed l.position)) (stands_at law)
+        ∙ ap (λ (r : RuleSet). bucket_names r.definitions asker (rows_in (source_at l.fed l.position))) (sym h.stands.rules)
+
+    limit_is : store.fixed.limits.buckets ≡ fixed.limits.buckets
+    limit_is = ap (λ (f : Fixed). f.limits.buckets) h.fixed_is
+
+    pub too_many : (count : ℕ) → count ≡ length names → store.fixed.limits.buckets < length names → Takes fixed history asker (Err (TooManyBuckets count))
+    too_many count is above = record {
+      count_is = is ∙ ap length names_are;
+      above = omega (arith, is, above, limit_is);
+    }
+
+    pub take_done : (buckets : List TakenBucket) (number : Option ℕ) → number ≡ covered_of l asker → AreTold names → length names ≤ store.fixed.limits.buckets
+        → buckets ≡ map (λ (name : List ℕ). bucket_upto store.checkpoint.op.0 name (log_at store.logs name)) names
+        → Takes fixed history asker (Ok (record {
+          position = store.checkpoint.position;
+          head = store.head;
+          closed = store.closed;
+          last_op = store.checkpoint.op;
+          number = number;
+          buckets = buckets;
+        }))
+    take_done buckets number covers told few are =
+        let all : buckets ≡ map (λ (name : List ℕ). bucket_upto l.op name (l.log name)) (names_of l asker) =
+        are ∙ (λ i. map (λ (name : List ℕ). bucket_upto (h.stands.op i) name (h.stands.logs name i)) (names_are i)) in
+        let named : names ≡ map (λ (b : TakenBucket). b.name) buckets =
+        names_kept store.checkpoint.op.0 (log_at store.logs) names ∙ ap (map (λ (b : TakenBucket). b.name)) (sym are) in
+        let rows : List SourceRow = rows_in (source_at l.fed l.position) in
+        record {
+          value = λ i. record {
+            position = record { 0 = h.stands.position i };
+            head = record { 0 = h.stands.head i };
+            closed = h.stands.closed i;
+            last_op = record { 0 = h.stands.op i };
+            number = covers i;
+            buckets = all i;
+          };
+          few = omega (arith, few, limit_is, ap length are, length_map (λ (name : List ℕ). bucket_upto store.checkpoint.op.0 name (log_at store.logs name)) names);
+          rise = subst (IsStrictlySortedBy (slice_cmp nat_cmp)) (sym names_are ∙ named)
+              (names_sorted (names_of l asker) (in_order_rise (flat_map (definition_names asker rows) definitions)));
+          told = subst AreTold named told;
+        }
+
+  -- ---- a batch
+
+  pub batch_done : (bucket : List ℕ) (after upto : ℕ) (result : Result Batch Memory) → IfOk result (λ batch. batch ≡ logs.batch_of after upto (log_at store.logs bucket))
+      → IfOk result (λ batch. batch ≡ batch_of l bucket after upto)
+  batch_done bucket after upto result is = subst (λ (ops : List Op). IfOk result (λ batch. batch ≡ logs.batch_of after upto ops)) (h.stands.logs bucket) is

@@ -1,0 +1,86 @@
+-- What readers are given, as functions of the ledger.
+use Rattle.std.specs.Prelude.{◌≡◌, ℕ, ◌<◌, ◌≤◌, List, length, map, Option, Some, None, [], Result, Ok, Err}
+use Rattle.std.specs.List.Sorted.{IsStrictlySortedBy}
+use Rattle.std.specs.Cmp.Lexicographic.{slice_cmp}
+use Rattle.std.specs.Ordering.{nat_cmp}
+use Rattle.ps_values.specs.declared.ids.Position.{Position}
+use Rattle.ps_bucket_log.specs.declared.ops.Op.{Op}
+use Rattle.ps_bucket_log.specs.declared.batches.Batch.{Batch}
+use Rattle.ps_bucket_log.specs.Ops.{upto, sum_of, newest}
+use Rattle.ps_bucket_log.specs.Batches as logs
+use Rattle.ps_write_cp.specs.Numbers.{covered}
+use Rattle.ps_changes.specs.Source.{source_at}
+use Rattle.ps_sql.specs.Meaning.{Asker}
+use Rattle.ps_grant.specs.Sources.{rows_in}
+use Rattle.ps_params.specs.Names.{bucket_names, AreTold}
+use Rattle.ps_store.specs.declared.events.Event.{Event}
+use Rattle.ps_store.specs.declared.fixed.Fixed.{Fixed}
+use Rattle.ps_store.specs.declared.fixed.Limits.{Limits}
+use Rattle.ps_store.specs.declared.readings.Taken.{Taken}
+use Rattle.ps_store.specs.declared.readings.TakenBucket.{TakenBucket}
+use Rattle.ps_store.specs.declared.readings.TakeFault.{TakeFault}
+use Rattle.ps_store.specs.declared.readings.TakeFault.TheVariants.{TooManyBuckets, Memory}
+use Rattle.ps_store.specs.Ledgers.{Ledger, head_of, heads_in, ledger_of}
+
+-- ---- a checkpoint of one asker's buckets
+
+-- the buckets of an asker: those that the parameter vectors name over the source at the checkpoint's position, each once, in the order
+-- of their names' bytes
+abbrev pub names_of : Ledger → Asker → List (List ℕ)
+names_of l asker = bucket_names l.force.rules.definitions asker (rows_in (source_at l.fed l.position))
+
+-- a bucket: the sum, the count and the newest id of its log up to an op
+abbrev pub bucket_upto : ℕ → List ℕ → List Op → TakenBucket
+bucket_upto op name log = record {
+  name = name;
+  sum = record { 0 = sum_of (upto op log) };
+  count = length (upto op log);
+  newest = record { 0 = newest (upto op log) };
+}
+
+-- the heads of the write checkpoints of an asker's client, in order: its number n has the nth of them; none where it has no client
+abbrev pub heads_for : Ledger → List ℕ → Option (List ℕ) → List Position
+heads_for l user None = []
+heads_for l user (Some client) = heads_in l user client
+
+-- the greatest number of a write checkpoint of the asker's client whose head the checkpoint's position has reached
+abbrev pub covered_of : Ledger → Asker → Option ℕ
+covered_of l asker = covered l.position (heads_for l asker.user asker.client)
+
+abbrev pub take_of : Ledger → Asker → Taken
+take_of l asker = record {
+  position = record { 0 = l.position };
+  head = record { 0 = head_of l.fed };
+  closed = l.closed;
+  last_op = record { 0 = l.op };
+  number = covered_of l asker;
+  buckets = map (λ (name : List ℕ). bucket_upto l.op name (l.log name)) (names_of l asker);
+}
+
+-- the names of what was taken
+abbrev pub taken_names : Taken → List (List ℕ)
+taken_names taken = map (λ (bucket : TakenBucket). bucket.name) taken.buckets
+
+-- a checkpoint was taken: that of the ledger, of at most as many buckets as the limit; their names rise, and each is of a vector of
+-- integers of signed 64 bits
+pub record IsTaken (limits : Limits) (l : Ledger) (asker : Asker) (taken : Taken) : Type 0 where
+  pub value : taken ≡ take_of l asker
+  pub few : length taken.buckets ≤ limits.buckets
+  pub rise : IsStrictlySortedBy (slice_cmp nat_cmp) (taken_names taken)
+  pub told : AreTold (taken_names taken)
+
+-- there are more buckets than the limit
+pub record AreTooMany (limits : Limits) (l : Ledger) (asker : Asker) (count : ℕ) : Type 0 where
+  pub count_is : count ≡ length (names_of l asker)
+  pub above : limits.buckets < count
+
+abbrev pub Takes : Fixed → List Event → Asker → Result Taken TakeFault → Type 0
+Takes fixed history asker (Ok taken) = IsTaken fixed.limits (ledger_of fixed.rules history) asker taken
+Takes fixed history asker (Err (TooManyBuckets count)) = AreTooMany fixed.limits (ledger_of fixed.rules history) asker count
+Takes fixed history asker (Err Memory) = Unit {0}
+
+-- ---- a batch of a bucket's operations
+
+-- what is read of a bucket's log past one id and up to another
+abbrev pub batch_of : Ledger → List ℕ → ℕ → ℕ → Batch
+batch_of l bucket after upto = logs.batch_of after upto (l.log bucket)
