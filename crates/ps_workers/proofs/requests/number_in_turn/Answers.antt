@@ -1,0 +1,52 @@
+use Rattle.std.proofs.Common.{ℕ, ◌+◌, List, [], ◌∷◌, ◌++◌, length, sym, ap, ◌∙◌, subst}
+use Rattle.ps_lock.specs.Words.{history_of, own_entries_in}
+use Rattle.ps_store.specs.declared.events.Event.{Event}
+use Rattle.ps_store.specs.declared.events.Event.TheVariants.{WriteCheckpoint}
+use Rattle.ps_store.specs.Sharing.{fixed_of}
+use Rattle.ps_store.specs.Stores.{StoreStandsFor}
+use Rattle.ps_workers.proofs.Turning.{lent, under, looks, adds, refused_number, number_stands}
+use Rattle.ps_workers.proofs.requests.number_in_turn.Goals as goal
+
+pub leave_with-requires : goal.leave_with-requires
+leave_with-requires g c =
+    let turn = c.turn-turn.result in
+    let start = lent c.args.lock.now turn c.value.result.now c.value.ensures.value c.turn-turn.ensures.stands.1 in
+    let said = c.in-Ok-write_checkpoint.ensures (fixed_of c.args.lock.now) (history_of turn) start in
+    let copied = subst (λ (e : Event). StoreStandsFor (fixed_of c.args.lock.now) c.write_checkpoint.new.self (history_of turn ++ e ∷ [])) (sym c.in-Ok.ensures) said.2 in
+    let stands = under c.args.lock.now turn.lock.now c.write_checkpoint.new.self _ c.turn-turn.ensures.lock copied in
+    (stands.fixed_is, stands)
+
+pub leave-requires : goal.leave-requires
+leave-requires g c =
+    let turn = c.turn-turn.result in
+    let start = lent c.args.lock.now turn c.value.result.now c.value.ensures.value c.turn-turn.ensures.stands.1 in
+    let said = c.in-Err-write_checkpoint.ensures (fixed_of c.args.lock.now) (history_of turn) start in
+    let kept = number_stands (fixed_of c.args.lock.now) (history_of turn) c.args.user.now c.args.client.now c.write_checkpoint.new.self c.in-Err-write_checkpoint.fault said in
+    let stands = under c.args.lock.now turn.lock.now c.write_checkpoint.new.self (history_of turn) c.turn-turn.ensures.lock kept in
+    (stands.fixed_is, stands)
+
+pub returns-in-Ok-write_checkpoint-clause-turn : goal.returns-in-Ok-write_checkpoint-clause-turn
+returns-in-Ok-write_checkpoint-clause-turn g c =
+    let turn = c.turn-turn.result in
+    let start = lent c.args.lock.now turn c.value.result.now c.value.ensures.value c.turn-turn.ensures.stands.1 in
+    let said = c.in-Ok-write_checkpoint.ensures (fixed_of c.args.lock.now) (history_of turn) start in
+    let copied = ap (λ (e : Event). history_of turn ++ e ∷ []) c.in-Ok.ensures in
+    let own = ap (λ (e : Event). own_entries_in turn ++ (e, length (history_of turn) + 1) ∷ []) c.in-Ok.ensures in (
+      history_of turn,
+      (
+        adds c.args.seat c.leave_with.result turn c.turn-turn.ensures.seen c.turn-turn.ensures.own (WriteCheckpoint c.args.user.now c.args.client.now)
+            (c.leave_with.ensures.seen ∙ copied) (c.leave_with.ensures.own ∙ own),
+        said.0,
+        said.1,
+      ),
+    )
+
+pub returns-in-Err-write_checkpoint-clause-turn : goal.returns-in-Err-write_checkpoint-clause-turn
+returns-in-Err-write_checkpoint-clause-turn g c =
+    let turn = c.turn-turn.result in
+    let start = lent c.args.lock.now turn c.value.result.now c.value.ensures.value c.turn-turn.ensures.stands.1 in
+    let said = c.in-Err-write_checkpoint.ensures (fixed_of c.args.lock.now) (history_of turn) start in (
+      history_of turn,
+      refused_number (fixed_of c.args.lock.now) (history_of turn) c.args.user.now c.args.client.now c.args.seat c.leave.result c.write_checkpoint.new.self c.in-Err-write_checkpoint.fault
+          (looks c.args.seat c.leave.result turn c.turn-turn.ensures.seen c.turn-turn.ensures.own c.leave.ensures.seen c.leave.ensures.own) said,
+    )

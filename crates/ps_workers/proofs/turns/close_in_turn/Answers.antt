@@ -1,0 +1,18 @@
+use Rattle.ps_lock.specs.Words.{history_of}
+use Rattle.ps_store.specs.declared.events.Event.TheVariants.{Close}
+use Rattle.ps_store.specs.Sharing.{fixed_of}
+use Rattle.ps_workers.proofs.Turning.{lent, under, adds}
+use Rattle.ps_workers.proofs.turns.close_in_turn.Goals as goal
+
+pub leave_with-requires : goal.leave_with-requires
+leave_with-requires g c =
+    let turn = c.turn-turn.result in
+    let start = lent c.args.lock.now turn c.value.result.now c.value.ensures.value c.turn-turn.ensures.stands.1 in
+    let said = c.close_feed.ensures (fixed_of c.args.lock.now) (history_of turn) start in
+    let stands = under c.args.lock.now turn.lock.now c.close_feed.new.self _ c.turn-turn.ensures.lock said in
+    (stands.fixed_is, stands)
+
+pub returns-clause-turn : goal.returns-clause-turn
+returns-clause-turn g c =
+    let turn = c.turn-turn.result in
+    (history_of turn, adds c.args.seat c.leave_with.result turn c.turn-turn.ensures.seen c.turn-turn.ensures.own Close c.leave_with.ensures.seen c.leave_with.ensures.own)

@@ -1,0 +1,31 @@
+//! Opening a store that threads share.
+
+ghost use Rattle.std.specs.Prelude.{◌≡◌, [], IfOk};
+ghost use Rattle.ps_lock.specs.Words.{IsSeatOf, seen_by, own_entries_of};
+ghost use Rattle.ps_store.specs.Limits.{AreWithin};
+ghost use Rattle.ps_store.specs.Sharing.{fixed_of};
+
+use ps_lock::{Seat, StoreLock, open_lock};
+use ps_rules::Rules;
+use ps_store::{Limits, Store};
+use ps_values::Memory;
+use std::alloc::Global;
+
+/// A lock round a new store for rules, under limits that are at most the usual ones, and its first seat. The lock's history is empty.
+pub fn open_store(
+    alloc: Global,
+    rules: Rules,
+    limits: Limits,
+) -> Result<(StoreLock<Store>, Seat<Store>), Memory>
+    requires { AreWithin limits }
+    ensures fixed { IfOk result (λ r. fixed_of r.0 ≡ record { rules = rules; limits = limits }) }
+    ensures seat { IfOk result (λ r. IsSeatOf r.0 r.1) }
+    ensures seen { IfOk result (λ r. seen_by r.1 ≡ []) }
+    ensures own { IfOk result (λ r. own_entries_of r.1 ≡ []) }
+{
+    let store = Store::new(alloc, rules, limits)?;
+    match open_lock(alloc, store) {
+        Ok(opened) => Ok(opened),
+        Err((_store, memory)) => Err(memory),
+    }
+}

@@ -1,0 +1,90 @@
+//! One changing call of the store in one turn.
+
+ghost use Rattle.std.specs.Prelude.{◌≡◌, ◌≤◌, List};
+ghost use Rattle.ps_lock.specs.Words.{IsSeatOf};
+ghost use Rattle.ps_store.specs.declared.events.Event.{Event as EventSeen};
+ghost use Rattle.ps_store.specs.declared.events.Event.TheVariants.{Close};
+ghost use Rattle.ps_store.specs.Limits.{greatest};
+ghost use Rattle.ps_store.specs.Sharing.{fixed_of};
+ghost use Rattle.ps_workers.specs.Gains.{AddsTo, FeedsIn, WritesIn, CommitsIn};
+
+use ps_changes::Transaction;
+use ps_lock::{Seat, StoreLock};
+use ps_store::{Checkpoint, Event, FeedFault, NothingToCommit, Store, WriteFault, Wrote};
+use std::alloc::Global;
+use std::sync::Wait;
+
+/// Feeds a transaction in one turn. The event's copy is made before the turn, and where there is no memory for it no turn is taken. Where the store
+/// refuses the transaction, nothing is added to the history.
+pub fn feed_in_turn<R: Wait>(
+    rt: &R,
+    alloc: Global,
+    lock: &StoreLock<Store>,
+    seat: Seat<Store>,
+    transaction: Transaction,
+) -> (Seat<Store>, Result<(), FeedFault>)
+    requires seat { IsSeatOf lock.now seat }
+    requires position { transaction.position.0 ≤ greatest }
+    ensures lock { IsSeatOf lock.now result.0 }
+    ensures turn { (history : List EventSeen) × FeedsIn (fixed_of lock.now) history transaction seat result.0 result.1 }
+{
+    let copy = match transaction.copy(alloc) {
+        Ok(copy) => copy,
+        Err(_) => return (seat, Err(FeedFault::Memory)),
+    };
+    let mut turn = lock.turn(rt, seat);
+    match turn.value().feed(transaction) {
+        Ok(()) => (turn.leave_with(Event::Feed(copy)), Ok(())),
+        Err(fault) => (turn.leave(), Err(fault)),
+    }
+}
+
+/// Closes the feed in one turn.
+pub fn close_in_turn<R: Wait>(rt: &R, lock: &StoreLock<Store>, seat: Seat<Store>) -> Seat<Store>
+    requires { IsSeatOf lock.now seat }
+    ensures lock { IsSeatOf lock.now result }
+    ensures turn { (history : List EventSeen) × AddsTo history Close seat result }
+{
+    let mut turn = lock.turn(rt, seat);
+    turn.value().close_feed();
+    turn.leave_with(Event::Close)
+}
+
+/// Writes one batch in one turn: as many of the next unwritten changes as can be written, at most `limit`, from 1 to 1,000,000. Where the first of them
+/// is refused, nothing is added to the history.
+pub fn write_in_turn<R: Wait>(
+    rt: &R,
+    alloc: Global,
+    lock: &StoreLock<Store>,
+    seat: Seat<Store>,
+    limit: u32,
+) -> (Seat<Store>, Result<Wrote, WriteFault>)
+    requires seat { IsSeatOf lock.now seat }
+    requires some { 1 ≤ limit }
+    requires limit { limit ≤ 1000000 }
+    ensures lock { IsSeatOf lock.now result.0 }
+    ensures turn { (history : List EventSeen) × WritesIn (fixed_of lock.now) history limit seat result.0 result.1 }
+{
+    let mut turn = lock.turn(rt, seat);
+    match turn.value().write_batch(alloc, limit) {
+        Ok(wrote) => (turn.leave_with(Event::Write(wrote.changes)), Ok(wrote)),
+        Err(fault) => (turn.leave(), Err(fault)),
+    }
+}
+
+/// Makes what is reached the checkpoint in one turn. Where it is that already, nothing is added to the history.
+pub fn commit_in_turn<R: Wait>(
+    rt: &R,
+    lock: &StoreLock<Store>,
+    seat: Seat<Store>,
+) -> (Seat<Store>, Result<Checkpoint, NothingToCommit>)
+    requires { IsSeatOf lock.now seat }
+    ensures lock { IsSeatOf lock.now result.0 }
+    ensures turn { (history : List EventSeen) × CommitsIn (fixed_of lock.now) history seat result.0 result.1 }
+{
+    let mut turn = lock.turn(rt, seat);
+    match turn.value().commit() {
+        Ok(checkpoint) => (turn.leave_with(Event::Commit), Ok(checkpoint)),
+        Err(nothing) => (turn.leave(), Err(nothing)),
+    }
+}

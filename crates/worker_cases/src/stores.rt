@@ -1,0 +1,50 @@
+//! Made stores, and what is counted of a store.
+
+ghost use Rattle.std.specs.Prelude.{IfOk};
+ghost use Rattle.ps_lock.specs.Words.{IsSeatOf};
+
+use ps_gen::make_rules;
+use ps_lock::{Seat, StoreLock};
+use ps_rules::read_rules;
+use ps_store::{Limits, Store};
+use ps_values::Text;
+use ps_workers::open_store;
+use std::alloc::Global;
+use std::test::Fail;
+
+/// A lock round a store for the made rules, and its first seat.
+pub fn made_store(alloc: Global) -> Result<(StoreLock<Store>, Seat<Store>), Fail>
+    ensures { IfOk result (λ r. IsSeatOf r.0 r.1) }
+{
+    let bytes = make_rules(alloc)?;
+    let rules = read_rules(alloc, bytes.as_slice())?;
+    Ok(open_store(alloc, rules, Limits::usual())?)
+}
+
+// What the store counts.
+fn write_totals(alloc: Global, store: &Store, out: &mut String) -> Result<(), Fail> {
+    let totals = store.totals();
+    out.push_str(format!(in alloc;
+        " totals {} {} {} {} {}",
+        totals.transactions, totals.changes, totals.operations, totals.buckets, totals.sum.0
+    )?
+    .as_str())?;
+    Ok(())
+}
+
+/// The head, the checkpoint, how long the logs of the seven made buckets are, and the totals.
+pub fn write_store(alloc: Global, store: &Store, out: &mut String) -> Result<(), Fail> {
+    let checkpoint = store.checkpoint();
+    out.push_str(format!(in alloc;
+        "head {} checkpoint {} {} logs",
+        store.head().0,
+        checkpoint.position.0,
+        checkpoint.op.0
+    )?
+    .as_str())?;
+    'owners: for owner in 0..7u32 {
+        let name = Text::from_string(format!(in alloc; "mine[\"u{owner}\"]")?);
+        out.push_str(format!(in alloc; " {}", store.log_length(&name))?.as_str())?;
+    }
+    write_totals(alloc, store, out)
+}

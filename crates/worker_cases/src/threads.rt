@@ -1,0 +1,217 @@
+//! Threads that share a store.
+
+ghost use Rattle.std.specs.Prelude.{List, IfSome};
+ghost use Rattle.ps_lock.specs.Words.{IsSeatOf};
+ghost use Rattle.ps_store.specs.declared.events.Event.{Event as EventSeen};
+ghost use Rattle.ps_store.specs.Sharing.{fixed_of};
+ghost use Rattle.ps_store.specs.Stores.{StoreStandsFor};
+
+use crate::stores::made_store;
+use ps_changes::Transaction;
+use ps_gen::make_input;
+use ps_lock::{Seat, StoreLock};
+use ps_store::Store;
+use ps_values::{GREATEST, Items};
+use ps_workers::{commit_in_turn, feed_in_turn, write_in_turn};
+use std::alloc::Global;
+use std::sync::Wait;
+use std::test::Fail;
+use std::thread::{Threads, join};
+
+fn feed_all<R: Wait>(
+    rt: &R,
+    alloc: Global,
+    lock: &StoreLock<Store>,
+    seat: Seat<Store>,
+    transactions: Items<Transaction>,
+) -> Seat<Store>
+    requires { IsSeatOf lock.now seat }
+    ensures { IsSeatOf lock.now result }
+{
+    let mut seat = seat;
+    'transactions: for transaction in transactions.into_vec() {
+        if transaction.position.0 <= GREATEST {
+            seat = feed_in_turn(rt, alloc, lock, seat, transaction).0;
+        }
+    }
+    seat
+}
+
+fn write_often<R: Wait>(
+    rt: &R,
+    alloc: Global,
+    lock: &StoreLock<Store>,
+    seat: Seat<Store>,
+    turns: u32,
+    limit: u32,
+) -> Seat<Store>
+    requires { IsSeatOf lock.now seat }
+    ensures { IsSeatOf lock.now result }
+{
+    let mut seat = seat;
+    'turns: for _ in 0..turns {
+        seat = write_in_turn(rt, alloc, lock, seat, limit.clamp(1, 1000000)).0;
+    }
+    seat
+}
+
+fn commit_often<R: Wait>(
+    rt: &R,
+    lock: &StoreLock<Store>,
+    seat: Seat<Store>,
+    turns: u32,
+) -> Seat<Store>
+    requires { IsSeatOf lock.now seat }
+    ensures { IsSeatOf lock.now result }
+{
+    let mut seat = seat;
+    'turns: for _ in 0..turns {
+        seat = commit_in_turn(rt, lock, seat).0;
+    }
+    seat
+}
+
+// All that is left is written and committed, and the store is kept.
+fn finish<R: Wait>(
+    rt: &R,
+    alloc: Global,
+    lock: &StoreLock<Store>,
+    seat: Seat<Store>,
+    turns: u32,
+    limit: u32,
+) -> Store
+    requires { IsSeatOf lock.now seat }
+    ensures { (history : List EventSeen) × StoreStandsFor (fixed_of lock.now) result history }
+{
+    let seat = write_often(rt, alloc, lock, seat, turns, limit);
+    let seat = commit_in_turn(rt, lock, seat).0;
+    lock.turn(rt, seat).keep()
+}
+
+/// The store after one seat fed so many made transactions, wrote them and committed.
+pub fn alone<R: Wait>(rt: &R, alloc: Global, count: u32, limit: u32) -> Result<Store, Fail> {
+    let (lock, seat) = made_store(alloc)?;
+    let seat = feed_all(rt, alloc, &lock, seat, make_input(alloc, count)?);
+    Ok(finish(rt, alloc, &lock, seat, count, limit))
+}
+
+// One thread feeds the transactions while another commits so many times.
+fn feed_and_commit<R: Threads + Wait + Sync>(
+    rt: &R,
+    alloc: Global,
+    lock: &StoreLock<Store>,
+    mut seat: Seat<Store>,
+    transactions: Items<Transaction>,
+    turns: u32,
+) -> Option<Seat<Store>>
+    requires { IsSeatOf lock.now seat }
+    ensures { IfSome result (λ s. IsSeatOf lock.now s) }
+{
+    let other = lock.split(&mut seat).ok()?;
+    let (mut seat, other) = join(
+        rt,
+        || -> Seat<Store>
+            requires { IsSeatOf lock.now seat }
+            ensures { IsSeatOf lock.entry.now result }
+        { feed_all(rt, alloc, lock, seat, transactions) },
+        || -> Seat<Store>
+            requires { IsSeatOf lock.now other }
+            ensures { IsSeatOf lock.entry.now result }
+        { commit_often(rt, lock, other, turns) },
+    );
+    lock.join_in(&mut seat, other);
+    Some(seat)
+}
+
+// Two threads write so many batches each.
+fn write_by_two<R: Threads + Wait + Sync>(
+    rt: &R,
+    alloc: Global,
+    lock: &StoreLock<Store>,
+    mut seat: Seat<Store>,
+    turns: u32,
+    limit: u32,
+) -> Option<Seat<Store>>
+    requires { IsSeatOf lock.now seat }
+    ensures { IfSome result (λ s. IsSeatOf lock.now s) }
+{
+    let other = lock.split(&mut seat).ok()?;
+    let (mut seat, other) = join(
+        rt,
+        || -> Seat<Store>
+            requires { IsSeatOf lock.now seat }
+            ensures { IsSeatOf lock.entry.now result }
+        { write_often(rt, alloc, lock, seat, turns, limit) },
+        || -> Seat<Store>
+            requires { IsSeatOf lock.now other }
+            ensures { IsSeatOf lock.entry.now result }
+        { write_often(rt, alloc, lock, other, turns, limit) },
+    );
+    lock.join_in(&mut seat, other);
+    Some(seat)
+}
+
+// Four threads feed, commit and write.
+fn by_four_threads<R: Threads + Wait + Sync>(
+    rt: &R,
+    alloc: Global,
+    lock: &StoreLock<Store>,
+    mut seat: Seat<Store>,
+    transactions: Items<Transaction>,
+    turns: u32,
+    limit: u32,
+) -> Option<Seat<Store>>
+    requires { IsSeatOf lock.now seat }
+    ensures { IfSome result (λ s. IsSeatOf lock.now s) }
+{
+    let other = lock.split(&mut seat).ok()?;
+    let (seat, other) = join(
+        rt,
+        || -> Option<Seat<Store>>
+            requires { IsSeatOf lock.now seat }
+            ensures { IfSome result (λ s. IsSeatOf lock.entry.now s) }
+        { feed_and_commit(rt, alloc, lock, seat, transactions, turns) },
+        || -> Option<Seat<Store>>
+            requires { IsSeatOf lock.now other }
+            ensures { IfSome result (λ s. IsSeatOf lock.entry.now s) }
+        { write_by_two(rt, alloc, lock, other, turns, limit) },
+    );
+    let mut seat = seat?;
+    lock.join_in(&mut seat, other?);
+    Some(seat)
+}
+
+/// The store after four threads fed so many made transactions, wrote them and committed, by turns; what they left is written and committed last.
+pub fn by_four<R: Threads + Wait + Sync>(
+    rt: &R,
+    alloc: Global,
+    count: u32,
+    limit: u32,
+) -> Result<Store, Fail> {
+    let (lock, seat) = made_store(alloc)?;
+    let input = make_input(alloc, count)?;
+    let seat = by_four_threads(rt, alloc, &lock, seat, input, count, limit).ok_or("no memory")?;
+    Ok(finish(rt, alloc, &lock, seat, count, limit))
+}
+
+/// A first seat feeds a transaction: what a second seat has seen before its turn, and after one that adds nothing; and what a third turn keeps.
+pub fn write_seats<R: Wait>(rt: &R, alloc: Global, out: &mut String) -> Result<(), Fail> {
+    let (lock, mut first) = made_store(alloc)?;
+    let second = lock.split(&mut first)?;
+    let first = feed_all(rt, alloc, &lock, first, make_input(alloc, 1)?);
+    let before = second.seen();
+    let second = lock.turn(rt, second).leave();
+    let mut store = lock.turn(rt, first).keep();
+    let wrote = store.write_batch(alloc, 10);
+    let changes = match wrote {
+        Ok(wrote) => wrote.changes,
+        Err(_) => 0,
+    };
+    out.push_str(format!(in alloc;
+        "seen {before} and {}, kept with head {} and {changes} unwritten",
+        second.seen(),
+        store.head().0
+    )?
+    .as_str())?;
+    Ok(())
+}
