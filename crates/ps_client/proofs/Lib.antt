@@ -1,0 +1,10 @@
+pub mod ToldEntries
+pub mod ShownRows
+pub mod Edits
+pub mod Requesting
+pub mod Reading
+pub mod Uploading
+pub mod Maps
+pub mod Orders
+pub mod ListImages
+pub mod LatestRows

@@ -1,0 +1,265 @@
+-- The rows that are shown, and lists of them.
+use Rattle.std.proofs.Common.{◌≡◌, ℕ, Bool, true, false, not, ◌&&◌, cond, List, [], ◌∷◌, ◌++◌, Option, Some, None, Ordering, Less, Equal, Greater, filter, fold, refl, sym, ap, ◌∙◌, subst, inl, inr, ◌+◌, ◌<◌, take, get_or, length}
+use Rattle.std.specs.Prelude.{bytes_eq, IfSome, IsSome, option_map}
+use Rattle.std.specs.BTreeMap.{is_at}
+use Rattle.std.specs.Cmp.{IsEquivalence}
+use Rattle.std.specs.Cmp.Lexicographic.{slice_cmp, texts_ties, nat_list_eq_equiv}
+use Rattle.std.specs.FinMap.Entries.{find, below_all, is_sorted}
+use Rattle.std.specs.List.{AllByRecursion, IsDistinct, list_any}
+use Rattle.std.specs.List.Sorted.{IsStrictlySortedBy}
+use Rattle.std.specs.Map.{lookup, keys_of}
+use Rattle.std.specs.Option.{option_or}
+use Rattle.std.specs.Ordering.{nat_cmp, is_eq, is_lt, eq_by_cmp, ordering_then}
+use Rattle.std.proofs.lemmas.Bool.{cases_Bool, and_parts, and_from}
+use Rattle.std.proofs.lemmas.List.{take_more}
+use Rattle.std.proofs.lemmas.List.Sums.{fold_push}
+use Rattle.std.proofs.lemmas.Map.Keys.{sorted_head, sorted_tail, IsDistinct-head, IsDistinct-tail, IsDistinct-cons, IsDistinct-push}
+use Rattle.ps_values.specs.declared.columns.Column.{Column}
+use Rattle.ps_values.specs.Documents.{document_of}
+use Rattle.ps_changes.specs.declared.changes.Change.{Change}
+use Rattle.ps_changes.specs.declared.shown.Shown.{Shown}
+use Rattle.ps_changes.specs.Source.{Key as Object, key_cmp}
+use Rattle.ps_client_log.specs.Kept.{Kept, shown_in}
+use Rattle.ps_client_log.specs.Rows.{HeldCopy, Holds, object_of, IsLatestContent, by_object, AreInOrder, row_at}
+use Rattle.ps_client_log.specs.Soundness.{same_row}
+use Rattle.ps_client.specs.LocalWrites.{is_of, shown_with}
+use Rattle.ps_client.specs.Taking.{AreHeld}
+use Rattle.ps_client.proofs.ToldEntries.{same_name}
+
+-- a row is of this kind and id
+abbrev pub is_row : List ℕ → List ℕ → Shown → Bool
+is_row kind id row = bytes_eq kind row.kind && bytes_eq id row.id
+
+-- the step of `shown_in`
+abbrev pub step : List ℕ → List ℕ → Option (List ℕ) → Shown → Option (List ℕ)
+step kind id found row = cond (is_row kind id row) (Some row.content) found
+
+then_eq : (a b : Ordering) → is_eq (ordering_then a b) ≡ (is_eq a && is_eq b)
+then_eq Less b = refl
+then_eq Equal b = refl
+then_eq Greater b = refl
+
+is_row-tied : (kind id : List ℕ) (row : Shown) → is_row kind id row ≡ eq_by_cmp key_cmp (kind, id) (row.kind, row.id)
+is_row-tied kind id row =
+    (λ i. texts_ties kind row.kind i && texts_ties id row.id i) ∙ sym (then_eq (slice_cmp nat_cmp kind row.kind) (slice_cmp nat_cmp id row.id))
+
+less_apart : (o : Ordering) → is_lt o ≡ true → is_eq o ≡ false
+less_apart Less h = refl
+less_apart Equal h = cc
+less_apart Greater h = cc
+
+-- nothing is found of what is below all
+none_found : (object : Object) (rows : List Shown) → below_all key_cmp object (by_object rows) ≡ true → find key_cmp object (by_object rows) ≡ None
+none_found object [] below = refl
+none_found object (row ∷ rows) below =
+    let parts = and_parts (is_lt (key_cmp object (row.kind, row.id))) (below_all key_cmp object (by_object rows)) below in
+    rw (less_apart (key_cmp object (row.kind, row.id)) parts.0) (none_found object rows parts.1)
+
+shown_from : (kind id : List ℕ) (found : Option (List ℕ)) (rows : List Shown) → is_sorted key_cmp (by_object rows) ≡ true
+    → fold (step kind id) found rows ≡ option_or (find key_cmp (kind, id) (by_object rows)) found
+shown_from kind id found [] sorted = refl
+shown_from kind id found (row ∷ rows) sorted =
+    let parts = and_parts (below_all key_cmp (row.kind, row.id) (by_object rows)) (is_sorted key_cmp (by_object rows)) sorted in
+    let behind = shown_from kind id (step kind id found row) rows parts.1 in
+    elim (cases_Bool (is_row kind id row)) [
+      | inl same ↦
+          let tests = and_parts (bytes_eq kind row.kind) (bytes_eq id row.id) same in
+          let tied : eq_by_cmp key_cmp (kind, id) (row.kind, row.id) ≡ true = sym (is_row-tied kind id row) ∙ same in
+          let object : (row.kind, row.id) ≡ (kind, id) = λ i. (sym (same_name kind row.kind tests.0) i, sym (same_name id row.id tests.1) i) in
+          let none : find key_cmp (kind, id) (by_object rows) ≡ None =
+          none_found (kind, id) rows (subst (λ (o : Object). below_all key_cmp o (by_object rows) ≡ true) object parts.0) in
+          behind
+          ∙ ap (λ o. option_or o (step kind id found row)) none
+          ∙ ap (λ b. cond b (Some row.content) found) same
+          ∙ sym (ap (λ b. option_or (cond b (Some row.content) (find key_cmp (kind, id) (by_object rows))) found) tied)
+      | inr apart ↦
+          let untied : eq_by_cmp key_cmp (kind, id) (row.kind, row.id) ≡ false = sym (is_row-tied kind id row) ∙ apart in
+          behind
+          ∙ ap (λ b. option_or (find key_cmp (kind, id) (by_object rows)) (cond b (Some row.content) found)) apart
+          ∙ sym (ap (λ b. option_or (cond b (Some row.content) (find key_cmp (kind, id) (by_object rows))) found) untied)
+    ]
+
+or_none : (o : Option (List ℕ)) → option_or o None ≡ o
+or_none None = refl
+or_none (Some x) = refl
+
+-- rows in order show what is found among them
+pub shown_found : (rows : List Shown) → AreInOrder rows → (kind id : List ℕ) → shown_in rows kind id ≡ row_at (kind, id) rows
+shown_found rows sorted kind id = shown_from kind id None rows sorted ∙ or_none (row_at (kind, id) rows)
+
+pub held_shown : (kept : Kept) (rows : List Shown) → AreInOrder rows → ((object : Object) → IfSome (row_at object rows) (IsLatestContent kept object))
+    → ((copy : HeldCopy) → Holds kept copy → IsSome (row_at (object_of copy) rows)) → AreHeld kept (shown_in rows)
+held_shown kept rows sorted latest all = record {
+  latest = λ object. subst (λ (o : Option (List ℕ)). IfSome o (IsLatestContent kept object)) (sym (shown_found rows sorted object.0 object.1)) (latest object);
+  all = λ copy holds. subst (λ (o : Option (List ℕ)). IsSome o) (sym (shown_found rows sorted copy.key.kind copy.key.id)) (all copy holds);
+}
+
+-- ---- an index of rows
+
+find_lookup : (object : Object) (entries : List (Object × List ℕ)) → find key_cmp object entries ≡ lookup (is_at (key_cmp object)) entries
+find_lookup object [] = refl
+find_lookup object (pair ∷ pairs) = ap (cond (eq_by_cmp key_cmp object pair.0) (Some pair.1)) (find_lookup object pairs)
+
+below_each : (object : Object) (entries : List (Object × List ℕ)) → AllByRecursion (λ other. key_cmp object other ≡ Less) (keys_of entries) → below_all key_cmp object entries ≡ true
+below_each object [] all = refl
+below_each object (pair ∷ pairs) all = rw all.0 (below_each object pairs all.1)
+
+sorted_entries : (entries : List (Object × List ℕ)) → IsStrictlySortedBy key_cmp (keys_of entries) → is_sorted key_cmp entries ≡ true
+sorted_entries [] sorted = refl
+sorted_entries (pair ∷ pairs) sorted =
+    and_from (below_all key_cmp pair.0 pairs) (is_sorted key_cmp pairs)
+    (below_each pair.0 pairs (sorted_head key_cmp pair.0 (keys_of pairs) sorted)) (sorted_entries pairs (sorted_tail key_cmp pair.0 (keys_of pairs) sorted))
+
+pub listed_in_order : (rows : List Shown) (entries : List (Object × List ℕ)) → by_object rows ≡ entries → IsStrictlySortedBy key_cmp (keys_of entries) → AreInOrder rows
+listed_in_order rows entries listed sorted = ap (is_sorted key_cmp) listed ∙ sorted_entries entries sorted
+
+pub listed_same : (rows : List Shown) (entries : List (Object × List ℕ)) (object : Object) → by_object rows ≡ entries → row_at object rows ≡ lookup (is_at (key_cmp object)) entries
+listed_same rows entries object listed = ap (find key_cmp object) listed ∙ find_lookup object entries
+
+-- one more row is indexed
+pub indexed_more : (rows : List Shown) (i : ℕ) (row : Shown) (own : Object) (content : List ℕ) (object : Object) (old new : Option (List ℕ))
+    → i < length rows → row ≡ get_or rows i row → own.0 ≡ row.kind → own.1 ≡ row.id → content ≡ row.content
+    → new ≡ cond (is_at (key_cmp own) object) (Some content) old → old ≡ shown_in (take i rows) object.0 object.1
+    → new ≡ shown_in (take (i + 1) rows) object.0 object.1
+indexed_more rows i row own content object old new within is kind id same updates before =
+    let key : own ≡ (row.kind, row.id) = λ j. (kind j, id j) in
+    let turned : is_at (key_cmp own) object ≡ is_row object.0 object.1 row =
+    ap (λ (o : Object). is_at (key_cmp o) object) key
+    ∙ then_eq (slice_cmp nat_cmp row.kind object.0) (slice_cmp nat_cmp row.id object.1)
+    ∙ (λ j. sym (texts_ties row.kind object.0) j && sym (texts_ties row.id object.1) j)
+    ∙ (λ j. nat_list_eq_equiv.symm row.kind object.0 j && nat_list_eq_equiv.symm row.id object.1 j) in
+    updates
+    ∙ (λ j. cond (turned j) (Some (same j)) (before j))
+    ∙ sym (fold_push (step object.0 object.1) None (take i rows) row)
+    ∙ ap (λ (all : List Shown). shown_in all object.0 object.1) (ap (λ (x : Shown). take i rows ++ x ∷ []) is ∙ sym (take_more rows i row within))
+
+-- ---- a change of a row
+
+abbrev others_of : Change → List Shown → List Shown
+others_of change rows = filter (λ (row : Shown). not (is_of change row.kind row.id)) rows
+
+step_skips : (change : Change) (kind id : List ℕ) (found : Option (List ℕ)) (row : Shown) → is_of change row.kind row.id ≡ true → is_of change kind id ≡ false → step kind id found row ≡ found
+step_skips change kind id found row dropped other =
+    let own = and_parts (bytes_eq row.kind change.table) (bytes_eq row.id change.id) dropped in
+    let kinds : row.kind ≡ change.table = same_name row.kind change.table own.0 in
+    let ids : row.id ≡ change.id = same_name row.id change.id own.1 in
+    let not_row : is_row kind id row ≡ false = (λ j. bytes_eq kind (kinds j) && bytes_eq id (ids j)) ∙ other in
+    ap (λ b. cond b (Some row.content) found) not_row
+
+step_keeps : (change : Change) (kind id : List ℕ) (found : Option (List ℕ)) (row : Shown) → is_of change row.kind row.id ≡ false → is_of change kind id ≡ true → step kind id found row ≡ found
+step_keeps change kind id found row kept own =
+    let parts = and_parts (bytes_eq kind change.table) (bytes_eq id change.id) own in
+    let kinds : kind ≡ change.table = same_name kind change.table parts.0 in
+    let ids : id ≡ change.id = same_name id change.id parts.1 in
+    let not_row : is_row kind id row ≡ false =
+    (λ j. bytes_eq (kinds j) row.kind && bytes_eq (ids j) row.id)
+    ∙ (λ j. nat_list_eq_equiv.symm change.table row.kind j && nat_list_eq_equiv.symm change.id row.id j) ∙ kept in
+    ap (λ b. cond b (Some row.content) found) not_row
+
+-- what is found of the row that changes is what was found before, and of another row what is found among all
+own_found : (change : Change) (kind id : List ℕ) (found : Option (List ℕ)) (rows : List Shown) → is_of change kind id ≡ true
+    → fold (step kind id) found (others_of change rows) ≡ found
+own_found change kind id found [] own = refl
+own_found change kind id found (row ∷ rows) own = elim (cases_Bool (is_of change row.kind row.id)) [
+  | inl dropped ↦ rw dropped (own_found change kind id found rows own)
+  | inr kept ↦ rw kept (ap (λ one. fold (step kind id) one (others_of change rows)) (step_keeps change kind id found row kept own) ∙ own_found change kind id found rows own)
+]
+
+other_found : (change : Change) (kind id : List ℕ) (found : Option (List ℕ)) (rows : List Shown) → is_of change kind id ≡ false
+    → fold (step kind id) found (others_of change rows) ≡ fold (step kind id) found rows
+other_found change kind id found [] other = refl
+other_found change kind id found (row ∷ rows) other = elim (cases_Bool (is_of change row.kind row.id)) [
+  | inl dropped ↦
+      rw dropped (other_found change kind id found rows other
+      ∙ ap (λ one. fold (step kind id) one rows) (sym (step_skips change kind id found row dropped other)))
+  | inr kept ↦ rw kept (other_found change kind id (step kind id found row) rows other)
+]
+
+pub shown_deleted : (change : Change) (rows others : List Shown) → others ≡ others_of change rows → change.row ≡ None → shown_in others ≡ shown_with change (shown_in rows)
+shown_deleted change rows others is none = λ j kind id. by kind id j
+  where
+    by : (kind id : List ℕ) → shown_in others kind id ≡ shown_with change (shown_in rows) kind id
+    by kind id = ap (λ (all : List Shown). shown_in all kind id) is ∙ elim (cases_Bool (is_of change kind id)) [
+      | inl own ↦
+          own_found change kind id None rows own
+          ∙ sym (ap (λ b. cond b (option_map (document_of change.id) change.row) (shown_in rows kind id)) own ∙ ap (option_map (document_of change.id)) none)
+      | inr other ↦
+          other_found change kind id None rows other
+          ∙ sym (ap (λ b. cond b (option_map (document_of change.id) change.row) (shown_in rows kind id)) other)
+    ]
+
+pub shown_put : (change : Change) (columns : List Column) (rows others changed : List Shown) (row : Shown) → others ≡ others_of change rows → change.row ≡ Some columns
+    → row.kind ≡ change.table → row.id ≡ change.id → row.content ≡ document_of change.id columns → changed ≡ others ++ row ∷ []
+    → shown_in changed ≡ shown_with change (shown_in rows)
+shown_put change columns rows others changed row is some kinds ids content pushed = λ j kind id. by kind id j
+  where
+    put : option_map (document_of change.id) change.row ≡ Some row.content
+    put = ap (option_map (document_of change.id)) some ∙ ap (λ (x : List ℕ). Some x) (sym content)
+
+    tested : (kind id : List ℕ) → is_row kind id row ≡ is_of change kind id
+    tested kind id = λ j. bytes_eq kind (kinds j) && bytes_eq id (ids j)
+
+    by : (kind id : List ℕ) → shown_in changed kind id ≡ shown_with change (shown_in rows) kind id
+    by kind id =
+        ap (λ (all : List Shown). shown_in all kind id) pushed
+        ∙ fold_push (step kind id) None others row
+        ∙ ap (λ b. cond b (Some row.content) (shown_in others kind id)) (tested kind id)
+        ∙ elim (cases_Bool (is_of change kind id)) [
+          | inl own ↦
+              ap (λ b. cond b (Some row.content) (shown_in others kind id)) own
+              ∙ sym (ap (λ b. cond b (option_map (document_of change.id) change.row) (shown_in rows kind id)) own ∙ put)
+          | inr other ↦
+              ap (λ b. cond b (Some row.content) (shown_in others kind id)) other
+              ∙ ap (λ (all : List Shown). shown_in all kind id) is
+              ∙ other_found change kind id None rows other
+              ∙ sym (ap (λ b. cond b (option_map (document_of change.id) change.row) (shown_in rows kind id)) other)
+        ]
+
+-- ---- rows that stand once
+
+row_laws : IsEquivalence same_row
+row_laws = record {
+  refl = λ a. and_from (bytes_eq a.kind a.kind) (bytes_eq a.id a.id) (nat_list_eq_equiv.refl a.kind) (nat_list_eq_equiv.refl a.id);
+  symm = λ a b. (λ j. nat_list_eq_equiv.symm a.kind b.kind j && nat_list_eq_equiv.symm a.id b.id j);
+  congr = λ a b c same.
+      let parts = and_parts (bytes_eq a.kind b.kind) (bytes_eq a.id b.id) same in
+      (λ j. bytes_eq (same_name a.kind b.kind parts.0 j) c.kind && bytes_eq (same_name a.id b.id parts.1 j) c.id);
+}
+
+apart_still : (p : Shown → Bool) (row : Shown) (rows : List Shown) → AllByRecursion (λ other. same_row row other ≡ false) rows → AllByRecursion (λ other. same_row row other ≡ false) (filter p rows)
+apart_still p row [] all = tt
+apart_still p row (first ∷ rows) all = elim (cases_Bool (p first)) [
+  | inl keeps ↦ rw keeps (all.0, apart_still p row rows all.1)
+  | inr drops ↦ rw drops (apart_still p row rows all.1)
+]
+
+distinct_still : (p : Shown → Bool) (rows : List Shown) → IsDistinct same_row rows → IsDistinct same_row (filter p rows)
+distinct_still p [] distinct = distinct
+distinct_still p (row ∷ rows) distinct =
+    let behind = distinct_still p rows (IsDistinct-tail same_row row rows distinct) in
+    elim (cases_Bool (p row)) [
+      | inl keeps ↦ rw keeps (IsDistinct-cons same_row row (filter p rows) (apart_still p row rows (IsDistinct-head same_row row rows distinct)) behind)
+      | inr drops ↦ rw drops behind
+    ]
+
+pub others_distinct : (change : Change) (rows others : List Shown) → others ≡ others_of change rows → IsDistinct same_row rows → IsDistinct same_row others
+others_distinct change rows others is distinct =
+    subst (IsDistinct same_row) (sym is) (distinct_still (λ (row : Shown). not (is_of change row.kind row.id)) rows distinct)
+
+none_same : (change : Change) (row : Shown) (rows : List Shown) → row.kind ≡ change.table → row.id ≡ change.id → list_any (same_row row) (others_of change rows) ≡ false
+none_same change row [] kinds ids = refl
+none_same change row (first ∷ rows) kinds ids = elim (cases_Bool (is_of change first.kind first.id)) [
+  | inl dropped ↦ rw dropped (none_same change row rows kinds ids)
+  | inr kept ↦
+      let apart : same_row row first ≡ false =
+      (λ j. nat_list_eq_equiv.symm row.kind first.kind j && nat_list_eq_equiv.symm row.id first.id j)
+      ∙ (λ j. bytes_eq first.kind (kinds j) && bytes_eq first.id (ids j)) ∙ kept in
+      rw (kept, apart) (none_same change row rows kinds ids)
+]
+
+pub changed_distinct : (change : Change) (rows others changed : List Shown) (row : Shown) → others ≡ others_of change rows → IsDistinct same_row rows
+    → row.kind ≡ change.table → row.id ≡ change.id → changed ≡ others ++ row ∷ [] → IsDistinct same_row changed
+changed_distinct change rows others changed row is distinct kinds ids pushed =
+    subst (IsDistinct same_row) (sym pushed)
+    (IsDistinct-push row_laws others row (others_distinct change rows others is distinct)
+    (ap (list_any (same_row row)) is ∙ none_same change row rows kinds ids))

@@ -1,0 +1,10 @@
+pub mod Types
+pub mod Tables
+pub mod Clients
+pub mod Taking
+pub mod Keepers
+pub mod Requests
+pub mod LocalWrites
+pub mod States
+pub mod Lists
+pub mod Laws

@@ -1,0 +1,95 @@
+ghost use Rattle.std.specs.Prelude.{◌≡◌, ◌≢◌, ◌≤◌, [], IfOk, OnOk, OnErr, option_map};
+ghost use Rattle.ps_values.specs.Numbers.{greatest};
+ghost use Rattle.ps_client_log.specs.Keeping.{RoseWhereFailed};
+ghost use Rattle.ps_client_log.specs.Logs.{kept, keeper_of};
+ghost use Rattle.ps_client.specs.Keepers.{Follows};
+ghost use Rattle.ps_client.specs.LocalWrites.{written, popped, aimed, upload_text, next_upload};
+
+use crate::showing::rows_with;
+use crate::taking::commit;
+use ps_changes::{Change, write_change};
+use ps_client_log::{ClientLog, Edit, KeepFault, Keeper, Target, edits_leave_what_is_sound};
+use ps_values::Memory;
+use std::alloc::Global;
+
+/// Keeps a local write, shows its row, and makes the target pending.
+pub fn write<K: Keeper>(
+    alloc: Global,
+    log: &mut ClientLog<K>,
+    change: Change,
+) -> Result<(), KeepFault>
+    requires { change.table ≢ [] }
+    ensures ok { OnOk result (kept log.new ≡ written change (kept log.old)) }
+    ensures err { OnErr result (kept log.new ≡ kept log.old) }
+    ensures follows { Follows (K.held (keeper_of log.old)) (K.held (keeper_of log.new)) (kept log.new) }
+    ensures failed { RoseWhereFailed result (K.faults (keeper_of log.old)) (K.faults (keeper_of log.new)) }
+    ensures faults { K.faults (keeper_of log.old) ≤ K.faults (keeper_of log.new) }
+    ensures quiet { OnOk result (K.faults (keeper_of log.new) ≡ K.faults (keeper_of log.old)) }
+{
+    edits_leave_what_is_sound();
+    let _target = log.target();
+    let rows = rows_with(alloc, log.shown(), &change)?;
+    let target = Target::Pending;
+    let edits = vec![in alloc;
+        Edit::Push { change },
+        Edit::Aim { target },
+        Edit::Show { rows },
+    ]?;
+    commit(alloc, log, edits)
+}
+
+/// The oldest local write leaves the queue.
+pub fn pop<K: Keeper>(alloc: Global, log: &mut ClientLog<K>) -> Result<(), KeepFault>
+    requires { (kept log.old).queue ≢ [] }
+    ensures ok { OnOk result (kept log.new ≡ popped (kept log.old)) }
+    ensures err { OnErr result (kept log.new ≡ kept log.old) }
+    ensures follows { Follows (K.held (keeper_of log.old)) (K.held (keeper_of log.new)) (kept log.new) }
+    ensures failed { RoseWhereFailed result (K.faults (keeper_of log.old)) (K.faults (keeper_of log.new)) }
+    ensures faults { K.faults (keeper_of log.old) ≤ K.faults (keeper_of log.new) }
+    ensures quiet { OnOk result (K.faults (keeper_of log.new) ≡ K.faults (keeper_of log.old)) }
+{
+    edits_leave_what_is_sound();
+    let _target = log.target();
+    let edits = vec![in alloc; Edit::Pop]?;
+    commit(alloc, log, edits)
+}
+
+/// The target is a write checkpoint's number.
+pub fn aim<K: Keeper>(alloc: Global, log: &mut ClientLog<K>, number: u64) -> Result<(), KeepFault>
+    requires { number ≤ greatest }
+    ensures ok { OnOk result (kept log.new ≡ aimed number (kept log.old)) }
+    ensures err { OnErr result (kept log.new ≡ kept log.old) }
+    ensures follows { Follows (K.held (keeper_of log.old)) (K.held (keeper_of log.new)) (kept log.new) }
+    ensures failed { RoseWhereFailed result (K.faults (keeper_of log.old)) (K.faults (keeper_of log.new)) }
+    ensures faults { K.faults (keeper_of log.old) ≤ K.faults (keeper_of log.new) }
+    ensures quiet { OnOk result (K.faults (keeper_of log.new) ≡ K.faults (keeper_of log.old)) }
+{
+    edits_leave_what_is_sound();
+    let _target = log.target();
+    let target = Target::Number(number);
+    let edits = vec![in alloc; Edit::Aim { target }]?;
+    commit(alloc, log, edits)
+}
+
+// The body that uploads a change by itself.
+fn upload_of(alloc: Global, change: &Change) -> Result<Vec<u8>, Memory>
+    requires { change.now.table ≢ [] }
+    ensures { IfOk result (λ body. body.items ≡ upload_text change.now) }
+{
+    let text = write_change(alloc, change)?;
+    let mut body = Vec::new(alloc);
+    body.extend_from_slice(b"{\"changes\":[")?;
+    body.extend_from_slice(text.as_slice())?;
+    body.extend_from_slice(b"]}")?;
+    Ok(body)
+}
+
+/// The body that uploads the oldest local write.
+pub fn next_body<K: Keeper>(alloc: Global, log: &ClientLog<K>) -> Result<Option<Vec<u8>>, Memory>
+    ensures { IfOk result (λ body. option_map (λ bytes. bytes.items) body ≡ next_upload (kept log.now).queue) }
+{
+    match log.queue() {
+        [] => Ok(None),
+        [change, ..] => Ok(Some(upload_of(alloc, change)?)),
+    }
+}
