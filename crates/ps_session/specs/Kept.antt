@@ -1,0 +1,44 @@
+-- What a session keeps: places beside the buckets of the last taken value.
+use Rattle.std.specs.Prelude.{◌≡◌, ℕ, suc, if◌then◌else◌, List, [], ◌∷◌, bytes_eq, nat_lt, length}
+use Rattle.ps_values.specs.declared.ids.OpId.{OpId}
+use Rattle.ps_lines.specs.declared.bodies.Known.{Known}
+use Rattle.ps_sql_eval.specs.declared.askers.Asker.{Asker}
+use Rattle.ps_store.specs.declared.readings.Taken.{Taken}
+use Rattle.ps_store.specs.declared.readings.TakenBucket.{TakenBucket}
+use Rattle.ps_session.specs.declared.phases.Phase.{Phase}
+use Rattle.ps_session.specs.Takes.{NamesRise}
+use Rattle.ps_session.specs.Sessions.{SessionState, requested_in}
+
+pub record Kept : Type 0 where
+  pub asker : Asker
+  pub known : List Known
+  pub phase : Phase
+  pub last : Taken
+  pub places : List OpId
+
+-- the place that stands beside the bucket of a name, 0 where there is none
+abbrev pub place_of : List TakenBucket → List OpId → List ℕ → ℕ
+place_of [] places name = 0
+place_of (bucket ∷ buckets) [] name = 0
+place_of (bucket ∷ buckets) (place ∷ places) name = if bytes_eq name bucket.name then place.0 else place_of buckets places name
+
+-- the session that is kept so
+abbrev pub state_of : Kept → SessionState
+state_of kept = record {
+  requested = requested_in kept.known;
+  places = place_of kept.last.buckets kept.places;
+  last = kept.last;
+  phase = kept.phase;
+}
+
+-- how many buckets at the front are sent up to their newest operations
+abbrev pub done_front : List TakenBucket → List OpId → ℕ
+done_front [] places = 0
+done_front (bucket ∷ buckets) [] = 0
+done_front (bucket ∷ buckets) (place ∷ places) = if nat_lt place.0 bucket.newest.0 then 0 else suc (done_front buckets places)
+
+-- each bucket has a place, and all before the cursor are done, but not the one at it
+pub record IsKept (last : Taken) (places : List OpId) (cursor : ℕ) : Type 0 where
+  pub rise : NamesRise last.buckets
+  pub beside : length places ≡ length last.buckets
+  pub done : cursor ≡ done_front last.buckets places

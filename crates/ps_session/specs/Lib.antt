@@ -1,0 +1,11 @@
+pub mod Types
+pub mod Takes
+pub mod Sessions
+pub mod Kept
+pub mod Matches
+pub mod Runs
+pub mod Headline
+pub mod Lives
+pub mod Ties
+pub mod Led
+pub mod Calls

@@ -1,0 +1,12 @@
+use ps_lines::Known;
+use ps_sql_eval::Asker;
+use ps_values::Items;
+
+/// What a client asks a stream for.
+#[derive(Debug, Drop)]
+pub struct StreamRequest {
+    /// Who asks.
+    pub asker: Asker,
+    /// How far the client holds its buckets. A bucket that is named twice counts as its last entry.
+    pub positions: Items<Known>,
+}

@@ -1,0 +1,302 @@
+//! The session.
+
+ghost use Rattle.std.specs.Prelude.{◌≡◌, ◌≢◌, ◌⊎◌, ◌↔◌, ◌<◌, [], Some, None, IfOk, OnOk, OnErr, IsTrue, option_map, length, slice_set};
+ghost use Rattle.ps_session.specs.declared.phases.Phase.TheVariants as phases;
+ghost use Rattle.ps_session.specs.declared.actions.Action.TheVariants as actions;
+ghost use Rattle.ps_session.specs.Takes.{NamesRise, name_of};
+ghost use Rattle.ps_session.specs.Sessions.{IsTaking, IsReading, IsReadAt, IsDrained, nothing_taken, begin, requested_in, behind, next_action, took, with_checkpoint, with_diff, read, phase_after, finished};
+ghost use Rattle.ps_bucket_log.specs.Ops.{place_after};
+ghost use Rattle.ps_session.specs.Kept.{state_of, done_front};
+
+use crate::actions::Action;
+use crate::diffs::{diff_line, is_unchanged};
+use crate::entries::first_line;
+use crate::matches::matches_among;
+use crate::phases::Phase;
+use crate::places::{first_behind, kept_places, requested_places};
+use crate::requests::StreamRequest;
+use ps_bucket_log::{Batch, Op};
+use ps_lines::{Known, Line};
+use ps_sql_eval::Asker;
+use ps_store::Taken;
+use ps_values::{Items, Memory, OpId, Position, Text};
+use std::alloc::Global;
+use std::marker::Model;
+
+/// One stream's session. It says what to ask of a store next, and makes the stream's lines of the answers: those of
+/// one checkpoint after another, each sent bucket by bucket.
+#[derive(Debug, Drop)]
+pub struct Session {
+    asker: Asker,
+    known: Items<Known>,
+    phase: Phase,
+    last: Taken,
+    // beside the buckets of `last`
+    places: Vec<OpId>,
+    // the place of the first bucket that is not sent up to its newest operation: it only goes on, until another
+    // checkpoint begins, so all looks for it take no more time than there are buckets
+    cursor: usize,
+}
+
+impl Model for Session {
+    ghost use Rattle.ps_session.specs.Kept.{Kept};
+
+    ghost Value = { Kept };
+
+    ghost use Rattle.ps_session.specs.Kept.{IsKept};
+
+    ghost view = { λ session. record {
+      asker = session.asker;
+      known = session.known;
+      phase = session.phase;
+      last = session.last;
+      places = session.places.items;
+    } };
+
+    ghost invariant = { λ session. IsKept session.last session.places.items session.cursor };
+}
+
+// What is taken before the first take.
+fn nothing_taken(alloc: Global) -> Taken
+    ensures { result ≡ nothing_taken }
+{
+    Taken {
+        position: Position(0),
+        head: Position(0),
+        closed: false,
+        last_op: OpId(0),
+        number: None,
+        buckets: Items::new(alloc),
+    }
+}
+
+// The id of the last operation, and the one before them where there is none.
+fn last_id(before: OpId, ops: &[Op]) -> OpId
+    ensures { result.0 ≡ place_after before.0 ops.now }
+{
+    match ops.last() {
+        Some(op) => op.id(),
+        None => before,
+    }
+}
+
+// Whether the checkpoint goes on behind a batch with this target.
+fn phase_after(op: OpId, target: Option<OpId>) -> Phase
+    ensures { result ≡ phase_after op target }
+{
+    match target {
+        Some(target) if op.0 < target.0 => Phase::Void,
+        _ => Phase::Download,
+    }
+}
+
+impl Session {
+    /// The session of a request. Takes no memory.
+    pub fn begin(alloc: Global, request: StreamRequest) -> Session
+        ensures state { state_of result ≡ begin (requested_in request.positions) }
+        ensures asker { result.asker ≡ request.asker }
+    {
+        let StreamRequest { asker, positions } = request;
+        Session {
+            asker,
+            known: positions,
+            phase: Phase::Start,
+            last: nothing_taken(alloc),
+            places: Vec::new(alloc),
+            cursor: 0,
+        }
+    }
+
+    /// Who asks.
+    pub fn asker(&self) -> &Asker
+        ensures { result.now ≡ self.now.asker }
+    {
+        &self.asker
+    }
+
+    /// What is to be done next. Takes no memory, and the same time however many buckets are sent.
+    pub fn next_action(&self) -> Action
+        ensures action { result ≡ next_action (state_of self.now) }
+        ensures wait { (result ≡ actions.Wait) ↔ ((state_of self.now).phase ≡ phases.Done) }
+    {
+        match self.phase {
+            Phase::Start | Phase::Void => Action::Take,
+            Phase::Download => match self.last.buckets.get(self.cursor) {
+                Some(_) => Action::Read {
+                    place: self.cursor,
+                    after: self.places[self.cursor],
+                    upto: self.last.last_op,
+                },
+                None => Action::Complete,
+            },
+            Phase::Done => Action::Wait,
+        }
+    }
+
+    /// The name of the bucket that is read, at the place of the `Read`. Takes no memory.
+    pub fn bucket_at(&self, place: usize) -> &Text
+        requires { IsReadAt place (next_action (state_of self.now)) }
+        ensures { option_map name_of (behind (state_of self.now)) ≡ Some result.now }
+    {
+        &self.last.buckets.get(place).unwrap().name
+    }
+
+    // The checkpoint is sent from now on, with these places beside its buckets.
+    fn follow(&mut self, taken: Taken, places: Vec<OpId>)
+        requires rise { NamesRise taken.buckets }
+        requires beside { length places.items ≡ length taken.buckets }
+        ensures { self.new ≡ record self.old { phase = phases.Download; last = taken; places = places.items } }
+    {
+        self.cursor = first_behind(taken.buckets.as_slice(), places.as_slice(), 0);
+        self.last = taken;
+        self.places = places;
+        self.phase = Phase::Download;
+    }
+
+    // The first checkpoint begins.
+    fn take_first(&mut self, alloc: Global, taken: Taken) -> Result<Option<Line>, Memory>
+        requires { NamesRise taken.buckets }
+        ensures state { OnOk result (state_of self.new ≡ (with_checkpoint (state_of self.old) taken).session) }
+        ensures line { IfOk result (λ line. line ≡ (with_checkpoint (state_of self.old) taken).line) }
+        ensures err { OnErr result (self.new ≡ self.old) }
+        ensures asker { self.new.asker ≡ self.old.asker }
+    {
+        let places = requested_places(alloc, self.known.as_slice(), taken.buckets.as_slice())?;
+        let line = first_line(alloc, &taken)?;
+        self.follow(taken, places);
+        Ok(Some(line))
+    }
+
+    // Another checkpoint begins, told as what differs from the last.
+    fn take_other(&mut self, alloc: Global, taken: Taken) -> Result<Option<Line>, Memory>
+        requires { NamesRise taken.buckets }
+        ensures state { OnOk result (state_of self.new ≡ (with_diff (state_of self.old) taken).session) }
+        ensures line { IfOk result (λ line. line ≡ (with_diff (state_of self.old) taken).line) }
+        ensures err { OnErr result (self.new ≡ self.old) }
+        ensures asker { self.new.asker ≡ self.old.asker }
+    {
+        let matches = matches_among(
+            alloc,
+            taken.buckets.as_slice(),
+            self.last.buckets.as_slice(),
+        )?;
+        let places = kept_places(alloc, matches.as_slice(), self.places.as_slice())?;
+        let line = diff_line(alloc, &self.last, &taken, matches.as_slice())?;
+        self.follow(taken, places);
+        Ok(Some(line))
+    }
+
+    /// Takes a checkpoint, whose buckets' names rise, where the action is `Take` or `Wait`. It gives a line that tells
+    /// the first checkpoint whole, and another as what differs from the last; none where the last is completed and
+    /// nothing differs. After `Memory` all is as before.
+    pub fn took(&mut self, alloc: Global, taken: Taken) -> Result<Option<Line>, Memory>
+        requires action { IsTaking (next_action (state_of self.old)) }
+        requires rise { NamesRise taken.buckets }
+        ensures state { OnOk result (state_of self.new ≡ (took (state_of self.old) taken).session) }
+        ensures line { IfOk result (λ line. line ≡ (took (state_of self.old) taken).line) }
+        ensures err { OnErr result (self.new ≡ self.old) }
+        ensures asker { self.new.asker ≡ self.old.asker }
+    {
+        match self.phase {
+            Phase::Start => self.take_first(alloc, taken),
+            Phase::Download => unreachable!(),
+            Phase::Void => self.take_other(alloc, taken),
+            Phase::Done => {
+                if is_unchanged(&self.last, &taken) {
+                    self.last = taken;
+                    Ok(None)
+                } else {
+                    self.take_other(alloc, taken)
+                }
+            }
+        }
+    }
+
+    /// Takes a batch that was read, with operations or `passed`, where the action is `Read`. A batch that was passed by
+    /// gives no line and its checkpoint up. Another gives its line, and where its target is past the checkpoint's op
+    /// the checkpoint is given up behind that line. After `Memory` all is as before.
+    pub fn read(&mut self, alloc: Global, batch: Batch) -> Result<Option<Line>, Memory>
+        requires action { IsReading (next_action (state_of self.old)) }
+        requires something { (batch.ops ≢ []) ⊎ (batch.passed ≢ None) }
+        ensures state { OnOk result (state_of self.new ≡ (read (state_of self.old) batch).session) }
+        ensures line { IfOk result (λ line. line ≡ (read (state_of self.old) batch).line) }
+        ensures err { OnErr result (self.new ≡ self.old) }
+        ensures asker { self.new.asker ≡ self.old.asker }
+    {
+        match batch.passed {
+            Some(_) => {
+                self.phase = Phase::Void;
+                Ok(None)
+            }
+            None => self.send(alloc, batch),
+        }
+    }
+
+    // Sends a batch.
+    fn send(&mut self, alloc: Global, batch: Batch) -> Result<Option<Line>, Memory>
+        requires action { IsReading (next_action (state_of self.old)) }
+        requires passed { batch.passed ≡ None }
+        ensures state { OnOk result (state_of self.new ≡ (read (state_of self.old) batch).session) }
+        ensures line { IfOk result (λ line. line ≡ (read (state_of self.old) batch).line) }
+        ensures err { OnErr result (self.new ≡ self.old) }
+        ensures asker { self.new.asker ≡ self.old.asker }
+    {
+        let bucket = self
+            .last
+            .buckets
+            .get(self.cursor)
+            .unwrap()
+            .name
+            .copy(alloc)?;
+        let after = self.places[self.cursor];
+        let Batch {
+            ops,
+            has_more,
+            target,
+            passed: _,
+        } = batch;
+        let next_after = last_id(after, ops.as_slice());
+        self.advance(next_after, phase_after(self.last.last_op, target));
+        Ok(Some(Line::Data {
+            bucket,
+            after,
+            has_more,
+            ops,
+            next_after,
+        }))
+    }
+
+    // The first bucket that is behind is sent up to here.
+    fn advance(&mut self, place: OpId, phase: Phase)
+        requires { done_front self.old.last.buckets self.old.places < length self.old.last.buckets }
+        ensures { self.new ≡ record self.old { phase = phase; places = slice_set self.old.places (done_front self.old.last.buckets self.old.places) place } }
+    {
+        self.places[self.cursor] = place;
+        self.cursor = first_behind(
+            self.last.buckets.as_slice(),
+            self.places.as_slice(),
+            self.cursor,
+        );
+        self.phase = phase;
+    }
+
+    /// Tells that all of the checkpoint is sent, where the action is `Complete`. Takes no memory.
+    pub fn finish(&mut self) -> Line
+        requires { next_action (state_of self.old) ≡ actions.Complete }
+        ensures state { state_of self.new ≡ (finished (state_of self.old)).session }
+        ensures line { Some result ≡ (finished (state_of self.old)).line }
+        ensures asker { self.new.asker ≡ self.old.asker }
+    {
+        self.phase = Phase::Done;
+        Line::Complete {
+            last_op: self.last.last_op,
+        }
+    }
+
+    /// Whether the last checkpoint is completed and shows all that will ever be: nothing more is fed, and it is at the head.
+    pub fn drained(&self) -> bool
+        ensures { IsTrue result ↔ IsDrained (state_of self.now) }
+    {
+        self.phase == Phase::Done && self.last.closed && self.last.position == self.last.head
+    }
+}

@@ -1,0 +1,12 @@
+-- Names that rise, one after another.
+use Rattle.std.specs.Prelude.{◌≡◌, List, [], ◌∷◌, map}
+use Rattle.std.specs.Cmp.Lexicographic.{slice_cmp}
+use Rattle.std.specs.List.{AllByRecursion}
+use Rattle.std.specs.Ordering.{nat_cmp}
+use Rattle.std.specs.declared.cmp.Ordering.TheVariants.{Less}
+use Rattle.ps_store.specs.declared.readings.TakenBucket.{TakenBucket}
+use Rattle.ps_session.specs.Takes.{name_of}
+
+abbrev pub RiseOn : List TakenBucket → Type 0
+RiseOn [] = Unit {0}
+RiseOn (bucket ∷ buckets) = AllByRecursion (λ other. slice_cmp nat_cmp bucket.name other ≡ Less) (map name_of buckets) × RiseOn buckets
