@@ -1,0 +1,8 @@
+pub mod Leading
+pub mod Falling
+pub mod Answering
+pub mod Passing
+pub mod Turns
+pub mod Rereading
+pub mod Ending
+pub mod Results
