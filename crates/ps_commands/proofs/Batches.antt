@@ -1,5 +1,5 @@
 -- What one batch of a log without compaction has.
-use Rattle.std.proofs.Common.{◌≡◌, ◌≢◌, ℕ, ◌<◌, ◌≤◌, Bool, true, false, ◌&&◌, inl, inr, cond, List, [], ◌∷◌, ◌++◌, map, filter, fold, refl, ap, ◌∙◌, subst, leb, ltb, arith}
+use Rattle.std.proofs.Common.{◌≡◌, ◌≢◌, ℕ, suc, ◌<◌, ◌≤◌, Bool, true, false, ◌&&◌, inl, inr, cond, List, [], ◌∷◌, ◌++◌, map, filter, fold, refl, sym, ap, ◌∙◌, subst, append_assoc, append-nil, leb, ltb, arith}
 use Rattle.std.proofs.lemmas.Bool.{lt-leb, le-leb, cases_lt}
 use Rattle.std.specs.List.{list_all}
 use Rattle.ps_bucket_log.specs.declared.ops.Op.{Op}
@@ -7,7 +7,7 @@ use Rattle.ps_bucket_log.specs.declared.ops.Op.TheVariants.{Put, Remove, Move, C
 use Rattle.ps_bucket_log.specs.declared.batches.Batch.{Batch}
 use Rattle.ps_bucket_log.specs.Ops.{id_of, is_entry, is_clear, upto, past, newest}
 use Rattle.ps_bucket_log.specs.Logs.{IsRising, AreEntries, IsLog, cleared}
-use Rattle.ps_bucket_log.specs.Batches.{batch_of}
+use Rattle.ps_bucket_log.specs.Batches.{batch_of, batches_of}
 use Rattle.ps_bucket_log.specs.Laws.{StandsForItself, StandingIsLog, ReadsLongestFront, BatchRises, ReadsOn}
 use Rattle.ps_lines.specs.Writing.{op_without_target}
 
@@ -23,7 +23,7 @@ entry_is_no_clear (Remove id key sum) is = refl
 entry_is_no_clear (Move id sum target) is = cc
 entry_is_no_clear (Clear id sum target) is = cc
 
-no_clear : (ops : List Op) → list_all is_entry ops ≡ true → cleared ops ≡ 0
+pub no_clear : (ops : List Op) → list_all is_entry ops ≡ true → cleared ops ≡ 0
 no_clear [] are = refl
 no_clear (op ∷ ops) are = ap (λ b. cond b (id_of op) 0) (entry_is_no_clear op (both_true (is_entry op) (list_all is_entry ops) are).0)
 
@@ -107,3 +107,46 @@ pub batch_leads_as : StandsForItself → StandingIsLog → ReadsLongestFront →
     → (log : List Op) (low high : ℕ) (batch : Batch) → AreEntries 0 log → low < newest (upto high log) → batch ≡ batch_of low high log
     → LeadsOn log low high batch.ops
 batch_leads_as itself are_logs longest rises on log low high batch are more is = rw is (batch_leads itself are_logs longest rises on log low high are more)
+
+-- ---- batch after batch
+
+-- the operations up to an id are PUTs and REMOVEs too
+rising_lower : (p q : ℕ) (ops : List Op) → p ≤ q → IsRising q ops → IsRising p ops
+rising_lower p q [] low rising = tt
+rising_lower p q (op ∷ ops) low rising = (omega (arith, low, rising.0), rising.1)
+
+rising_filtered : (test : Op → Bool) (p : ℕ) (ops : List Op) → IsRising p ops → IsRising p (filter test ops)
+rising_filtered test p [] rising = tt
+rising_filtered test p (op ∷ ops) rising = elim (test op) as (λ b. IsRising p (cond b (op ∷ filter test ops) (filter test ops))) [
+  | true ↦ (rising.0, rising_filtered test (id_of op) ops rising.1)
+  | false ↦ rising_lower p (id_of op) (filter test ops) (omega (arith, rising.0)) (rising_filtered test (id_of op) ops rising.1)
+]
+
+pub upto_entries : (high : ℕ) (log : List Op) → AreEntries 0 log → AreEntries 0 (upto high log)
+upto_entries high log are = record {
+  rising = rising_filtered (λ op. leb (id_of op) high) 0 log are.rising;
+  entries = entries_filtered (λ op. leb (id_of op) high) log are.entries;
+}
+
+pub entries_are_log : StandsForItself → StandingIsLog → (log : List Op) → AreEntries 0 log → IsLog log
+entries_are_log itself are_logs log are = are_logs log log 0 are (itself log are)
+
+-- one more batch
+pub batches_on : (turns n low high : ℕ) (log all : List Op) (batch : Batch) (whole : List Op) → turns ≡ suc n → batch ≡ batch_of low high log → all ++ batches_of turns low high log ≡ whole → batch.has_more ≡ true
+    → (all ++ batch.ops) ++ batches_of n (newest batch.ops) high log ≡ whole
+batches_on turns n low high log all batch whole count is so_far more =
+    append_assoc all batch.ops (batches_of n (newest batch.ops) high log)
+    ∙ ap (λ (b : Batch). all ++ (b.ops ++ batches_of n (newest b.ops) high log)) is
+    ∙ ap (λ b. all ++ ((batch_of low high log).ops ++ cond b (batches_of n (newest (batch_of low high log).ops) high log) [])) (sym (ap (λ (b : Batch). b.has_more) (sym is) ∙ more))
+    ∙ ap (λ k. all ++ batches_of k low high log) (sym count)
+    ∙ so_far
+
+-- the last batch
+pub batches_end : (turns n low high : ℕ) (log all : List Op) (batch : Batch) (whole : List Op) → turns ≡ suc n → batch ≡ batch_of low high log → all ++ batches_of turns low high log ≡ whole → batch.has_more ≡ false
+    → all ++ batch.ops ≡ whole
+batches_end turns n low high log all batch whole count is so_far none =
+    ap (λ ops. all ++ ops) (sym (append-nil batch.ops))
+    ∙ ap (λ (b : Batch). all ++ (b.ops ++ [])) is
+    ∙ ap (λ b. all ++ ((batch_of low high log).ops ++ cond b (batches_of n (newest (batch_of low high log).ops) high log) [])) (sym (ap (λ (b : Batch). b.has_more) (sym is) ∙ none))
+    ∙ ap (λ k. all ++ batches_of k low high log) (sym count)
+    ∙ so_far

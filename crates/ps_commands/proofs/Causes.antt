@@ -1,5 +1,6 @@
 -- Why a command ends as it does.
-use Rattle.std.proofs.Common.{◌≡◌, ℕ, ◌≤◌, true, false, List, [], ◌∷◌, Option, Some, None, Result, Ok, Err, refl, sym, ◌∙◌, subst, arith, codes, bytes_eq, Vec}
+use Rattle.std.proofs.Common.{◌≡◌, ℕ, ◌≤◌, true, false, List, [], ◌∷◌, Option, Some, None, Result, Ok, Err, refl, sym, ap, ◌∙◌, subst, arith, codes, bytes_eq, Vec, Bool, ◌&&◌, length, get_or}
+use Rattle.std.specs.Prelude.{option_map, if◌then◌else◌}
 use Rattle.std.specs.declared.alloc.Global.{Global}
 use Rattle.ps_io.specs.Contents.{Contents, HoldsMore, Gains, GainsFront}
 use Rattle.ps_io.specs.Counts.{Rose}
@@ -10,9 +11,12 @@ use Rattle.ps_sql.specs.Meaning as meaning
 use Rattle.ps_token.specs.KeyLists.{key_of}
 use Rattle.ps_token.specs.declared.key_lists.Key.{Key}
 use Rattle.ps_commands.specs.declared.faults.Fault.{Fault}
-use Rattle.ps_commands.specs.declared.faults.Fault.TheVariants.{Usage, Rules, Change, LongLine, Claims, Keys, TooLong, CannotRead, CannotWrite, Memory}
-use Rattle.ps_commands.specs.Commands.{Names, Signing, Command, check, rows, token, command_of, file_limit, rules_limit, HoldsWithin, ReadsRules, ReadsAsker, ReadsChanges, ReadsKey, Role, for_rules, for_keys, for_claims, for_changes, limit_of, Reaches, ComesTo, RefusesRules, RefusesKeys, RefusesClaims, RefusesChanges, MeansRows, Outside, Kept, Caused}
-use Rattle.ps_commands.specs.Loading.{Loads, FindsRules, IsRulesFault, FindsKey, IsKeysFault, FindsAsker, IsClaimsFault, FindsRows, RefusesLine}
+use Rattle.ps_commands.specs.declared.faults.Fault.TheVariants.{Usage, Rules, Change, PastLimit, TooManyBuckets, Claims, Keys, TooLong, CannotRead, CannotWrite, Memory}
+use Rattle.ps_commands.specs.Commands.{Names, Signing, Command, check, rows, token, generate_lines, count_of, command_of, file_limit, rules_limit, HoldsWithin, ReadsRules, ReadsAsker, ReadsChanges, ReadsKey, Role, for_rules, for_keys, for_claims, for_changes, limit_of, ReadsRulesAndClaims, Reaches, ComesTo, RefusesRules, RefusesKeys, RefusesClaims, RefusesChanges, MeansRows, Outside, Kept, Caused}
+use Rattle.ps_changes.specs.declared.changes.Transaction.{Transaction}
+use Rattle.ps_commands.specs.ChangeFiles.{transactions_of}
+use Rattle.ps_commands.specs.CheckpointBuckets.{Answers}
+use Rattle.ps_commands.specs.Loading.{Prepares, Loads, FindsRules, IsRulesFault, FindsKey, IsKeysFault, FindsAsker, IsClaimsFault, FindsRows, RefusesRows}
 
 rose_later : (before mid now : ℕ) → before ≤ mid → Rose mid now → Rose before now
 rose_later before mid now le h = omega arith
@@ -28,6 +32,34 @@ pub words_token : (word keys kid claims : List ℕ) → bytes_eq word (codes "ro
     → command_of (word ∷ keys ∷ kid ∷ claims ∷ []) ≡ Some (token (record { keys = keys; kid = kid; claims = claims }))
 words_token word keys kid claims other h = rw other (rw h refl)
 
+pub words_generate_lines : (word a b : List ℕ) (count : ℕ) → bytes_eq word (codes "generate") ≡ true → bytes_eq b (codes "lines") ≡ true → Some count ≡ count_of a
+    → command_of (word ∷ a ∷ b ∷ []) ≡ Some (generate_lines count)
+words_generate_lines word a b count h k is = rw (h, k) (ap (option_map generate_lines) (sym is))
+
+-- the same, word by word
+pub three_words : (ws : List (List ℕ)) (d e f : List ℕ) (count : ℕ) → length ws ≡ 3 → bytes_eq (get_or ws 0 d) (codes "generate") ≡ true → bytes_eq (get_or ws 2 f) (codes "lines") ≡ true → Some count ≡ count_of (get_or ws 1 e)
+    → command_of ws ≡ Some (generate_lines count)
+three_words [] d e f count n h k is = absurd (omega (arith, n))
+three_words (a ∷ []) d e f count n h k is = absurd (omega (arith, n))
+three_words (a ∷ b ∷ []) d e f count n h k is = absurd (omega (arith, n))
+three_words (a ∷ b ∷ x ∷ []) d e f count n h k is = words_generate_lines a b x count h k is
+three_words (a ∷ b ∷ x ∷ y ∷ more) d e f count n h k is = absurd (omega (arith, n))
+
+pub not_generate : (word a b : List ℕ) → bytes_eq word (codes "generate") ≡ false → command_of (word ∷ a ∷ b ∷ []) ≡ None
+not_generate word a b h = rw h refl
+
+pub not_lines : (word a b : List ℕ) → bytes_eq b (codes "lines") ≡ false → command_of (word ∷ a ∷ b ∷ []) ≡ None
+not_lines word a b h = by (bytes_eq word (codes "generate")) where
+  by : (x : Bool) → (if x && bytes_eq b (codes "lines") then option_map generate_lines (count_of a) else None) ≡ None
+  by true = rw h refl
+  by false = refl
+
+pub no_count : (word a b : List ℕ) → None ≡ count_of a → command_of (word ∷ a ∷ b ∷ []) ≡ None
+no_count word a b is = by (bytes_eq word (codes "generate") && bytes_eq b (codes "lines")) where
+  by : (x : Bool) → (if x then option_map generate_lines (count_of a) else None) ≡ None
+  by true = ap (option_map generate_lines) (sym is)
+  by false = refl
+
 -- ---- loading a file of a command
 
 module _ (o : Outside) (mid_held : Option Contents) (mid : ℕ) (words : List (List ℕ)) (role : Role) (name : List ℕ) (same : mid_held ≡ o.held) (risen : o.read_before ≤ mid) (kept : Kept o) (reached : Reaches o.held words role name) where
@@ -40,7 +72,8 @@ module _ (o : Outside) (mid_held : Option Contents) (mid : ℕ) (words : List (L
   cause_of Finds Refuses why Usage h = absurd h
   cause_of Finds Refuses why (Rules line column cause) h = why (Rules line column cause) h.0 (here h.0 h.1) h.2
   cause_of Finds Refuses why (Change line cause) h = why (Change line cause) h.0 (here h.0 h.1) h.2
-  cause_of Finds Refuses why (LongLine length) h = why (LongLine length) h.0 (here h.0 h.1) h.2
+  cause_of Finds Refuses why (PastLimit limit) h = why (PastLimit limit) h.0 (here h.0 h.1) h.2
+  cause_of Finds Refuses why (TooManyBuckets count) h = why (TooManyBuckets count) h.0 (here h.0 h.1) h.2
   cause_of Finds Refuses why Claims h = why Claims h.0 (here h.0 h.1) h.2
   cause_of Finds Refuses why Keys h = why Keys h.0 (here h.0 h.1) h.2
   cause_of Finds Refuses why (TooLong seen) h = (kept, record { role = role; name = name; reached = reached; more = h.0; file = subst (λ x. HoldsMore x name (limit_of role)) same h.1 })
@@ -53,7 +86,8 @@ module _ (o : Outside) (words : List (List ℕ)) (name : List ℕ) (kept : Kept 
   rules_refused reached Usage bytes file h = absurd h
   rules_refused reached (Rules line column why) bytes file h = (kept, record { name = name; reached = reached; bytes = bytes; file = file; refused = h })
   rules_refused reached (Change line why) bytes file h = absurd h
-  rules_refused reached (LongLine length) bytes file h = absurd h
+  rules_refused reached (PastLimit limit) bytes file h = absurd h
+  rules_refused reached (TooManyBuckets count) bytes file h = absurd h
   rules_refused reached Claims bytes file h = absurd h
   rules_refused reached Keys bytes file h = absurd h
   rules_refused reached (TooLong seen) bytes file h = absurd h
@@ -65,7 +99,8 @@ module _ (o : Outside) (words : List (List ℕ)) (name : List ℕ) (kept : Kept 
   claims_refused reached Usage bytes file h = absurd h
   claims_refused reached (Rules line column why) bytes file h = absurd h
   claims_refused reached (Change line why) bytes file h = absurd h
-  claims_refused reached (LongLine length) bytes file h = absurd h
+  claims_refused reached (PastLimit limit) bytes file h = absurd h
+  claims_refused reached (TooManyBuckets count) bytes file h = absurd h
   claims_refused reached Claims bytes file h = (kept, record { name = name; reached = reached; bytes = bytes; file = file; refused = h })
   claims_refused reached Keys bytes file h = absurd h
   claims_refused reached (TooLong seen) bytes file h = absurd h
@@ -73,24 +108,42 @@ module _ (o : Outside) (words : List (List ℕ)) (name : List ℕ) (kept : Kept 
   claims_refused reached CannotWrite bytes file h = absurd h
   claims_refused reached Memory bytes file h = absurd h
 
-  pub changes_refused : Reaches o.held words for_changes name → (fault : Fault) (bytes : List ℕ) → HoldsWithin o.held name file_limit bytes → RefusesLine fault bytes → Caused o words fault
-  changes_refused reached Usage bytes file h = absurd h
-  changes_refused reached (Rules line column why) bytes file h = absurd h
-  changes_refused reached (Change line why) bytes file h = (kept, record { name = name; reached = reached; bytes = bytes; file = file; refused = h })
-  changes_refused reached (LongLine length) bytes file h = (kept, record { name = name; reached = reached; bytes = bytes; file = file; refused = h })
-  changes_refused reached Claims bytes file h = absurd h
-  changes_refused reached Keys bytes file h = absurd h
-  changes_refused reached (TooLong seen) bytes file h = absurd h
-  changes_refused reached (CannotRead other) bytes file h = absurd h
-  changes_refused reached CannotWrite bytes file h = absurd h
-  changes_refused reached Memory bytes file h = absurd h
+module _ (o : Outside) (words : List (List ℕ)) (names : Names) (kept : Kept o) (is : command_of words ≡ Some (rows names)) (rules : RuleSet) (asker : Asker)
+    (rules_read : ReadsRules o.held names.rules rules) (claims_read : ReadsAsker o.held names.claims (asker_of asker)) where
+  abbrev files_before : ReadsRulesAndClaims o.held names
+  files_before = record { rules = rules; asker = asker_of asker; rules_read = rules_read; claims_read = claims_read }
+
+  pub changes_refused : (fault : Fault) (bytes : List ℕ) → HoldsWithin o.held names.changes file_limit bytes → RefusesRows rules asker fault bytes → Caused o words fault
+  changes_refused Usage bytes file h = absurd h
+  changes_refused (Rules line column why) bytes file h = absurd h
+  changes_refused (Change line why) bytes file h = (kept, record { names = names; is = is; before = files_before; bytes = bytes; file = file; refused = h })
+  changes_refused (PastLimit limit) bytes file h = (kept, record { names = names; is = is; before = files_before; bytes = bytes; file = file; refused = h })
+  changes_refused (TooManyBuckets count) bytes file h = (
+    kept,
+    record {
+      names = names;
+      is = is;
+      before = files_before;
+      transactions = h.transactions;
+      changes_read = record { bytes = bytes; file = file; read = h.read };
+      count_is = h.count_is;
+      more = h.more;
+    },
+  )
+  changes_refused Claims bytes file h = absurd h
+  changes_refused Keys bytes file h = absurd h
+  changes_refused (TooLong seen) bytes file h = absurd h
+  changes_refused (CannotRead other) bytes file h = absurd h
+  changes_refused CannotWrite bytes file h = absurd h
+  changes_refused Memory bytes file h = absurd h
 
 pub keys_refused : (o : Outside) (words : List (List ℕ)) (names : Signing) → Kept o → command_of words ≡ Some (token names)
     → (fault : Fault) (bytes : List ℕ) → HoldsWithin o.held names.keys file_limit bytes → IsKeysFault names.kid fault bytes → Caused o words fault
 keys_refused o words names kept is Usage bytes file h = absurd h
 keys_refused o words names kept is (Rules line column why) bytes file h = absurd h
 keys_refused o words names kept is (Change line why) bytes file h = absurd h
-keys_refused o words names kept is (LongLine length) bytes file h = absurd h
+keys_refused o words names kept is (PastLimit limit) bytes file h = absurd h
+keys_refused o words names kept is (TooManyBuckets count) bytes file h = absurd h
 keys_refused o words names kept is Claims bytes file h = absurd h
 keys_refused o words names kept is Keys bytes file h = (kept, record { names = names; is = is; bytes = bytes; file = file; refused = h })
 keys_refused o words names kept is (TooLong seen) bytes file h = absurd h
@@ -137,23 +190,42 @@ pub cause_of_asker : (o : Outside) (mid_held : Option Contents) (mid : ℕ) (wor
 cause_of_asker o mid_held mid words name fault same risen kept reached h =
     cause_of o mid_held mid words for_claims name same risen kept reached FindsAsker IsClaimsFault (claims_refused o words name kept reached) fault h
 
-pub cause_of_rows : (o : Outside) (mid_held : Option Contents) (mid : ℕ) (words : List (List ℕ)) (name : List ℕ) (rules : RuleSet) (asker : Asker) (fault : Fault) → mid_held ≡ o.held → o.read_before ≤ mid → Kept o
-    → Reaches o.held words for_changes name
-    → Loads {X = Vec ℕ Global} mid_held name file_limit mid o.read_now (FindsRows rules asker) RefusesLine (Err fault) → Caused o words fault
-cause_of_rows o mid_held mid words name rules asker fault same risen kept reached h =
-    cause_of o mid_held mid words for_changes name same risen kept reached (FindsRows rules asker) RefusesLine (changes_refused o words name kept reached) fault h
+pub cause_of_rows : (o : Outside) (mid_held : Option Contents) (mid : ℕ) (words : List (List ℕ)) (names : Names) (rules : RuleSet) (asker : Asker) (fault : Fault) → mid_held ≡ o.held → o.read_before ≤ mid → Kept o
+    → command_of words ≡ Some (rows names) → ReadsRules o.held names.rules rules → ReadsAsker o.held names.claims (asker_of asker)
+    → Loads {X = Vec ℕ Global} mid_held names.changes file_limit mid o.read_now (FindsRows rules asker) (RefusesRows rules asker) (Err fault) → Caused o words fault
+cause_of_rows o mid_held mid words names rules asker fault same risen kept is rules_read claims_read h =
+    let read : ReadsRulesAndClaims o.held names = record { rules = rules; asker = asker_of asker; rules_read = rules_read; claims_read = claims_read } in
+    let reached : Reaches o.held words for_changes names.changes = record { command = rows names; is = is; comes = (refl, read) } in
+    cause_of o mid_held mid words for_changes names.changes same risen kept reached (FindsRows rules asker) (RefusesRows rules asker)
+    (changes_refused o words names kept is rules asker rules_read claims_read) fault h
 
 -- ---- what a command prints
 
 pub means_rows : (held mid_held : Option Contents) (mid now : ℕ) (names : Names) (rules : RuleSet) (asker : Asker) (text : Vec ℕ Global) → mid_held ≡ held
     → ReadsRules held names.rules rules → ReadsAsker held names.claims (asker_of asker)
-    → Loads mid_held names.changes file_limit mid now (FindsRows rules asker) RefusesLine (Ok text) → MeansRows held names text.items
+    → Loads mid_held names.changes file_limit mid now (FindsRows rules asker) (RefusesRows rules asker) (Ok text) → MeansRows held names text.items
 means_rows held mid_held mid now names rules asker text same read claims h = record {
   rules = rules;
   asker = asker_of asker;
-  transactions = h.2.0;
+  transactions = h.2.transactions;
   rules_read = read;
   claims_read = claims;
-  changes_read = record { bytes = h.0; file = subst (λ x. HoldsWithin x names.changes file_limit h.0) same h.1; read = h.2.1 };
-  is = h.2.2;
+  changes_read = record { bytes = h.0; file = subst (λ x. HoldsWithin x names.changes file_limit h.0) same h.1; read = h.2.read };
+  within = h.2.within;
+  is = h.2.is;
 }
+
+-- where an asker's rows are not answered, neither are they printed
+pub rows_refused : (rules : RuleSet) (asker : Asker) (bytes : List ℕ) (transactions : List Transaction) → transactions_of rules bytes ≡ Ok transactions
+    → (fault : Fault) → Answers rules (asker_of asker) transactions (Err fault) → Prepares rules asker bytes (Err fault)
+rows_refused rules asker bytes transactions read Usage h = absurd h
+rows_refused rules asker bytes transactions read (Rules line column why) h = absurd h
+rows_refused rules asker bytes transactions read (Change line why) h = absurd h
+rows_refused rules asker bytes transactions read (PastLimit limit) h = absurd h
+rows_refused rules asker bytes transactions read (TooManyBuckets count) h = record { transactions = transactions; read = read; count_is = h.0; more = h.1 }
+rows_refused rules asker bytes transactions read Claims h = absurd h
+rows_refused rules asker bytes transactions read Keys h = absurd h
+rows_refused rules asker bytes transactions read (TooLong seen) h = absurd h
+rows_refused rules asker bytes transactions read (CannotRead name) h = absurd h
+rows_refused rules asker bytes transactions read CannotWrite h = absurd h
+rows_refused rules asker bytes transactions read Memory h = tt

@@ -1,45 +1,52 @@
 -- The rows that a client shows of the buckets of an asker are those that are due.
-use Rattle.std.proofs.Common.{◌≡◌, ◌≢◌, ℕ, ◌+◌, Bool, true, false, List, [], ◌∷◌, ◌++◌, None, map, flat_map, filter, fold, append_assoc, refl, sym, ap, ◌∙◌, subst, inl, inr, arith}
-use Rattle.std.specs.Prelude.{bytes_eq, unwrap_or, if◌then◌else◌, Result, Ok, Err, IfOk}
-use Rattle.std.proofs.lemmas.List.{append-nil}
-use Rattle.std.specs.List.{All, AllByRecursion}
+use Rattle.std.proofs.Common.{◌≡◌, ◌≢◌, ℕ, ◌+◌, ◌<◌, ◌≤◌, Bool, true, false, cond, leb, List, [], ◌∷◌, ◌++◌, Option, Some, None, map, flat_map, filter, length, take, append_assoc, refl, sym, ap, ◌∙◌, subst, inl, inr, arith}
+use Rattle.std.specs.Prelude.{bytes_eq, unwrap_or, Result, Ok, Err, IfOk, IfSome}
+use Rattle.std.specs.List.{All, AllByRecursion, list_all}
 use Rattle.std.specs.List.Sorted.{IsStrictlySortedBy}
 use Rattle.std.specs.Ordering.{nat_cmp}
 use Rattle.std.specs.Cmp.Lexicographic.{slice_cmp}
 use Rattle.std.proofs.lemmas.List.Elements.{All-tail}
 use Rattle.std.proofs.lemmas.Slice.Eq.{bytes_eq-Decides}
 use Rattle.ps_bucket_log.specs.declared.ops.Key.{Key}
-use Rattle.ps_bucket_log.specs.Ops.{upto}
+use Rattle.ps_bucket_log.specs.declared.ops.Op.{Op}
+use Rattle.ps_bucket_log.specs.Ops.{id_of, is_entry, upto}
+use Rattle.ps_bucket_log.specs.Logs.{IsRising, AreEntries}
 use Rattle.ps_bucket_log.specs.Buckets.{fresh, bucket_of}
 use Rattle.ps_changes.specs.declared.shown.Shown.{Shown}
-use Rattle.ps_changes.specs.declared.changes.Change.{Change}
 use Rattle.ps_changes.specs.declared.changes.Transaction.{Transaction}
-use Rattle.ps_changes.specs.Source.{source_at}
+use Rattle.ps_changes.specs.Source.{Key as Object, Source, source_at}
 use Rattle.ps_client_log.specs.Kept.{Kept, bucket_at}
+use Rattle.ps_client_log.specs.Rows.{IsLatestContent, row_at}
 use Rattle.ps_sql.specs.Meaning.{Asker}
 use Rattle.ps_rules.specs.RuleSets.{RuleSet, AreRules, IsSound}
 use Rattle.ps_rules.specs.Vectors.{SourceRow, parameter_vectors}
 use Rattle.ps_rules.specs.declared.definitions.Definition.{Definition}
-use Rattle.ps_grant.specs.Latest.{due}
+use Rattle.ps_grant.specs.Latest.{due as due_by}
 use Rattle.ps_grant.specs.Sources.{rows_in}
+use Rattle.ps_bucket_eval.specs.declared.placed.Placed.{Placed}
 use Rattle.ps_bucket_eval.specs.Buckets.{bucket_name_of}
 use Rattle.ps_bucket_eval.proofs.Members.{Has, any_has, has_map, from_map, has_flat, from_flat, has_contains, contains_has}
 use Rattle.ps_bucket_eval.proofs.Sets.{has_in_order, from_in_order, rises_sorted, in_order_rises}
-use Rattle.ps_params.specs.Notes.{Note, SameFrom}
-use Rattle.ps_params.specs.Indexes.{Index, is_read, StandsAt}
-use Rattle.ps_params.specs.Laws.{note_of_change, notes_of_transaction, notes_of as every_note, notes_read, NotesReadAreTheSource}
 use Rattle.ps_params.specs.Names.{definition_names, bucket_names, IsTold, AreTold}
-use Rattle.ps_store.specs.declared.bucket_logs.BucketLogs.{BucketLogs}
-use Rattle.ps_store.specs.declared.replicas.Replica.{Replica}
-use Rattle.ps_store.specs.Originals.{Timed, timed, timed_from, ops_from, original}
-use Rattle.ps_store.specs.Replicas.{noted, with_note, notes_of, Holds}
-use Rattle.ps_store.specs.Laws.{Rises, last_position, HaveNumbers, all_held, AreSqlVectors, IsBucketOf, HoldsBucketsOf, LatestRowsAreDue}
-use Rattle.ps_store.specs.Logs.{log_at, last_of, StandsFor}
+use Rattle.ps_store.specs.declared.readings.Taken.{Taken}
+use Rattle.ps_store.specs.declared.readings.TakenBucket.{TakenBucket}
+use Rattle.ps_store.specs.declared.stores.Store.{Store}
+use Rattle.ps_store.specs.Histories.{LedgersTellHistories}
+use Rattle.ps_store.specs.Latest.{IsLatestData, ShowsLatest}
+use Rattle.ps_store.specs.Laws.{last_position, HaveNumbers, AreSqlVectors, IsBucketOf, AreLatestRows}
+use Rattle.ps_store.specs.LedgerLaws.{checkpoint_held, checkpoint_source, CommittedRowsAreDue}
+use Rattle.ps_store.specs.Ledgers.{Ledger, ledger_of}
+use Rattle.ps_store.specs.Limits.{usual_limits}
+use Rattle.ps_store.specs.declared.entered.Entered.{Entered}
+use Rattle.ps_store.specs.Originals.{Timed, timed, key_of, after, entries_at, standing_entries, leaving, numbered, removed, put, written, change_ops, ops_from, in_bucket}
+use Rattle.ps_store.specs.Readings.{names_of as asker_names, bucket_upto, take_of}
+use Rattle.ps_store.specs.Standing.{Holding}
+use Rattle.ps_store.specs.StepLaws.{HoldsLaneBuckets}
 use Rattle.ps_commands.specs.declared.buckets.Bucket.{Bucket}
-use Rattle.ps_commands.specs.declared.change_files.Written.{Written}
-use Rattle.ps_commands.specs.ReadingChanges.{HoldsChanges}
-use Rattle.ps_commands.specs.Replicated.{IsOneOf, AreOf, AreRowsOf}
-use Rattle.ps_commands.specs.Sessions.{names_of, is_named, AreWritten, HoldsLogs}
+use Rattle.ps_commands.specs.CheckpointBuckets.{AreLogsIn, AreUpto, AreRowsOf}
+use Rattle.ps_commands.specs.Dues.{due, own_buckets}
+use Rattle.ps_commands.specs.ReadingChanges.{usual, HasCommitted}
+use Rattle.ps_commands.specs.Sessions.{names_of, is_named, NamesRise, AreWritten, HoldsLogs}
 
 all_at : {X : Type 0} (P : X → Type 0) (xs : List X) (x : X) → AllByRecursion P xs → Has xs x → P x
 all_at P [] x h i = absurd i
@@ -79,118 +86,139 @@ is_named_of buckets name h =
     let a = any_has (λ (b : Bucket). bytes_eq b.name name) buckets h in
     subst (λ n. Has (names_of buckets) n) ((bytes_eq-Decides a.0.name name).0 a.2) (has_map (λ (b : Bucket). b.name) buckets a.0 a.1)
 
-module _ (rules : RuleSet) (asker : Asker) (ts : List Transaction) (logs : BucketLogs) (buckets : List Bucket) (names : List (List ℕ))
-    (stands : StandsFor logs (ops_from rules.definitions [] 1 (timed ts)))
-    (names_are : names ≡ bucket_names rules.definitions asker (rows_in (source_at ts (last_position 0 ts))))
-    (named : names_of buckets ≡ names) (out : AreOf logs buckets) where
-  abbrev read : List SourceRow
-  read = rows_in (source_at ts (last_position 0 ts))
+-- ---- logs of PUTs and REMOVEs alone
 
-  -- a client that holds the logs holds what readers of the asker's buckets hold
-  holds_buckets : (kept : Kept) → HoldsLogs kept buckets (last_of logs) → HoldsBucketsOf rules.definitions asker read (all_held rules.definitions ts) kept
-  unfolding original
-  holds_buckets kept holds = record {
-    own = λ bucket is key.
-        let b = named_bucket buckets bucket (subst (λ ns. Has ns bucket) (sym (named ∙ names_are)) (has_bucket rules.definitions asker read bucket is)) in
-        let one = out_at (IsOneOf logs) buckets b.0 out b.1 in
-        let same = out_at (λ (x : Bucket). (k : Key) → (bucket_at kept x.name).held k ≡ (bucket_of (upto (last_of logs) x.log.ops)).held k) buckets b.0 holds.held b.1 key in
-        ap (λ n. (bucket_at kept n).held key) (sym b.2) ∙ same
-        ∙ ap (λ ops. (bucket_of ops).held key) (one.within ∙ one.log ∙ ap (log_at logs) b.2 ∙ stands.each bucket);
-    only = λ bucket key some. by_name bucket key some (is_named bucket buckets) refl;
-  } where
-    nothing : (bucket : List ℕ) (key : Key) → kept.bucket bucket ≡ None → (bucket_at kept bucket).held key ≡ None
-    nothing bucket key none = ap (λ o. (unwrap_or o fresh).held key) none
+both_pass : {X : Type 0} (P : X → Type 0) (xs ys : List X) → AllByRecursion P xs → AllByRecursion P ys → AllByRecursion P (xs ++ ys)
+both_pass P [] ys h k = k
+both_pass P (x ∷ xs) ys h k = (h.0, both_pass P xs ys h.1 k)
 
-    by_name : (bucket : List ℕ) (key : Key) → (bucket_at kept bucket).held key ≢ None → (b : Bool) → is_named bucket buckets ≡ b → IsBucketOf rules.definitions asker read bucket
-    by_name bucket key some true is = is_bucket rules.definitions asker read bucket (subst (λ ns. Has ns bucket) (named ∙ names_are) (is_named_of buckets bucket is))
-    by_name bucket key some false is = absurd (some (nothing bucket key (holds.only bucket is)))
+abbrev Enters : Entered → Type 0
+Enters e = is_entry e.op ≡ true
 
-  pub rows_due : LatestRowsAreDue → AreRules rules → HaveNumbers rules.definitions → Rises 0 ts → AreTold names → (shown : List Shown) → AreRowsOf buckets (last_of logs) shown
-      → shown ≡ due rules.definitions asker ts (last_position 0 ts)
-  rows_due law are numbers rises told shown of =
-      law rules ts asker of.0 shown are numbers rises
-      (vectors_told rules.definitions asker read are.sound (subst (λ ns. AreTold ns) names_are told))
-      (holds_buckets of.0 of.1) of.2
+removes_enter : (next : ℕ) (es : List Placed) → AllByRecursion Enters (numbered removed next es)
+removes_enter next [] = tt
+removes_enter next (e ∷ es) = (refl, removes_enter (next + 1) es)
 
--- ---- the index stands for the source
+puts_enter : (next : ℕ) (es : List Placed) → AllByRecursion Enters (numbered put next es)
+puts_enter next [] = tt
+puts_enter next (e ∷ es) = (refl, puts_enter (next + 1) es)
 
--- more notes, those that are read
-noted_more : (definitions : List Definition) (notes : List Note) (ts : List Timed) → fold (λ ns t. with_note definitions ns (noted t)) notes ts ≡ notes ++ filter (λ (n : Note). is_read definitions n.table) (map noted ts)
-noted_more definitions notes [] = sym (append-nil notes)
-noted_more definitions notes (t ∷ ts) = elim (is_read definitions t.change.table) as (λ b. fold (λ ns u. with_note definitions ns (noted u)) (if b then notes ++ noted t ∷ [] else notes) ts
-    ≡ notes ++ (if b then noted t ∷ filter (λ (n : Note). is_read definitions n.table) (map noted ts) else filter (λ (n : Note). is_read definitions n.table) (map noted ts))) [
-      | true ↦ noted_more definitions (notes ++ noted t ∷ []) ts ∙ append_assoc notes (noted t ∷ []) (filter (λ (n : Note). is_read definitions n.table) (map noted ts))
-      | false ↦ noted_more definitions notes ts
-    ]
+ops_enter : (definitions : List Definition) (source : Source) (next : ℕ) (ts : List Timed) → AllByRecursion Enters (ops_from definitions source next ts)
+ops_enter definitions source next [] = tt
+ops_enter definitions source next (t ∷ ts) =
+    let old = standing_entries definitions source (key_of t) in
+    let new = entries_at definitions (key_of t) t.change.row in
+    both_pass Enters (change_ops definitions source next t) (ops_from definitions (after source t) (next + length (change_ops definitions source next t)) ts)
+    (both_pass Enters (numbered removed next (leaving old new)) (numbered put (next + length (leaving old new)) new)
+    (removes_enter next (leaving old new)) (puts_enter (next + length (leaving old new)) new))
+    (ops_enter definitions (after source t) (next + length (change_ops definitions source next t)) ts)
 
-noted_changes : (position index : ℕ) (changes : List Change) → map noted (timed_from position index changes) ≡ map (note_of_change position) changes
-noted_changes position index [] = refl
-noted_changes position index (c ∷ cs) = ap (λ ns. note_of_change position c ∷ ns) (noted_changes position (index + 1) cs)
+bucket_enters : (bucket : List ℕ) (es : List Entered) → AllByRecursion Enters es → list_all is_entry (in_bucket bucket es) ≡ true
+bucket_enters bucket [] h = refl
+bucket_enters bucket (e ∷ es) h = elim (bytes_eq bucket e.bucket) as (λ b. list_all is_entry (map (λ (x : Entered). x.op) (cond b (e ∷ filter (λ (x : Entered). bytes_eq bucket x.bucket) es) (filter (λ (x : Entered). bytes_eq bucket x.bucket) es))) ≡ true) [
+  | true ↦ rw h.0 (bucket_enters bucket es h.1)
+  | false ↦ bucket_enters bucket es h.1
+]
 
-map_append : {X Y : Type 0} (f : X → Y) (xs ys : List X) → map f (xs ++ ys) ≡ map f xs ++ map f ys
-map_append f [] ys = refl
-map_append f (x ∷ xs) ys = ap (λ zs. f x ∷ zs) (map_append f xs ys)
+upto_again : (p : ℕ) (ops : List Op) → upto p (upto p ops) ≡ upto p ops
+upto_again p [] = refl
+upto_again p (op ∷ ops) = by (upto_again p ops) (leb (id_of op) p) refl where
+  by : upto p (upto p ops) ≡ upto p ops → (b : Bool) → leb (id_of op) p ≡ b → upto p (cond b (op ∷ upto p ops) (upto p ops)) ≡ cond b (op ∷ upto p ops) (upto p ops)
+  by again true e = rw e (ap (λ xs. op ∷ xs) again)
+  by again false e = again
 
-noted_all : (ts : List Transaction) → map noted (timed ts) ≡ every_note ts
-noted_all [] = refl
-noted_all (t ∷ ts) = map_append noted (timed_from t.position.0 0 t.changes) (timed ts)
-    ∙ ap (λ ns. ns ++ map noted (timed ts)) (noted_changes t.position.0 0 t.changes) ∙ ap (λ ns. notes_of_transaction t ++ ns) (noted_all ts)
+-- the names of buckets that are taken
+pub taken_names : (op : ℕ) (log : List ℕ → List Op) (names : List (List ℕ)) → map (λ (bucket : TakenBucket). bucket.name) (map (λ (name : List ℕ). bucket_upto op name (log name)) names) ≡ names
+taken_names op log [] = refl
+taken_names op log (name ∷ names) = ap (λ ns. name ∷ ns) (taken_names op log names)
 
-notes_are : (definitions : List Definition) (ts : List Transaction) → notes_of definitions (timed ts) ≡ notes_read definitions ts
-notes_are definitions ts = noted_more definitions [] (timed ts) ∙ ap (filter (λ (n : Note). is_read definitions n.table)) (noted_all ts)
+length_map : {A B : Type 0} (f : A → B) (xs : List A) → length (map f xs) ≡ length xs
+length_map f [] = refl
+length_map f (x ∷ xs) = let e = length_map f xs in omega (arith, e)
 
-same_stands : (definitions : List Definition) (a b : List Note) (position : ℕ) (source : List SourceRow) → SameFrom 0 a b → StandsAt definitions a position source → StandsAt definitions b position source
-same_stands definitions a b position source same stands r read =
-    let e = same r.table r.id position (omega arith) in
-    let s = stands r read in (
-      λ c. sym e ∙ s.0 c,
-      λ h. s.1 (e ∙ h),
-    )
+-- ---- a committed store
 
--- the notes of a replica stand for the source at a position
-pub index_stands : NotesReadAreTheSource → (rules : RuleSet) (replica : Replica) (ts : List Transaction) (position : ℕ) → Holds rules replica (timed ts)
-    → StandsAt rules.definitions replica.index.notes position (rows_in (source_at ts position))
-index_stands law rules replica ts position holds =
-    same_stands rules.definitions (notes_of rules.definitions (timed ts)) replica.index.notes position (rows_in (source_at ts position)) holds.notes
-    (subst (λ (ns : List Note). StandsAt rules.definitions ns position (rows_in (source_at ts position))) (sym (notes_are rules.definitions ts)) (law rules.definitions ts position))
+module _ (law : LedgersTellHistories) (rules : RuleSet) (ts : List Transaction) (store : Store) (h : HasCommitted rules ts store) where
+  abbrev pub l : Ledger
+  l = ledger_of rules h.history
 
--- the names of an asker's buckets rise
-pub names_rise : (definitions : List Definition) (asker : Asker) (rows : List SourceRow) → IsStrictlySortedBy (slice_cmp nat_cmp) (bucket_names definitions asker rows)
-names_rise definitions asker rows = rises_sorted (slice_cmp nat_cmp) (bucket_names definitions asker rows) (in_order_rises (flat_map (definition_names asker rows) definitions))
+  pub logs_in : AreLogsIn store l.log
+  logs_in = record {
+    fixed = usual rules;
+    history = h.history;
+    stands = h.stands;
+    are = λ bucket. refl;
+    entries = λ bucket. record {
+      rising = h.stands.stands.kept.rising bucket;
+      entries =
+          ap (list_all is_entry) (h.plain bucket)
+          ∙ bucket_enters bucket l.entered (subst (λ (es : List Entered). AllByRecursion Enters es) (sym (law rules h.history h.stands.legal).entered) (ops_enter rules.definitions [] 1 (take l.written (timed l.fed))));
+    };
+  }
 
--- the buckets that are out have PUTs and REMOVEs alone
-pub are_written : (logs : BucketLogs) (buckets : List Bucket) → AreOf logs buckets → AreWritten buckets
-are_written logs buckets out = λ k d inside. (out k d inside).entries
+  module _ (asker : Asker) where
+    -- the buckets that are taken are those of the asker at the last position
+    pub own_are : asker_names l asker ≡ own_buckets rules asker ts
+    own_are =
+        ap (λ (r : RuleSet). bucket_names r.definitions asker (rows_in (source_at l.fed l.position))) (law rules h.history h.stands.legal).rules_are
+        ∙ ap (λ (fed : List Transaction). bucket_names rules.definitions asker (rows_in (source_at fed l.position))) h.fed
+        ∙ ap (λ p. bucket_names rules.definitions asker (rows_in (source_at ts p))) h.position
 
--- the names that the index of a replica tells are those of the asker's buckets
-names_of_index : NotesReadAreTheSource → (rules : RuleSet) (asker : Asker) (replica : Replica) (index : Index) (ts : List Transaction) (position : ℕ) (names : List (List ℕ)) → index ≡ replica.index
-    → position ≡ last_position 0 ts → Holds rules replica (timed ts)
-    → ((source : List SourceRow) → StandsAt index.rules.definitions index.notes position source → names ≡ bucket_names rules.definitions asker source)
-    → names ≡ bucket_names rules.definitions asker (rows_in (source_at ts (last_position 0 ts)))
-names_of_index law rules asker replica index ts position names is at holds tells =
-    let source = rows_in (source_at ts (last_position 0 ts)) in
-    let here : StandsAt replica.index.rules.definitions replica.index.notes (last_position 0 ts) source =
-    subst (λ (r : RuleSet). StandsAt r.definitions replica.index.notes (last_position 0 ts) source) (sym holds.rules_are) (index_stands law rules replica ts (last_position 0 ts) holds) in
-    let there : StandsAt index.rules.definitions index.notes (last_position 0 ts) source = subst (λ (i : Index). StandsAt i.rules.definitions i.notes (last_position 0 ts) source) (sym is) here in
-    tells source (subst (λ p. StandsAt index.rules.definitions index.notes p source) (sym at) there)
+    -- who may take has no more buckets than an asker may have
+    pub few_own : (taken : Taken) → taken ≡ take_of l asker → length taken.buckets ≤ usual_limits.buckets → length (own_buckets rules asker ts) ≤ usual_limits.buckets
+    few_own taken is few =
+        let e = length_map (λ (name : List ℕ). bucket_upto l.op name (l.log name)) (asker_names l asker) in
+        omega (arith, few, ap (λ (t : Taken). length t.buckets) is, e, ap length own_are)
 
-module _ (rules : RuleSet) (asker : Asker) (written : Written) (names : List (List ℕ))
-    (tells : (source : List SourceRow) → StandsAt written.replica.index.rules.definitions written.replica.index.notes written.last.0 source → names ≡ bucket_names rules.definitions asker source) where
-  -- the names that are told of what a change file wrote are those of the asker's buckets
-  told_names : NotesReadAreTheSource → (ts : List Transaction) → HoldsChanges rules ts written → names ≡ bucket_names rules.definitions asker (rows_in (source_at ts (last_position 0 ts)))
-  told_names law ts holds = names_of_index law rules asker written.replica written.replica.index ts written.last.0 names refl holds.last holds.holds tells
+    names_here : asker_names l asker ≡ bucket_names rules.definitions asker (rows_in (checkpoint_source rules h.history))
+    names_here = ap (λ (r : RuleSet). bucket_names r.definitions asker (rows_in (source_at l.fed l.position))) (law rules h.history h.stands.legal).rules_are
 
-  pub told_names_rise : NotesReadAreTheSource → (ts : List Transaction) → HoldsChanges rules ts written → IsStrictlySortedBy (slice_cmp nat_cmp) names
-  told_names_rise law ts holds =
-      subst (λ (ns : List (List ℕ)). IsStrictlySortedBy (slice_cmp nat_cmp) ns) (sym (told_names law ts holds)) (names_rise rules.definitions asker (rows_in (source_at ts (last_position 0 ts))))
+    pub names_rise : (buckets : List Bucket) → names_of buckets ≡ asker_names l asker → NamesRise buckets
+    names_rise buckets named =
+        subst (λ (ns : List (List ℕ)). IsStrictlySortedBy (slice_cmp nat_cmp) ns) (sym (named ∙ names_here))
+        (rises_sorted (slice_cmp nat_cmp) (bucket_names rules.definitions asker (rows_in (checkpoint_source rules h.history)))
+        (in_order_rises (flat_map (definition_names asker (rows_in (checkpoint_source rules h.history))) rules.definitions)))
 
-  -- the rows of a client that holds the logs of these names are due
-  pub written_rows_due : NotesReadAreTheSource → LatestRowsAreDue → AreRules rules → HaveNumbers rules.definitions → AreTold names
-      → (buckets : List Bucket) → names_of buckets ≡ names → AreOf written.replica.logs buckets → (shown : List Shown) → AreRowsOf buckets (last_of written.replica.logs) shown
-      → (ts : List Transaction) → HoldsChanges rules ts written → shown ≡ due rules.definitions asker ts (last_position 0 ts)
-  written_rows_due notes law are numbers told buckets named out shown of ts holds =
-      rows_due rules asker ts written.replica.logs buckets names holds.holds.stands (told_names notes ts holds) named out law are numbers holds.rise told shown of
+    module _ (buckets : List Bucket) (last : ℕ) (named : names_of buckets ≡ asker_names l asker) (at : last ≡ l.op) (out : AreUpto last l.log buckets) where
+      abbrev read : List SourceRow
+      read = rows_in (checkpoint_source rules h.history)
 
-pub if_ok : {X E : Type 0} (r : Result X E) (P Q : X → Type 0) → ((x : X) → P x → Q x) → IfOk r P → IfOk r Q
-if_ok (Ok x) P Q f h = f x h
-if_ok (Err e) P Q f h = tt
+      -- a client that holds the logs holds what readers of the asker's buckets hold
+      holds_buckets : (kept : Kept) → HoldsLogs kept buckets last → HoldsLaneBuckets [] rules.definitions asker read (checkpoint_held rules h.history) (λ bucket key. (bucket_at kept bucket).held key)
+      holds_buckets kept holds = record {
+        own = λ bucket is key.
+            let b = named_bucket buckets bucket (subst (λ ns. Has ns bucket) (sym (named ∙ names_here)) (has_bucket rules.definitions asker read bucket is)) in
+            let one = out_at (λ (x : Bucket). x.log.ops ≡ upto last (l.log x.name)) buckets b.0 out b.1 in
+            let same = out_at (λ (x : Bucket). (k : Key) → (bucket_at kept x.name).held k ≡ (bucket_of (upto last x.log.ops)).held k) buckets b.0 holds.held b.1 key in
+            ap (λ n. (bucket_at kept n).held key) (sym b.2) ∙ same
+            ∙ ap (λ ops. (bucket_of ops).held key)
+            (ap (upto last) one ∙ upto_again last (l.log b.0.name) ∙ ap (λ n. upto last (l.log n)) b.2 ∙ ap (upto last) (h.plain bucket) ∙ ap (λ p. upto p (in_bucket bucket l.entered)) at);
+        only = λ bucket key some. (bucket, refl, by_name bucket key some (is_named bucket buckets) refl);
+      } where
+        nothing : (bucket : List ℕ) (key : Key) → kept.bucket bucket ≡ None → (bucket_at kept bucket).held key ≡ None
+        nothing bucket key none = ap (λ o. (unwrap_or o fresh).held key) none
+
+        by_name : (bucket : List ℕ) (key : Key) → (bucket_at kept bucket).held key ≢ None → (b : Bool) → is_named bucket buckets ≡ b → IsBucketOf rules.definitions asker read bucket
+        by_name bucket key some true is = is_bucket rules.definitions asker read bucket (subst (λ ns. Has ns bucket) (named ∙ names_here) (is_named_of buckets bucket is))
+        by_name bucket key some false is = absurd (some (nothing bucket key (holds.only bucket is)))
+
+      latest_data : (kept : Kept) (object : Object) (o : Option (List ℕ)) → IfSome o (IsLatestContent kept object) → IfSome o (IsLatestData (λ bucket key. (bucket_at kept bucket).held key) object)
+      latest_data kept object None some = some
+      latest_data kept object (Some content) (copy, latest, same, is) = (copy, record { there = latest.held; latest = latest.latest }, same, is)
+
+      shows : (kept : Kept) (rows : List Shown) → AreLatestRows kept rows → ShowsLatest (λ bucket key. (bucket_at kept bucket).held key) rows
+      shows kept rows are = record {
+        in_order = are.in_order;
+        latest = λ object. latest_data kept object (row_at object rows) (are.latest object);
+        all = are.all;
+      }
+
+      -- the rows of a client that holds the logs of the asker's buckets are due
+      pub rows_due : CommittedRowsAreDue → AreRules rules → HaveNumbers rules.definitions → AreTold (asker_names l asker) → (shown : List Shown) → AreRowsOf buckets last shown
+          → shown ≡ due rules asker ts (last_position 0 ts)
+      rows_due due_law are numbers told shown of =
+          due_law rules h.history asker (λ bucket key. (bucket_at of.0 bucket).held key) shown are numbers h.stands.legal
+          (vectors_told rules.definitions asker read are.sound (subst (λ ns. AreTold ns) names_here told))
+          (holds_buckets of.0 of.1) (shows of.0 shown of.2)
+          ∙ ap (λ (fed : List Transaction). due_by rules.definitions asker fed l.position) h.fed
+          ∙ ap (λ p. due_by rules.definitions asker ts p) h.position

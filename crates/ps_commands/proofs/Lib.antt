@@ -3,12 +3,14 @@ pub mod Causes
 pub mod DueRows
 pub mod Exactness
 pub mod FaultLines
+pub mod MadeLines
 pub mod ManyBuckets
+pub mod Pending
+pub mod ReadBuckets
 pub mod Reaching
 pub mod RulesReading
 pub mod Sending
 pub mod Splitting
 pub mod Streaming
-pub mod Taking
 pub mod Telling
 pub mod TableNames

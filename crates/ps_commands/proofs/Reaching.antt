@@ -1,36 +1,293 @@
 -- How far a change file has been read and written.
-use Rattle.std.proofs.Common.{◌≡◌, ℕ, ◌+◌, ◌<◌, ◌≤◌, Bool, true, false, cond, List, [], ◌∷◌, ◌++◌, Option, Some, None, Result, Ok, Err, length, refl, sym, ap, ◌∙◌, arith, append_assoc, subst, ltb, Bor}
+use Rattle.std.proofs.Common.{◌≡◌, ℕ, ◌+◌, ◌-◌, ◌<◌, ◌≤◌, Bool, true, false, cond, List, [], ◌∷◌, ◌++◌, Option, Some, None, Result, Ok, Err, length, take, drop, refl, sym, ap, ◌∙◌, arith, append_assoc, append-nil, length-append, subst, fold, ltb, leb, Bor}
 use Rattle.std.specs.Prelude.{MatchOption}
-use Rattle.std.proofs.lemmas.Bool.{ltb-true}
-use Rattle.std.proofs.lemmas.List.{append-nil}
+use Rattle.std.proofs.lemmas.Bool.{ltb-true, le-leb}
+use Rattle.ps_changes.specs.declared.changes.Change.{Change as ChangeData}
 use Rattle.ps_changes.specs.declared.changes.Transaction.{Transaction}
 use Rattle.ps_changes.specs.Lines.{line_of}
 use Rattle.ps_changes.specs.declared.faults.ChangeFault.{ChangeFault}
-use Rattle.ps_commands.specs.declared.faults.Fault.{Fault}
-use Rattle.ps_commands.specs.declared.faults.Fault.TheVariants.{Usage, Rules, Change, LongLine, Claims, Keys, TooLong, CannotRead, CannotWrite, Memory}
-use Rattle.ps_commands.specs.declared.faults.LineFault.TheVariants.{NotRising}
-use Rattle.ps_commands.specs.ChangeFiles.{lines_of, is_blank, rising, transactions_from, transactions_of, ◌>>=◌}
 use Rattle.ps_rules.specs.RuleSets.{RuleSet}
-use Rattle.ps_store.specs.declared.replicas.Replica.{Replica}
-use Rattle.ps_store.specs.Laws.{Rises, last_position}
+use Rattle.ps_store.specs.declared.events.Event.{Event}
+use Rattle.ps_store.specs.declared.events.Event.TheVariants.{Feed, Write, Commit}
+use Rattle.ps_store.specs.declared.faults.NothingToCommit.{NothingToCommit}
+use Rattle.ps_store.specs.declared.faults.WriteFault.{WriteFault}
+use Rattle.ps_store.specs.declared.faults.WriteFault.TheVariants as writing
+use Rattle.ps_store.specs.declared.stores.Checkpoint.{Checkpoint}
+use Rattle.ps_store.specs.declared.stores.Store.{Store}
+use Rattle.ps_store.specs.Histories.{LedgersTellHistories}
+use Rattle.ps_store.specs.Laws.{last_position}
+use Rattle.ps_store.specs.Ledgers.{Ledger, fresh, head_of, timed_of, unwritten, entries_after, next_ops, write_next, ledger_after, ledger_of, reached_by}
+use Rattle.ps_store.specs.Limits.{usual_limits}
 use Rattle.ps_store.specs.Originals.{Timed, timed, timed_from}
-use Rattle.ps_store.specs.Replicas.{Holds, IsReady}
-use Rattle.ps_commands.specs.ReadingChanges.{HasRead, HasWritten, Writes, ReadsRising, lines_left, bytes_left, before_left}
+use Rattle.ps_store.specs.Runs.{run_from}
+use Rattle.ps_store.specs.Stores.{StoreStandsFor, IsRefused, Commits, next_run}
+use Rattle.ps_commands.specs.declared.faults.Fault.{Fault}
+use Rattle.ps_commands.specs.declared.faults.Fault.TheVariants.{Usage, Rules, Change, PastLimit, TooManyBuckets, Claims, Keys, TooLong, CannotRead, CannotWrite, Memory}
+use Rattle.ps_commands.specs.declared.faults.Limit.{Limit}
+use Rattle.ps_commands.specs.declared.faults.Limit.TheVariants.{Entries, Operations}
+use Rattle.ps_commands.specs.declared.faults.LineFault.TheVariants.{NotRising}
+use Rattle.ps_commands.specs.ChangeFiles.{lines_of, is_blank, rising, passed_by, first_passed, first_of, unless_passed, within_limits, accepted, transactions_from, transactions_of, ◌>>=◌}
+use Rattle.ps_commands.specs.ReadingChanges.{usual, IsPlain, IsPending, HasCommitted, HasWritten, WritesSome, WritesAll, TakesLine, Writes, ReadsRising, lines_left, bytes_left}
+use Rattle.ps_commands.proofs.Pending.{drop_drop, take_on, length_take, length_drop, drop_front, take_front, Knows, passes_entries, passes_ops, run_passes, passed_later, ledger_more, could_come, Follows, written_on, known}
 
-pub before_none : (r : Result (List Transaction) Fault) → r ≡ before_left [] r
-before_none (Ok ts) = refl
-before_none (Err fault) = refl
+-- ---- positions
 
-before_more : (done : List Transaction) (t : Transaction) (r : Result (List Transaction) Fault) → before_left done (r >>= λ ts. Ok (t ∷ ts)) ≡ before_left (done ++ t ∷ []) r
-before_more done t (Ok ts) = ap Ok (sym (append_assoc done (t ∷ []) ts))
-before_more done t (Err fault) = refl
+last_from : (position : ℕ) (ts : List Transaction) → fold (λ p (t : Transaction). t.position.0) position ts ≡ last_position position ts
+last_from position [] = refl
+last_from position (t ∷ ts) = last_from t.position.0 ts
 
-pub started_reading : (changes : Bor (List ℕ)) → HasRead changes.now 0 0 (Some changes) []
-unfolding transactions_of
-started_reading changes = record {
-  meaning = before_none (transactions_from 1 0 (lines_of changes.now));
-  counted = omega arith;
-}
+last_more : (position : ℕ) (ts : List Transaction) (t : Transaction) → last_position position (ts ++ t ∷ []) ≡ t.position.0
+last_more position [] t = refl
+last_more position (u ∷ us) t = last_more u.position.0 us t
+
+past_by : (number last : ℕ) (t u : Transaction) (b : Bool) → ltb last t.position.0 ≡ b → cond b (Ok t) (Err (Change number (NotRising last t.position.0))) ≡ Ok u → last < u.position.0
+past_by number last t u true e g = let same : t ≡ u = cc in subst (λ (x : Transaction). last < x.position.0) same (ltb-true last t.position.0 e)
+past_by number last t u false e g = absurd (cc)
+
+-- a transaction that is read is past the last one
+past_last : (number last : ℕ) (r : Result Transaction ChangeFault) (t : Transaction) → rising number last r ≡ Ok t → last < t.position.0
+past_last number last (Err fault) t h = absurd (cc)
+past_last number last (Ok u) t h = past_by number last u t (ltb last u.position.0) refl h
+
+timed_more : (ts : List Transaction) (t : Transaction) → timed (ts ++ t ∷ []) ≡ timed ts ++ timed_of t
+timed_more [] t = append-nil (timed_of t)
+timed_more (u ∷ us) t = ap (λ xs. timed_of u ++ xs) (timed_more us t) ∙ sym (append_assoc (timed_of u) (timed us) (timed_of t))
+
+timed_length : (position index : ℕ) (changes : List ChangeData) → length (timed_from position index changes) ≡ length changes
+timed_length position index [] = refl
+timed_length position index (c ∷ cs) = let e = timed_length position (index + 1) cs in omega (arith, e)
+
+minus : (a b : ℕ) → (a + b) - a ≡ b
+minus a b = omega arith
+
+-- where all is written, the last position is reached
+reached_all : (at : ℕ) (ts : List Transaction) → reached_by at (length (timed ts)) ts ≡ last_position at ts
+reached_all at [] = refl
+reached_all at (t ∷ ts) =
+    let n = length t.changes in
+    let e : length (timed (t ∷ ts)) ≡ n + length (timed ts) = omega (arith, length-append (timed_of t) (timed ts), timed_length t.position.0 0 t.changes) in
+    let first : length t.changes ≤ n + length (timed ts) = omega arith in
+    ap (λ w. cond (leb n w) (reached_by t.position.0 (w - n) ts) at) e
+    ∙ ap (λ b. cond b (reached_by t.position.0 ((n + length (timed ts)) - n) ts) at) (le-leb n (n + length (timed ts)) first)
+    ∙ ap (λ w. reached_by t.position.0 w ts) (minus n (length (timed ts)))
+    ∙ reached_all t.position.0 ts
+
+-- ---- one transaction
+
+module _ (rules : RuleSet) (done : List Transaction) (old : Store) (h : HasCommitted rules done old) where
+  abbrev before : Ledger
+  before = ledger_of rules h.history
+
+  pub head_is : (last : ℕ) → last ≡ head_of before.fed → last ≡ last_position 0 done
+  head_is last is = is ∙ ap head_of h.fed ∙ last_from 0 done
+
+  pub fed_more : (t : Transaction) (new : Store) → StoreStandsFor (usual rules) new (h.history ++ Feed t ∷ [])
+      → IsPending rules (done ++ t ∷ []) (length t.changes) (first_passed rules.definitions (timed done) (timed_of t)) new
+  fed_more t new stands =
+      let now : Ledger = ledger_of rules (h.history ++ Feed t ∷ []) in
+      let next : now ≡ ledger_after before (Feed t) = ledger_more rules h.history (Feed t) in
+      let fed : now.fed ≡ done ++ t ∷ [] = ap (λ (l : Ledger). l.fed) next ∙ ap (λ (ts : List Transaction). ts ++ t ∷ []) h.fed in
+      let written : now.written ≡ length (timed done) = ap (λ (l : Ledger). l.written) next ∙ h.written in
+      let all : timed now.fed ≡ timed done ++ timed_of t = ap timed fed ∙ timed_more done t in
+      let left : unwritten now ≡ timed_of t = ap (λ n. drop n (timed now.fed)) written ∙ ap (λ (us : List Timed). drop (length (timed done)) us) all ∙ drop_front (timed done) (timed_of t) in
+      let front : take now.written (timed now.fed) ≡ timed done = ap (λ n. take n (timed now.fed)) written ∙ ap (λ (us : List Timed). take (length (timed done)) us) all ∙ take_front (timed done) (timed_of t) in
+      record {
+        history = h.history ++ Feed t ∷ [];
+        stands = stands;
+        fed = fed;
+        feed_open = ap (λ (l : Ledger). l.closed) next ∙ h.feed_open;
+        plain = subst IsPlain (sym next) h.plain;
+        left_are = ap length left ∙ timed_length t.position.0 0 t.changes;
+        passed_is = ap (λ (us : List Timed). first_passed rules.definitions us (unwritten now)) front ∙ ap (first_passed rules.definitions (timed done)) left;
+      }
+
+  pub is_open : before.closed ≡ true → ⊥
+  is_open closed = let wrong : true ≡ false = sym closed ∙ h.feed_open in cc
+
+  pub is_past : (t : Transaction) → last_position 0 done < t.position.0 → t.position.0 ≤ head_of before.fed → ⊥
+  is_past t later low = let e = head_is (head_of before.fed) refl in omega (arith, e, later, low)
+
+-- ---- pending changes
+
+module _ (law : LedgersTellHistories) (rules : RuleSet) (ts : List Transaction) (left : ℕ) (passed : Option Limit) (old : Store) (h : IsPending rules ts left passed old) where
+  abbrev l : Ledger
+  l = ledger_of rules h.history
+
+  abbrev front : List Timed
+  front = take l.written (timed l.fed)
+
+  knows : Knows rules front l
+  knows = known rules h.history l (law rules h.history h.stands.legal)
+
+  pub none_passes_left : left ≡ 0 → passed ≡ None
+  none_passes_left none = sym h.passed_is ∙ ap (first_passed rules.definitions front) (by (unwritten l) (h.left_are ∙ none)) where
+    by : (us : List Timed) → length us ≡ 0 → us ≡ []
+    by [] e = refl
+    by (u ∷ us) e = absurd (omega (arith, e))
+
+  -- the next change decides
+  next_decides : (t : Timed) (us : List Timed) (limit : Limit) → unwritten l ≡ t ∷ us → passed_by rules.definitions front t ≡ Some limit → passed ≡ Some limit
+  next_decides t us limit is h2 =
+      sym h.passed_is ∙ ap (first_passed rules.definitions front) is ∙ ap (λ p. first_of p (first_passed rules.definitions (front ++ t ∷ []) us)) h2
+
+  pub some_left : 0 < left → unwritten l ≡ [] → ⊥
+  some_left some none = omega (arith, some, h.left_are, ap length none)
+
+  pub refused_by : (new : Store) (fault : WriteFault) (table id : List ℕ) (count : ℕ) → fault ≡ writing.TooWide table id count → IsRefused usual_limits l fault
+      → WritesSome rules ts left passed new (Err (PastLimit (Entries count)))
+  refused_by new fault table id count is r =
+      let why = subst (IsRefused usual_limits l) is r in
+      next_decides why.0 why.1 (Entries count) why.2
+      (passes_entries rules front l knows why.0 why.3 ∙ ap (λ n. Some (Entries n)) (sym why.6))
+
+  pub full_by : (new : Store) (last : ℕ) (t : Timed) (us : List Timed) → unwritten l ≡ t ∷ us → length (entries_after l t) ≤ usual_limits.entries
+      → usual_limits.ops < l.last + length (next_ops l t) → last ≡ l.last → WritesSome rules ts left passed new (Err (PastLimit (Operations last)))
+  full_by new last t us is narrow full last_is =
+      next_decides t us (Operations last) is (passes_ops rules front l knows t narrow full ∙ ap (λ n. Some (Operations n)) (sym last_is))
+
+  pub wrote_some : (limit n : ℕ) (new : Store) → 1 ≤ n → n ≡ (next_run (usual rules) h.history limit).count → StoreStandsFor (usual rules) new (h.history ++ Write n ∷ [])
+      → WritesSome rules ts left passed new (Ok n)
+  wrote_some limit n new some count stands =
+      let now : Ledger = ledger_of rules (h.history ++ Write n ∷ []) in
+      let can = could_come h.history (fresh rules) (Write n) stands.legal in
+      let many : n ≤ length (unwritten l) = can.1 in
+      let next : now ≡ fold write_next l (take n (unwritten l)) = ledger_more rules h.history (Write n) in
+      let on : Follows l (fold write_next l (take n (unwritten l))) (length (take n (unwritten l))) = written_on (take n (unwritten l)) l in
+      let fed : now.fed ≡ l.fed = ap (λ (x : Ledger). x.fed) next ∙ on.fed in
+      let written : now.written ≡ l.written + n = ap (λ (x : Ledger). x.written) next ∙ on.written ∙ ap (λ k. l.written + k) (length_take n (unwritten l) many) in
+      let rest : unwritten now ≡ drop n (unwritten l) =
+      ap (λ k. drop k (timed now.fed)) written ∙ ap (λ (xs : List Transaction). drop (l.written + n) (timed xs)) fed ∙ drop_drop l.written n (timed l.fed) in
+      let ahead : take now.written (timed now.fed) ≡ front ++ take n (unwritten l) =
+      ap (λ k. take k (timed now.fed)) written ∙ ap (λ (xs : List Transaction). take (l.written + n) (timed xs)) fed ∙ take_on l.written n (timed l.fed) in
+      let zero_on : (run_from usual_limits l 0 (take limit (unwritten l))).count ≡ 0 + n = sym count ∙ omega arith in (
+        some,
+        omega (arith, many, h.left_are),
+        record {
+          history = h.history ++ Write n ∷ [];
+          stands = stands;
+          fed = fed ∙ h.fed;
+          feed_open = ap (λ (x : Ledger). x.closed) next ∙ on.closed ∙ h.feed_open;
+          plain = subst IsPlain (sym next) (on.plain h.plain);
+          left_are = omega (arith, ap length rest, length_drop n (unwritten l) many, h.left_are);
+          passed_is =
+              ap (λ (us : List Timed). first_passed rules.definitions us (unwritten now)) ahead
+              ∙ ap (first_passed rules.definitions (front ++ take n (unwritten l))) rest
+              ∙ passed_later rules.definitions n front (unwritten l) (run_passes (unwritten l) limit n rules front l 0 knows zero_on)
+              ∙ h.passed_is;
+        },
+      )
+
+  written_all : left ≡ 0 → l.written ≡ length (timed ts)
+  written_all none =
+      let within = (law rules h.history h.stands.legal).within in
+      let e : length (unwritten l) ≡ 0 = h.left_are ∙ none in
+      let d = length_drop l.written (timed l.fed) within in
+      omega (arith, e, d, within, ap (λ (xs : List Transaction). length (timed xs)) h.fed)
+
+  reached_last : left ≡ 0 → l.reach.position ≡ last_position 0 ts
+  reached_last none =
+      (law rules h.history h.stands.legal).position
+      ∙ ap (λ n. reached_by 0 n l.fed) (written_all none)
+      ∙ ap (λ (xs : List Transaction). reached_by 0 (length (timed ts)) xs) h.fed
+      ∙ reached_all 0 ts
+
+  pub committed : (new : Store) → left ≡ 0 → StoreStandsFor (usual rules) new (h.history ++ Commit ∷ []) → HasCommitted rules ts new
+  committed new none stands =
+      let next : ledger_of rules (h.history ++ Commit ∷ []) ≡ ledger_after l Commit = ledger_more rules h.history Commit in
+      record {
+        history = h.history ++ Commit ∷ [];
+        stands = stands;
+        fed = ap (λ (x : Ledger). x.fed) next ∙ h.fed;
+        feed_open = ap (λ (x : Ledger). x.closed) next ∙ h.feed_open;
+        plain = subst IsPlain (sym next) h.plain;
+        written = ap (λ (x : Ledger). x.written) next ∙ written_all none;
+        position = ap (λ (x : Ledger). x.position) next ∙ reached_last none;
+      }
+
+  pub committed_before : (new : Store) → left ≡ 0 → l.reach.position ≡ l.position → StoreStandsFor (usual rules) new h.history → HasCommitted rules ts new
+  committed_before new none same stands = record {
+    history = h.history;
+    stands = stands;
+    fed = h.fed;
+    feed_open = h.feed_open;
+    plain = h.plain;
+    written = written_all none;
+    position = sym same ∙ reached_last none;
+  }
+
+  -- a commit leaves it so, also where there is nothing to commit
+  pub commits : (new : Store) → left ≡ 0 → (r : Result Checkpoint NothingToCommit) → Commits (usual rules) h.history new r → HasCommitted rules ts new
+  commits new none (Ok checkpoint) c = committed new none c.2
+  commits new none (Err nothing) c = committed_before new none c.0 c.1
+
+pub none_passes : (law : LedgersTellHistories) (rules : RuleSet) (ts : List Transaction) (passed : Option Limit) (store : Store) → IsPending rules ts 0 passed store → passed ≡ None
+none_passes law rules ts passed store h = none_passes_left law rules ts 0 passed store h refl
+
+-- a fault of a batch is that of all
+pub pending_refused : (rules : RuleSet) (ts : List Transaction) (left : ℕ) (passed : Option Limit) (store : Store) (fault : Fault) → WritesSome rules ts left passed store (Err fault) → WritesAll rules ts passed store (Err fault)
+pending_refused rules ts left passed store Usage w = w
+pending_refused rules ts left passed store (Rules place column why) w = w
+pending_refused rules ts left passed store (Change place why) w = w
+pending_refused rules ts left passed store (PastLimit limit) w = w
+pending_refused rules ts left passed store (TooManyBuckets count) w = w
+pending_refused rules ts left passed store Claims w = w
+pending_refused rules ts left passed store Keys w = w
+pending_refused rules ts left passed store (TooLong seen) w = w
+pending_refused rules ts left passed store (CannotRead name) w = w
+pending_refused rules ts left passed store CannotWrite w = w
+pending_refused rules ts left passed store Memory w = tt
+
+-- ---- a line
+
+module _ (rules : RuleSet) (done : List Transaction) (number : ℕ) (line : List ℕ) where
+  abbrev meant : Result Transaction Fault
+  meant = accepted rules.definitions done number line
+
+  meant_from : (last : ℕ) (r : Result Transaction Fault) → last ≡ last_position 0 done → rising number last (line_of line) ≡ r → meant ≡ (r >>= within_limits rules.definitions done)
+  meant_from last r at is = ap (λ r. r >>= within_limits rules.definitions done) (ap (λ p. rising number p (line_of line)) (sym at) ∙ is)
+
+  -- a line that is not read is refused
+  pub not_read : (last : ℕ) (fault : Fault) (new : Store) → last ≡ last_position 0 done → ReadsRising (Err fault) (rising number last (line_of line)) → TakesLine rules done meant new (Err fault)
+  not_read last Usage new at is = is
+  not_read last (Rules place column why) new at is = is
+  not_read last (Change place why) new at is = meant_from last (Err (Change place why)) at is
+  not_read last (PastLimit limit) new at is = meant_from last (Err (PastLimit limit)) at is
+  not_read last (TooManyBuckets count) new at is = is
+  not_read last Claims new at is = is
+  not_read last Keys new at is = is
+  not_read last (TooLong seen) new at is = is
+  not_read last (CannotRead name) new at is = is
+  not_read last CannotWrite new at is = is
+  not_read last Memory new at is = tt
+
+  module _ (last : ℕ) (t : Transaction) (at : last ≡ last_position 0 done) (is : rising number last (line_of line) ≡ Ok t) where
+    abbrev first : Option Limit
+    first = first_passed rules.definitions (timed done) (timed_of t)
+
+    meant_by : (passed : Option Limit) → first ≡ passed → meant ≡ unless_passed t passed
+    meant_by passed e = meant_from last (Ok t) at is ∙ ap (unless_passed t) e
+
+    pub later : last_position 0 done < t.position.0
+    later = subst (λ p. p < t.position.0) at (past_last number last (line_of line) t is)
+
+    -- a line that is not written is refused
+    pub not_written : (ts : List Transaction) (fault : Fault) (mid new : Store) → WritesAll rules ts first mid (Err fault) → TakesLine rules done meant new (Err fault)
+    not_written ts Usage mid new w = w
+    not_written ts (Rules place column why) mid new w = absurd w
+    not_written ts (Change place why) mid new w = absurd w
+    not_written ts (PastLimit limit) mid new w = meant_by (Some limit) w
+    not_written ts (TooManyBuckets count) mid new w = w
+    not_written ts Claims mid new w = w
+    not_written ts Keys mid new w = w
+    not_written ts (TooLong seen) mid new w = w
+    not_written ts (CannotRead name) mid new w = w
+    not_written ts CannotWrite mid new w = w
+    not_written ts Memory mid new w = tt
+
+    pub taken : (new : Store) → first ≡ None → HasCommitted rules (done ++ t ∷ []) new → TakesLine rules done meant new (Ok tt)
+    taken new e h = (t, meant_by None e, h)
+
+-- ---- a file
 
 -- the lines after a first line
 abbrev pub SplitsLine : List ℕ → List ℕ → Option (Bor (List ℕ)) → Type 0
@@ -44,149 +301,62 @@ fewer : (bytes line : List ℕ) (rest : Option (Bor (List ℕ))) → SplitsLine 
 fewer bytes line None h = omega arith
 fewer bytes line (Some r) h = omega (arith, h.1)
 
-read_one : (number last : ℕ) (line : List ℕ) (lines : List (List ℕ)) (t : Transaction) → is_blank line ≡ false → rising number last (line_of line) ≡ Ok t
-    → transactions_from number last (line ∷ lines) ≡ (transactions_from (number + 1) t.position.0 lines >>= λ ts. Ok (t ∷ ts))
-read_one number last line lines t full is = rw full (ap (λ r. r >>= λ (x : Transaction). transactions_from (number + 1) x.position.0 lines >>= λ ts. Ok (x ∷ ts)) is)
-
--- a transaction more
-pub read_more : (changes : List ℕ) (number last : ℕ) (bytes : Bor (List ℕ)) (line : List ℕ) (rest : Option (Bor (List ℕ))) (done : List Transaction) (t : Transaction)
-    → HasRead changes number last (Some bytes) done → SplitsLine bytes.now line rest → is_blank line ≡ false → rising (number + 1) last (line_of line) ≡ Ok t
-    → HasRead changes (number + 1) t.position.0 rest (done ++ t ∷ [])
-read_more changes number last bytes line rest done t so_far splits full is = record {
-  meaning =
-      so_far.meaning
-      ∙ ap (λ ls. before_left done (transactions_from (number + 1) last ls)) (left_lines bytes.now line rest splits)
-      ∙ ap (before_left done) (read_one (number + 1) last line (lines_left rest) t full is)
-      ∙ before_more done t (transactions_from (number + 1 + 1) t.position.0 (lines_left rest));
-  counted = omega (arith, so_far.counted, fewer bytes.now line rest splits);
-}
-
--- a blank line more
-pub read_blank : (changes : List ℕ) (number last : ℕ) (bytes : Bor (List ℕ)) (line : List ℕ) (rest : Option (Bor (List ℕ))) (done : List Transaction)
-    → HasRead changes number last (Some bytes) done → SplitsLine bytes.now line rest → is_blank line ≡ true
-    → HasRead changes (number + 1) last rest done
-read_blank changes number last bytes line rest done so_far splits blank = record {
-  meaning =
-      so_far.meaning
-      ∙ ap (λ ls. before_left done (transactions_from (number + 1) last ls)) (left_lines bytes.now line rest splits)
-      ∙ ap (before_left done) (rw blank refl);
-  counted = omega (arith, so_far.counted, fewer bytes.now line rest splits);
-}
-
--- ---- positions rise
-
-module _ (number last : ℕ) (lines : List (List ℕ)) (ts : List Transaction) where
-  -- what follows a transaction
-  abbrev followed : Transaction → Result (List Transaction) Fault
-  followed t = transactions_from (number + 1) t.position.0 lines >>= λ rest. Ok (t ∷ rest)
-
-  risen : (t : Transaction) (r : Result (List Transaction) Fault) → last < t.position.0 → ((rest : List Transaction) → r ≡ Ok rest → Rises t.position.0 rest)
-      → (r >>= λ rest. Ok (t ∷ rest)) ≡ Ok ts → Rises last ts
-  risen t (Ok rest) above k g = let e : t ∷ rest ≡ ts = cc in subst (Rises last) e (above, k rest refl)
-  risen t (Err fault) above k g = absurd (cc)
-
-  past : ((t : Transaction) (rest : List Transaction) → transactions_from (number + 1) t.position.0 lines ≡ Ok rest → Rises t.position.0 rest)
-      → (t : Transaction) (b : Bool) → ltb last t.position.0 ≡ b → (cond b (Ok t) (Err (Change number (NotRising last t.position.0))) >>= followed) ≡ Ok ts → Rises last ts
-  past k t true e g = risen t (transactions_from (number + 1) t.position.0 lines) (ltb-true last t.position.0 e) (k t) g
-  past k t false e g = absurd (cc)
-
-  accepted : ((t : Transaction) (rest : List Transaction) → transactions_from (number + 1) t.position.0 lines ≡ Ok rest → Rises t.position.0 rest)
-      → (r : Result Transaction ChangeFault) → (rising number last r >>= followed) ≡ Ok ts → Rises last ts
-  accepted k (Err fault) g = absurd (cc)
-  accepted k (Ok t) g = past k t (ltb last t.position.0) refl g
-
-rises_from : (number last : ℕ) (lines : List (List ℕ)) (ts : List Transaction) → transactions_from number last lines ≡ Ok ts → Rises last ts
-rises_from number last [] ts h = let e : [] ≡ ts = cc in subst (Rises last) e tt
-rises_from number last (line ∷ lines) ts h =
-    elim (is_blank line) as (λ b. cond b (transactions_from (number + 1) last lines) (rising number last (line_of line) >>= followed number last lines ts) ≡ Ok ts → Rises last ts) [
-      | true ↦ λ g. rises_from (number + 1) last lines ts g
-      | false ↦ λ g. accepted number last lines ts (λ t rest r. rises_from (number + 1) t.position.0 lines rest r) (line_of line) g
-    ] h
-
-pub positions_rise : (bytes : List ℕ) (ts : List Transaction) → transactions_of bytes ≡ Ok ts → Rises 0 ts
+pub started : (rules : RuleSet) (changes : Bor (List ℕ)) (store : Store) → StoreStandsFor (usual rules) store [] → HasWritten rules changes.now 0 (Some changes) store
 unfolding transactions_of
-positions_rise bytes ts h = rises_from 1 0 (lines_of bytes) ts h
+started rules changes store stands = record {
+  done = [];
+  committed = record { history = []; stands = stands; fed = refl; feed_open = refl; plain = λ bucket. refl; written = refl; position = refl };
+  meaning = refl;
+  counted = omega arith;
+}
 
-past_by : (number last : ℕ) (t u : Transaction) (b : Bool) → ltb last t.position.0 ≡ b → cond b (Ok t) (Err (Change number (NotRising last t.position.0))) ≡ Ok u → last < u.position.0
-past_by number last t u true e g = let same : t ≡ u = cc in subst (λ (x : Transaction). last < x.position.0) same (ltb-true last t.position.0 e)
-past_by number last t u false e g = absurd (cc)
+module _ (rules : RuleSet) (changes : List ℕ) (number : ℕ) (bytes : Bor (List ℕ)) (line : List ℕ) (rest : Option (Bor (List ℕ))) (old : Store)
+    (so_far : HasWritten rules changes number (Some bytes) old) (splits : SplitsLine bytes.now line rest) where
+  here : transactions_of rules changes ≡ transactions_from rules.definitions so_far.done (number + 1) (line ∷ lines_left rest)
+  here = so_far.meaning ∙ ap (transactions_from rules.definitions so_far.done (number + 1)) (left_lines bytes.now line rest splits)
 
--- a transaction that is read is past the last one
-past_last : (number last : ℕ) (r : Result Transaction ChangeFault) (t : Transaction) → rising number last r ≡ Ok t → last < t.position.0
-past_last number last (Err fault) t h = absurd (cc)
-past_last number last (Ok u) t h = past_by number last u t (ltb last u.position.0) refl h
+  fewer_left : number + 1 + bytes_left rest ≤ length changes + 1
+  fewer_left = omega (arith, so_far.counted, fewer bytes.now line rest splits)
 
--- ---- what is read is written
+  full_line : (r : Result Transaction Fault) → is_blank line ≡ false → accepted rules.definitions so_far.done (number + 1) line ≡ r
+      → transactions_of rules changes ≡ (r >>= λ t. transactions_from rules.definitions (so_far.done ++ t ∷ []) (number + 1 + 1) (lines_left rest))
+  full_line r full is =
+      here
+      ∙ rw full (ap (λ x. x >>= λ t. transactions_from rules.definitions (so_far.done ++ t ∷ []) (number + 1 + 1) (lines_left rest)) is)
 
-refused_one : (number last : ℕ) (line : List ℕ) (lines : List (List ℕ)) (fault : Fault) → is_blank line ≡ false → rising number last (line_of line) ≡ Err fault
-    → transactions_from number last (line ∷ lines) ≡ Err fault
-refused_one number last line lines fault full is = rw full (ap (λ r. r >>= λ (x : Transaction). transactions_from (number + 1) x.position.0 lines >>= λ ts. Ok (x ∷ ts)) is)
-
-last_more : (position : ℕ) (ts : List Transaction) (t : Transaction) → t.position.0 ≡ last_position position (ts ++ t ∷ [])
-last_more position [] t = refl
-last_more position (u ∷ us) t = last_more u.position.0 us t
-
-timed_more : (ts : List Transaction) (t : Transaction) → timed (ts ++ t ∷ []) ≡ timed ts ++ timed_from t.position.0 0 t.changes
-timed_more [] t = append-nil (timed_from t.position.0 0 t.changes)
-timed_more (u ∷ us) t = ap (λ xs. timed_from u.position.0 0 u.changes ++ xs) (timed_more us t)
-    ∙ sym (append_assoc (timed_from u.position.0 0 u.changes) (timed us) (timed_from t.position.0 0 t.changes))
-
-pub started_writing : (rules : RuleSet) (changes : Bor (List ℕ)) (replica : Replica) → Holds rules replica [] → IsReady 0 replica → HasWritten rules changes.now 0 0 (Some changes) replica
-started_writing rules changes replica holds ready = record { done = []; read = started_reading changes; holds = holds; ready = ready; last_is = refl }
-
-module _ (rules : RuleSet) (changes : List ℕ) (number last : ℕ) (bytes : Bor (List ℕ)) (line : List ℕ) (rest : Option (Bor (List ℕ))) (old : Replica)
-    (so_far : HasWritten rules changes number last (Some bytes) old) (splits : SplitsLine bytes.now line rest) where
-  -- a transaction that is read may be written
-  pub may_write : (t : Transaction) → rising (number + 1) last (line_of line) ≡ Ok t → IsReady t.position.0 old
-  may_write t is = record { logs = so_far.ready.logs; last = omega (arith, so_far.ready.last, past_last (number + 1) last (line_of line) t is) }
-
-  -- a transaction more is written
-  pub written_more : (t : Transaction) (new : Replica) → is_blank line ≡ false → rising (number + 1) last (line_of line) ≡ Ok t
-      → IsReady t.position.0 new → ((ts : List Timed) → Holds rules old ts → Holds rules new (ts ++ timed_from t.position.0 0 t.changes))
-      → HasWritten rules changes (number + 1) t.position.0 rest new
-  written_more t new full is ready writes = record {
-    done = so_far.done ++ t ∷ [];
-    read = read_more changes number last bytes line rest so_far.done t so_far.read splits full is;
-    holds = subst (λ ts. Holds rules new ts) (sym (timed_more so_far.done t)) (writes (timed so_far.done) so_far.holds);
-    ready = ready;
-    last_is = last_more 0 so_far.done t;
+  -- a line more is taken
+  pub line_more : (new : Store) → is_blank line ≡ false → TakesLine rules so_far.done (accepted rules.definitions so_far.done (number + 1) line) new (Ok tt) → HasWritten rules changes (number + 1) rest new
+  line_more new full takes = record {
+    done = so_far.done ++ takes.0 ∷ [];
+    committed = takes.2;
+    meaning = full_line (Ok takes.0) full takes.1;
+    counted = fewer_left;
   }
 
   -- a blank line writes nothing
-  pub written_blank : is_blank line ≡ true → HasWritten rules changes (number + 1) last rest old
-  written_blank blank = record {
+  pub blank_more : is_blank line ≡ true → HasWritten rules changes (number + 1) rest old
+  blank_more blank = record {
     done = so_far.done;
-    read = read_blank changes number last bytes line rest so_far.done so_far.read splits blank;
-    holds = so_far.holds;
-    ready = so_far.ready;
-    last_is = so_far.last_is;
+    committed = so_far.committed;
+    meaning = here ∙ rw blank refl;
+    counted = fewer_left;
   }
 
-  refused : (fault : Fault) → is_blank line ≡ false → rising (number + 1) last (line_of line) ≡ Err fault → transactions_of changes ≡ Err fault
-  refused fault full is =
-      so_far.read.meaning
-      ∙ ap (λ ls. before_left so_far.done (transactions_from (number + 1) last ls)) (left_lines bytes.now line rest splits)
-      ∙ ap (before_left so_far.done) (refused_one (number + 1) last line (lines_left rest) fault full is)
-
   -- a line that is refused refuses the file
-  pub refuses : (fault : Fault) → is_blank line ≡ false → ReadsRising (Err fault) (rising (number + 1) last (line_of line)) → Writes rules (transactions_of changes) (Err fault)
-  refuses Usage full is = is
-  refuses (Rules place column why) full is = is
-  refuses (Change place why) full is = refused (Change place why) full is
-  refuses (LongLine length) full is = refused (LongLine length) full is
-  refuses Claims full is = is
-  refuses Keys full is = is
-  refuses (TooLong seen) full is = is
-  refuses (CannotRead name) full is = is
-  refuses CannotWrite full is = is
-  refuses Memory full is = tt
+  pub refuses : (fault : Fault) (new : Store) → is_blank line ≡ false → TakesLine rules so_far.done (accepted rules.definitions so_far.done (number + 1) line) new (Err fault)
+      → Writes rules (transactions_of rules changes) (Err fault)
+  refuses Usage new full is = is
+  refuses (Rules place column why) new full is = is
+  refuses (Change place why) new full is = full_line (Err (Change place why)) full is
+  refuses (PastLimit limit) new full is = full_line (Err (PastLimit limit)) full is
+  refuses (TooManyBuckets count) new full is = is
+  refuses Claims new full is = is
+  refuses Keys new full is = is
+  refuses (TooLong seen) new full is = is
+  refuses (CannotRead name) new full is = is
+  refuses CannotWrite new full is = is
+  refuses Memory new full is = tt
 
 -- where no line is left, all is written
-pub all_written : (rules : RuleSet) (changes : List ℕ) (number last : ℕ) (replica : Replica) → HasWritten rules changes number last None replica
-    → Writes rules (transactions_of changes) (Ok (record { replica = replica; last = record { 0 = last } }))
-all_written rules changes number last replica so_far =
-    let meant : transactions_of changes ≡ Ok so_far.done = so_far.read.meaning ∙ ap Ok (append-nil so_far.done) in (
-      so_far.done,
-      meant,
-      record { holds = so_far.holds; logs = so_far.ready.logs; last = so_far.last_is; rise = positions_rise changes so_far.done meant },
-    )
+pub all_written : (rules : RuleSet) (changes : List ℕ) (number : ℕ) (store : Store) → HasWritten rules changes number None store → Writes rules (transactions_of rules changes) (Ok store)
+all_written rules changes number store so_far = (so_far.done, so_far.meaning, so_far.committed)

@@ -1,8 +1,10 @@
--- The commands `check`, `rows` and `token`: their words, what their files mean, and the cause of each answer.
-use Rattle.std.specs.Prelude.{◌≡◌, ◌⊎◌, ℕ, ◌<◌, ◌≤◌, nat_le, List, [], ◌∷◌, ◌++◌, length, codes, bytes_eq, decimal, Option, Some, None, Result, Ok, Err, if◌then◌else◌}
+-- The commands `check`, `rows`, `token` and `generate`: their words, what their files mean, and the cause of each answer.
+use Rattle.std.specs.Prelude.{◌≡◌, ◌⊎◌, ℕ, ◌<◌, ◌≤◌, nat_le, ◌&&◌, List, [], ◌∷◌, ◌++◌, length, codes, bytes_eq, decimal, Option, Some, None, option_map, option_and_then, Result, Ok, Err, if◌then◌else◌}
 use Rattle.ps_io.specs.Contents.{Contents, Holds, HoldsMore, Gains, GainsFront}
 use Rattle.ps_io.specs.Counts.{Rose}
 use Rattle.ps_changes.specs.declared.changes.Transaction.{Transaction}
+use Rattle.ps_changes.specs.declared.shown.Shown.{Shown}
+use Rattle.ps_gen.specs.Made.{made_input}
 use Rattle.ps_rules.specs.RuleSets.{RuleSet}
 use Rattle.ps_sql.specs.Meaning.{Asker}
 use Rattle.ps_token.specs.KeyFiles.{keys_of_file}
@@ -10,17 +12,21 @@ use Rattle.ps_token.specs.KeyLists.{key_of}
 use Rattle.ps_token.specs.Tokens.{signed_token}
 use Rattle.ps_token.specs.declared.key_lists.Key.{Key}
 use Rattle.ps_token.specs.declared.faults.KeysFault.{KeysFault}
+use Rattle.ps_values.specs.Numbers.{decimal_of}
 use Rattle.ps_commands.specs.declared.faults.Fault.{Fault}
-use Rattle.ps_commands.specs.declared.faults.Fault.TheVariants.{Usage, Rules, Change, LongLine, Claims, Keys, TooLong, CannotRead, CannotWrite, Memory}
+use Rattle.ps_commands.specs.declared.faults.Fault.TheVariants.{Usage, Rules, Change, PastLimit, TooManyBuckets, Claims, Keys, TooLong, CannotRead, CannotWrite, Memory}
+use Rattle.ps_commands.specs.declared.faults.Limit.{Limit}
+use Rattle.ps_commands.specs.declared.faults.Limit.TheVariants.{LineBytes, Entries, Operations}
 use Rattle.ps_commands.specs.declared.faults.LineFault.{LineFault}
 use Rattle.ps_commands.specs.declared.faults.LineFault.TheVariants.{BadJson, BadShape, BadPosition, BadValue, NotRising}
 use Rattle.ps_commands.specs.ChangeFiles.{transactions_of}
 use Rattle.ps_store.specs.Laws.{last_position}
+use Rattle.ps_store.specs.Limits.{usual_limits}
 use Rattle.ps_commands.specs.Checking.{check_text}
 use Rattle.ps_commands.specs.Claims.{asker_of_claims}
-use Rattle.ps_commands.specs.Dues.{due}
+use Rattle.ps_commands.specs.Dues.{due, own_buckets, rows_after}
 use Rattle.ps_commands.specs.RulesFaults.{rules_of_file, cause_text}
-use Rattle.ps_commands.specs.Texts.{rows_text}
+use Rattle.ps_commands.specs.Texts.{rows_text, lines_text}
 
 -- ---- words
 
@@ -41,13 +47,24 @@ pub data Command : Type 0 where
   check : List ℕ → Command
   rows : Names → Command
   token : Signing → Command
+  generate_lines : ℕ → Command
 
--- the words `check RULES`, `rows RULES CHANGES CLAIMS` or `token KEYS KID CLAIMS`, and no others
+-- how many transactions are to be made: a number from 1 to 100,000
+abbrev pub made_limit : ℕ
+made_limit = 100000
+
+abbrev pub may_make : ℕ → Option ℕ
+may_make n = if nat_le 1 n && nat_le n made_limit then Some n else None
+
+abbrev pub count_of : List ℕ → Option ℕ
+count_of word = option_and_then may_make (decimal_of word)
+
+-- the words `check RULES`, `rows RULES CHANGES CLAIMS`, `token KEYS KID CLAIMS` or `generate N lines`, and no others
 abbrev pub command_of : List (List ℕ) → Option Command
 command_of [] = None
 command_of (w ∷ []) = None
 command_of (w ∷ a ∷ []) = if bytes_eq w (codes "check") then Some (check a) else None
-command_of (w ∷ a ∷ b ∷ []) = None
+command_of (w ∷ a ∷ b ∷ []) = if bytes_eq w (codes "generate") && bytes_eq b (codes "lines") then option_map generate_lines (count_of a) else None
 command_of (w ∷ a ∷ b ∷ c ∷ []) =
     if bytes_eq w (codes "rows") then Some (rows (record { rules = a; changes = b; claims = c })) else
     if bytes_eq w (codes "token") then Some (token (record { keys = a; kid = b; claims = c })) else None
@@ -83,11 +100,11 @@ pub record ReadsAsker (held : Option Contents) (name : List ℕ) (asker : Asker)
   pub file : HoldsWithin held name file_limit bytes
   pub read : asker_of_claims bytes ≡ Some asker
 
--- a change file is read as those transactions
-pub record ReadsChanges (held : Option Contents) (name : List ℕ) (transactions : List Transaction) : Type 0 where
+-- a change file is read as those transactions, each of which the rules write within the limits
+pub record ReadsChanges (held : Option Contents) (name : List ℕ) (rules : RuleSet) (transactions : List Transaction) : Type 0 where
   pub bytes : List ℕ
   pub file : HoldsWithin held name file_limit bytes
-  pub read : transactions_of bytes ≡ Ok transactions
+  pub read : transactions_of rules bytes ≡ Ok transactions
 
 -- the key of a kid in a key file: none where the file is not of its form, or where no key has that kid
 abbrev pub key_among : List ℕ → Result (List Key) KeysFault → Option Key
@@ -111,14 +128,16 @@ pub record MeansCheck (held : Option Contents) (name text : List ℕ) : Type 0 w
   pub rules_read : ReadsRules held name rules
   pub is : text ≡ check_text rules
 
--- `rows`: the printed rows that are due to the asker over all transactions of the change file at the last position
+-- `rows`: the printed rows that are due to the asker over all transactions of the change file at the last position, where the asker has no
+-- more buckets than an asker may have
 pub record MeansRows (held : Option Contents) (names : Names) (text : List ℕ) : Type 0 where
   pub rules : RuleSet
   pub asker : Asker
   pub transactions : List Transaction
   pub rules_read : ReadsRules held names.rules rules
   pub claims_read : ReadsAsker held names.claims asker
-  pub changes_read : ReadsChanges held names.changes transactions
+  pub changes_read : ReadsChanges held names.changes rules transactions
+  pub within : length (own_buckets rules asker transactions) ≤ usual_limits.buckets
   pub is : text ≡ rows_text (due rules asker transactions (last_position 0 transactions))
 
 -- the token of an asker's payload, signed with a key, and a line feed
@@ -138,6 +157,7 @@ abbrev pub Means : Option Contents → Command → List ℕ → Type 0
 Means held (check name) text = MeansCheck held name text
 Means held (rows names) text = MeansRows held names text
 Means held (token names) text = MeansToken held names text
+Means held (generate_lines count) text = text ≡ lines_text (made_input count)
 
 -- the output took exactly what the command prints
 pub record Prints (held : Option Contents) (words : List (List ℕ)) (old new : Option (List ℕ)) : Type 0 where
@@ -191,6 +211,7 @@ ComesTo held (token names) for_rules name = ⊥
 ComesTo held (token names) for_keys name = name ≡ names.keys
 ComesTo held (token names) for_claims name = (name ≡ names.claims) × (key : Key) × ReadsKey held names.keys names.kid key
 ComesTo held (token names) for_changes name = ⊥
+ComesTo held (generate_lines count) role name = ⊥
 
 -- the words are a command, and a file of it comes next in that role: those before it, in order, are read
 pub record Reaches (held : Option Contents) (words : List (List ℕ)) (role : Role) (name : List ℕ) : Type 0 where
@@ -226,11 +247,22 @@ pub record RefusesClaims (held : Option Contents) (words : List (List ℕ)) : Ty
 
 -- rules and claims are read, and that is the fault of the first line of the change file that is refused
 pub record RefusesChanges (held : Option Contents) (words : List (List ℕ)) (fault : Fault) : Type 0 where
-  pub name : List ℕ
-  pub reached : Reaches held words for_changes name
+  pub names : Names
+  pub is : command_of words ≡ Some (rows names)
+  pub before : ReadsRulesAndClaims held names
   pub bytes : List ℕ
-  pub file : HoldsWithin held name file_limit bytes
-  pub refused : transactions_of bytes ≡ Err fault
+  pub file : HoldsWithin held names.changes file_limit bytes
+  pub refused : transactions_of before.rules bytes ≡ Err fault
+
+-- rules, claims and changes are read, and the asker has so many buckets, more than an asker may have
+pub record HasTooManyBuckets (held : Option Contents) (words : List (List ℕ)) (count : ℕ) : Type 0 where
+  pub names : Names
+  pub is : command_of words ≡ Some (rows names)
+  pub before : ReadsRulesAndClaims held names
+  pub transactions : List Transaction
+  pub changes_read : ReadsChanges held names.changes before.rules transactions
+  pub count_is : count ≡ length (own_buckets before.rules before.asker transactions)
+  pub more : usual_limits.buckets < count
 
 -- a file is longer than its limit, and those before it are read
 pub record ExceedsFile (held : Option Contents) (words : List (List ℕ)) (seen : ℕ) : Type 0 where
@@ -240,9 +272,9 @@ pub record ExceedsFile (held : Option Contents) (words : List (List ℕ)) (seen 
   pub more : limit_of role < seen
   pub file : HoldsMore held name (limit_of role)
 
--- a file is longer than its limit, or the first line of the change file that is refused is
-abbrev pub ExceedsLimit : Option Contents → List (List ℕ) → ℕ → Type 0
-ExceedsLimit held words seen = ExceedsFile held words seen ⊎ RefusesChanges held words (LongLine seen)
+-- a file is longer than its limit, or the first line of the change file that is refused passes one, or the asker has too many buckets
+abbrev pub ExceedsLimit : Option Contents → List (List ℕ) → Type 0
+ExceedsLimit held words = ((seen : ℕ) × ExceedsFile held words seen) ⊎ ((limit : Limit) × RefusesChanges held words (PastLimit limit)) ⊎ ((count : ℕ) × HasTooManyBuckets held words count)
 
 -- that is a file of the command, and those before it, in order, are read
 pub record IsNext (held : Option Contents) (words : List (List ℕ)) (name : List ℕ) : Type 0 where
@@ -269,7 +301,8 @@ abbrev pub Caused : Outside → List (List ℕ) → Fault → Type 0
 Caused o words Usage = Kept o × (command_of words ≡ None)
 Caused o words (Rules line column why) = Kept o × RefusesRules o.held words (Rules line column why)
 Caused o words (Change line why) = Kept o × RefusesChanges o.held words (Change line why)
-Caused o words (LongLine length) = Kept o × RefusesChanges o.held words (LongLine length)
+Caused o words (PastLimit limit) = Kept o × RefusesChanges o.held words (PastLimit limit)
+Caused o words (TooManyBuckets count) = Kept o × HasTooManyBuckets o.held words count
 Caused o words Claims = Kept o × RefusesClaims o.held words
 Caused o words Keys = Kept o × RefusesKeys o.held words
 Caused o words (TooLong seen) = Kept o × ExceedsFile o.held words seen
@@ -287,7 +320,8 @@ abbrev pub status_of : Fault → ℕ
 status_of Usage = 1
 status_of (Rules line column why) = 2
 status_of (Change line why) = 3
-status_of (LongLine length) = 5
+status_of (PastLimit limit) = 5
+status_of (TooManyBuckets count) = 5
 status_of Claims = 4
 status_of Keys = 4
 status_of (TooLong seen) = 5
@@ -302,11 +336,17 @@ line_fault_text BadPosition = codes "bad-position"
 line_fault_text BadValue = codes "bad-value"
 line_fault_text (NotRising last given) = codes "not-rising " ++ decimal last ++ codes " " ++ decimal given
 
+abbrev pub limit_text : Limit → List ℕ
+limit_text (LineBytes length) = codes "line-bytes " ++ decimal length
+limit_text (Entries count) = codes "entries " ++ decimal count
+limit_text (Operations last) = codes "operations " ++ decimal last
+
 abbrev pub fault_text : Fault → List ℕ
 fault_text Usage = codes "usage"
 fault_text (Rules line column why) = codes "rules " ++ decimal line ++ codes ":" ++ decimal column ++ codes " " ++ cause_text why
 fault_text (Change line why) = codes "change " ++ decimal line ++ codes " " ++ line_fault_text why
-fault_text (LongLine length) = codes "limit line-bytes " ++ decimal length
+fault_text (PastLimit limit) = codes "limit " ++ limit_text limit
+fault_text (TooManyBuckets count) = codes "limit buckets " ++ decimal count
 fault_text Claims = codes "claims"
 fault_text Keys = codes "keys"
 fault_text (TooLong seen) = codes "limit file-bytes " ++ decimal seen
@@ -359,8 +399,11 @@ key_meant held name kid = within_limit file_limit (held name) >>= λ bytes. or_n
 abbrev pub asker_meant : Contents → List ℕ → Result Asker Refusal
 asker_meant held name = within_limit file_limit (held name) >>= λ bytes. or_none Claims (asker_of_claims bytes)
 
-abbrev pub transactions_meant : Contents → List ℕ → Result (List Transaction) Refusal
-transactions_meant held name = within_limit file_limit (held name) >>= λ bytes. or_refused (transactions_of bytes)
+abbrev pub transactions_meant : Contents → RuleSet → List ℕ → Result (List Transaction) Refusal
+transactions_meant held rules name = within_limit file_limit (held name) >>= λ bytes. or_refused (transactions_of rules bytes)
+
+abbrev pub rows_meant : RuleSet → Asker → List Transaction → Result (List Shown) Refusal
+rows_meant rules asker transactions = or_refused (rows_after rules asker transactions)
 
 -- what a command prints over its files, or the first refusal: rules before claims before changes, and keys before claims
 abbrev pub meaning : Contents → Command → Result (List ℕ) Refusal
@@ -370,12 +413,14 @@ meaning held (check name) = do
 meaning held (rows names) = do
   rules ← rules_meant held names.rules
   asker ← asker_meant held names.claims
-  transactions ← transactions_meant held names.changes
-  Ok (rows_text (due rules asker transactions (last_position 0 transactions)))
+  transactions ← transactions_meant held rules names.changes
+  shown ← rows_meant rules asker transactions
+  Ok (rows_text shown)
 meaning held (token names) = do
   key ← key_meant held names.keys names.kid
   asker ← asker_meant held names.claims
   Ok (token_text key names.kid asker)
+meaning held (generate_lines count) = Ok (lines_text (made_input count))
 
 abbrev pub refusal_status : Refusal → ℕ
 refusal_status missing = 8
@@ -387,7 +432,7 @@ abbrev pub IsAnswer : Result (List ℕ) Refusal → Option (List ℕ) → Option
 IsAnswer (Ok text) old new status = ((status ≡ 0) × Gains old new text) ⊎ ((status ≡ 8) × (new ≡ old))
 IsAnswer (Err refusal) old new status = ((status ≡ refusal_status refusal) × (new ≡ old)) ⊎ ((status ≡ 8) × (new ≡ old))
 
--- where files tell what they hold
+-- where files tell what they hold, or none is read
 abbrev pub IsExact : Option Contents → List (List ℕ) → Option (List ℕ) → Option (List ℕ) → ℕ → Type 0
-IsExact None words old new status = Unit {0}
+IsExact None words old new status = (count : ℕ) → command_of words ≡ Some (generate_lines count) → IsAnswer (Ok (lines_text (made_input count))) old new status
 IsExact (Some held) words old new status = (command : Command) → command_of words ≡ Some command → IsAnswer (meaning held command) old new status

@@ -1,11 +1,28 @@
 -- The rows that are due to an asker.
-use Rattle.std.specs.Prelude.{ℕ, List}
+use Rattle.std.specs.Prelude.{ℕ, nat_lt, if◌then◌else◌, List, length, Result, Ok, Err}
 use Rattle.ps_changes.specs.declared.changes.Transaction.{Transaction}
 use Rattle.ps_changes.specs.declared.shown.Shown.{Shown}
+use Rattle.ps_changes.specs.Source.{source_at}
 use Rattle.ps_grant.specs.Latest.{due as due_by}
+use Rattle.ps_grant.specs.Sources.{rows_in}
+use Rattle.ps_params.specs.Names.{bucket_names}
 use Rattle.ps_rules.specs.RuleSets.{RuleSet}
 use Rattle.ps_sql.specs.Meaning.{Asker}
+use Rattle.ps_store.specs.Laws.{last_position}
+use Rattle.ps_store.specs.Limits.{usual_limits}
+use Rattle.ps_commands.specs.declared.faults.Fault.{Fault}
+use Rattle.ps_commands.specs.declared.faults.Fault.TheVariants.{TooManyBuckets}
 
 -- of each object that the rules grant the asker over the source at a position, the data of its latest copy, in the order of type and id
 abbrev pub due : RuleSet → Asker → List Transaction → ℕ → List Shown
 due rules asker transactions position = due_by rules.definitions asker transactions position
+
+-- the names of the asker's buckets over the source at the position of the last transaction
+abbrev pub own_buckets : RuleSet → Asker → List Transaction → List (List ℕ)
+own_buckets rules asker transactions = bucket_names rules.definitions asker (rows_in (source_at transactions (last_position 0 transactions)))
+
+-- the rows that are due to an asker after all of transactions; who has more buckets than an asker may have is refused
+abbrev pub rows_after : RuleSet → Asker → List Transaction → Result (List Shown) Fault
+rows_after rules asker transactions =
+    if nat_lt usual_limits.buckets (length (own_buckets rules asker transactions)) then Err (TooManyBuckets (length (own_buckets rules asker transactions)))
+    else Ok (due rules asker transactions (last_position 0 transactions))

@@ -1,12 +1,12 @@
 pub mod ChangeFiles
 pub mod Checking
+pub mod CheckpointBuckets
 pub mod Claims
 pub mod Clients
 pub mod Commands
 pub mod Dues
 pub mod Loading
 pub mod ReadingChanges
-pub mod Replicated
 pub mod RulesFaults
 pub mod Saying
 pub mod Sessions

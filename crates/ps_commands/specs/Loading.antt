@@ -1,11 +1,11 @@
 -- Loading what a file means.
-use Rattle.std.specs.Prelude.{◌≡◌, ℕ, ◌<◌, ◌++◌, codes, List, Option, Some, None, Result, Ok, Err, Vec}
+use Rattle.std.specs.Prelude.{◌≡◌, ℕ, ◌<◌, ◌≤◌, ◌++◌, codes, length, List, Option, Some, None, Result, Ok, Err, Vec}
 use Rattle.std.specs.declared.alloc.Global.{Global}
 use Rattle.ps_io.specs.Contents.{Contents, HoldsMore}
 use Rattle.ps_io.specs.Counts.{Rose}
 use Rattle.ps_changes.specs.declared.changes.Transaction.{Transaction}
 use Rattle.ps_commands.specs.declared.faults.Fault.{Fault}
-use Rattle.ps_commands.specs.declared.faults.Fault.TheVariants.{Usage, Rules, Change, LongLine, Claims, Keys, TooLong, CannotRead, CannotWrite, Memory}
+use Rattle.ps_commands.specs.declared.faults.Fault.TheVariants.{Usage, Rules, Change, PastLimit, TooManyBuckets, Claims, Keys, TooLong, CannotRead, CannotWrite, Memory}
 use Rattle.ps_rules.specs.RuleSets.{RuleSet}
 use Rattle.ps_sql_eval.specs.declared.askers.Asker.{Asker}
 use Rattle.ps_sql_eval.specs.Evaluated.{asker_of}
@@ -17,9 +17,10 @@ use Rattle.ps_token.specs.declared.faults.SignFault.TheVariants.{UnknownKey}
 use Rattle.ps_token.specs.declared.faults.SignFault.TheVariants as sign
 use Rattle.ps_commands.specs.ChangeFiles.{transactions_of}
 use Rattle.ps_store.specs.Laws.{last_position}
+use Rattle.ps_store.specs.Limits.{usual_limits}
 use Rattle.ps_commands.specs.Claims.{asker_of_claims}
 use Rattle.ps_commands.specs.Commands.{HoldsWithin, key_of_file}
-use Rattle.ps_commands.specs.Dues.{due}
+use Rattle.ps_commands.specs.Dues.{due, own_buckets}
 use Rattle.ps_commands.specs.RulesFaults.{rules_of_file}
 use Rattle.ps_commands.specs.Texts.{rows_text}
 
@@ -29,7 +30,8 @@ Loads held name limit before now Finds Refuses (Ok x) = (bytes : List ℕ) × Ho
 Loads held name limit before now Finds Refuses (Err Usage) = ⊥
 Loads held name limit before now Finds Refuses (Err (Rules line column why)) = (bytes : List ℕ) × HoldsWithin held name limit bytes × Refuses (Rules line column why) bytes
 Loads held name limit before now Finds Refuses (Err (Change line why)) = (bytes : List ℕ) × HoldsWithin held name limit bytes × Refuses (Change line why) bytes
-Loads held name limit before now Finds Refuses (Err (LongLine length)) = (bytes : List ℕ) × HoldsWithin held name limit bytes × Refuses (LongLine length) bytes
+Loads held name limit before now Finds Refuses (Err (PastLimit passed)) = (bytes : List ℕ) × HoldsWithin held name limit bytes × Refuses (PastLimit passed) bytes
+Loads held name limit before now Finds Refuses (Err (TooManyBuckets count)) = (bytes : List ℕ) × HoldsWithin held name limit bytes × Refuses (TooManyBuckets count) bytes
 Loads held name limit before now Finds Refuses (Err Claims) = (bytes : List ℕ) × HoldsWithin held name limit bytes × Refuses Claims bytes
 Loads held name limit before now Finds Refuses (Err Keys) = (bytes : List ℕ) × HoldsWithin held name limit bytes × Refuses Keys bytes
 Loads held name limit before now Finds Refuses (Err (TooLong seen)) = (limit < seen) × HoldsMore held name limit
@@ -52,7 +54,8 @@ abbrev pub IsRulesFault : Fault → List ℕ → Type 0
 IsRulesFault (Rules line column why) bytes = rules_of_file bytes ≡ Err (Rules line column why)
 IsRulesFault Usage bytes = ⊥
 IsRulesFault (Change line why) bytes = ⊥
-IsRulesFault (LongLine length) bytes = ⊥
+IsRulesFault (PastLimit limit) bytes = ⊥
+IsRulesFault (TooManyBuckets count) bytes = ⊥
 IsRulesFault Claims bytes = ⊥
 IsRulesFault Keys bytes = ⊥
 IsRulesFault (TooLong seen) bytes = ⊥
@@ -69,7 +72,8 @@ IsKeysFault kid Keys bytes = key_of_file kid bytes ≡ None
 IsKeysFault kid Usage bytes = ⊥
 IsKeysFault kid (Rules line column why) bytes = ⊥
 IsKeysFault kid (Change line why) bytes = ⊥
-IsKeysFault kid (LongLine length) bytes = ⊥
+IsKeysFault kid (PastLimit limit) bytes = ⊥
+IsKeysFault kid (TooManyBuckets count) bytes = ⊥
 IsKeysFault kid Claims bytes = ⊥
 IsKeysFault kid (TooLong seen) bytes = ⊥
 IsKeysFault kid (CannotRead name) bytes = ⊥
@@ -84,7 +88,8 @@ ChoosesKey kid bytes (Err Keys) = IsKeysFault kid Keys bytes
 ChoosesKey kid bytes (Err Usage) = ⊥
 ChoosesKey kid bytes (Err (Rules line column why)) = ⊥
 ChoosesKey kid bytes (Err (Change line why)) = ⊥
-ChoosesKey kid bytes (Err (LongLine length)) = ⊥
+ChoosesKey kid bytes (Err (PastLimit limit)) = ⊥
+ChoosesKey kid bytes (Err (TooManyBuckets count)) = ⊥
 ChoosesKey kid bytes (Err Claims) = ⊥
 ChoosesKey kid bytes (Err (TooLong seen)) = ⊥
 ChoosesKey kid bytes (Err (CannotRead name)) = ⊥
@@ -105,7 +110,8 @@ IsClaimsFault Claims bytes = asker_of_claims bytes ≡ None
 IsClaimsFault Usage bytes = ⊥
 IsClaimsFault (Rules line column why) bytes = ⊥
 IsClaimsFault (Change line why) bytes = ⊥
-IsClaimsFault (LongLine length) bytes = ⊥
+IsClaimsFault (PastLimit limit) bytes = ⊥
+IsClaimsFault (TooManyBuckets count) bytes = ⊥
 IsClaimsFault Keys bytes = ⊥
 IsClaimsFault (TooLong seen) bytes = ⊥
 IsClaimsFault (CannotRead name) bytes = ⊥
@@ -113,27 +119,39 @@ IsClaimsFault CannotWrite bytes = ⊥
 IsClaimsFault Memory bytes = ⊥
 
 -- the printed rows of a change file that are due to an asker
-abbrev pub FindsRows : RuleSet → Asker → Vec ℕ Global → List ℕ → Type 0
-FindsRows rules asker text bytes = (transactions : List Transaction) × (transactions_of bytes ≡ Ok transactions) × (text.items ≡ rows_text (due rules (asker_of asker) transactions (last_position 0 transactions)))
+pub record FindsRows (rules : RuleSet) (asker : Asker) (text : Vec ℕ Global) (bytes : List ℕ) : Type 0 where
+  pub transactions : List Transaction
+  pub read : transactions_of rules bytes ≡ Ok transactions
+  pub within : length (own_buckets rules (asker_of asker) transactions) ≤ usual_limits.buckets
+  pub is : text.items ≡ rows_text (due rules (asker_of asker) transactions (last_position 0 transactions))
 
-abbrev pub RefusesLine : Fault → List ℕ → Type 0
-RefusesLine (Change line why) bytes = transactions_of bytes ≡ Err (Change line why)
-RefusesLine (LongLine length) bytes = transactions_of bytes ≡ Err (LongLine length)
-RefusesLine Usage bytes = ⊥
-RefusesLine (Rules line column why) bytes = ⊥
-RefusesLine Claims bytes = ⊥
-RefusesLine Keys bytes = ⊥
-RefusesLine (TooLong seen) bytes = ⊥
-RefusesLine (CannotRead name) bytes = ⊥
-RefusesLine CannotWrite bytes = ⊥
-RefusesLine Memory bytes = ⊥
+-- all lines are taken, and the asker has so many buckets, more than an asker may have
+pub record HasMore (rules : RuleSet) (asker : Asker) (count : ℕ) (bytes : List ℕ) : Type 0 where
+  pub transactions : List Transaction
+  pub read : transactions_of rules bytes ≡ Ok transactions
+  pub count_is : count ≡ length (own_buckets rules (asker_of asker) transactions)
+  pub more : usual_limits.buckets < count
+
+abbrev pub RefusesRows : RuleSet → Asker → Fault → List ℕ → Type 0
+RefusesRows rules asker (Change line why) bytes = transactions_of rules bytes ≡ Err (Change line why)
+RefusesRows rules asker (PastLimit limit) bytes = transactions_of rules bytes ≡ Err (PastLimit limit)
+RefusesRows rules asker (TooManyBuckets count) bytes = HasMore rules asker count bytes
+RefusesRows rules asker Usage bytes = ⊥
+RefusesRows rules asker (Rules line column why) bytes = ⊥
+RefusesRows rules asker Claims bytes = ⊥
+RefusesRows rules asker Keys bytes = ⊥
+RefusesRows rules asker (TooLong seen) bytes = ⊥
+RefusesRows rules asker (CannotRead name) bytes = ⊥
+RefusesRows rules asker CannotWrite bytes = ⊥
+RefusesRows rules asker Memory bytes = ⊥
 
 -- the same, of bytes that were read
 abbrev pub Prepares : RuleSet → Asker → List ℕ → Result (Vec ℕ Global) Fault → Type 0
 Prepares rules asker bytes (Ok text) = FindsRows rules asker text bytes
 Prepares rules asker bytes (Err Memory) = Unit {0}
-Prepares rules asker bytes (Err (Change line why)) = RefusesLine (Change line why) bytes
-Prepares rules asker bytes (Err (LongLine length)) = RefusesLine (LongLine length) bytes
+Prepares rules asker bytes (Err (Change line why)) = RefusesRows rules asker (Change line why) bytes
+Prepares rules asker bytes (Err (PastLimit limit)) = RefusesRows rules asker (PastLimit limit) bytes
+Prepares rules asker bytes (Err (TooManyBuckets count)) = RefusesRows rules asker (TooManyBuckets count) bytes
 Prepares rules asker bytes (Err Usage) = ⊥
 Prepares rules asker bytes (Err (Rules line column why)) = ⊥
 Prepares rules asker bytes (Err Claims) = ⊥

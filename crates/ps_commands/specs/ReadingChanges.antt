@@ -1,17 +1,114 @@
--- Writing a change file into buckets, line by line.
-use Rattle.std.specs.Prelude.{◌≡◌, ℕ, ◌+◌, ◌≤◌, List, [], Option, Some, None, Result, Ok, Err, ◌++◌, length}
+-- Writing a change file into a store, line by line.
+use Rattle.std.specs.Prelude.{◌≡◌, ℕ, ◌+◌, ◌-◌, ◌<◌, ◌≤◌, Bool, false, List, [], ◌∷◌, Option, Some, None, Result, Ok, Err, ◌++◌, length, take}
 use Rattle.std.specs.Borrow.{Bor}
 use Rattle.ps_changes.specs.declared.changes.Transaction.{Transaction}
 use Rattle.ps_rules.specs.RuleSets.{RuleSet}
-use Rattle.ps_store.specs.declared.replicas.Replica.{Replica}
-use Rattle.ps_store.specs.Laws.{last_position, Rises}
-use Rattle.ps_store.specs.Logs.{AreLogs}
-use Rattle.ps_store.specs.Originals.{timed}
-use Rattle.ps_store.specs.Replicas.{Holds, IsReady}
-use Rattle.ps_commands.specs.declared.change_files.Written.{Written}
+use Rattle.ps_store.specs.declared.events.Event.{Event}
+use Rattle.ps_store.specs.declared.fixed.Fixed.{Fixed}
+use Rattle.ps_store.specs.declared.stores.Store.{Store}
+use Rattle.ps_store.specs.Laws.{last_position}
+use Rattle.ps_store.specs.Ledgers.{Ledger, timed_of, unwritten, ledger_of}
+use Rattle.ps_store.specs.Limits.{usual_limits}
+use Rattle.ps_store.specs.Originals.{timed, in_bucket}
+use Rattle.ps_store.specs.Stores.{StoreStandsFor}
 use Rattle.ps_commands.specs.declared.faults.Fault.{Fault}
-use Rattle.ps_commands.specs.declared.faults.Fault.TheVariants.{Usage, Rules, Change, LongLine, Claims, Keys, TooLong, CannotRead, CannotWrite, Memory}
-use Rattle.ps_commands.specs.ChangeFiles.{lines_of, transactions_of, transactions_from}
+use Rattle.ps_commands.specs.declared.faults.Fault.TheVariants.{Usage, Rules, Change, PastLimit, TooManyBuckets, Claims, Keys, TooLong, CannotRead, CannotWrite, Memory}
+use Rattle.ps_commands.specs.declared.faults.Limit.{Limit}
+use Rattle.ps_commands.specs.ChangeFiles.{lines_of, transactions_of, transactions_from, first_passed, accepted}
+
+-- ---- a store that transactions are written into
+
+-- no bucket is compacted: each log has all original operations of its bucket
+abbrev pub IsPlain : Ledger → Type 0
+IsPlain l = (bucket : List ℕ) → l.log bucket ≡ in_bucket bucket l.entered
+
+-- rules under the usual limits
+abbrev pub usual : RuleSet → Fixed
+usual rules = record { rules = rules; limits = usual_limits }
+
+-- the transactions are fed, so many of their changes are not written, and the first of these that passes a limit passes this one
+pub record IsPending (rules : RuleSet) (transactions : List Transaction) (left : ℕ) (passed : Option Limit) (store : Store) : Type 0 where
+  pub history : List Event
+  pub stands : StoreStandsFor (usual rules) store history
+  pub fed : (ledger_of rules history).fed ≡ transactions
+  pub feed_open : (ledger_of rules history).closed ≡ false
+  pub plain : IsPlain (ledger_of rules history)
+  pub left_are : length (unwritten (ledger_of rules history)) ≡ left
+  pub passed_is : first_passed rules.definitions (take (ledger_of rules history).written (timed (ledger_of rules history).fed)) (unwritten (ledger_of rules history)) ≡ passed
+
+-- the transactions are fed, all of their changes are written, and the last position is the checkpoint's
+pub record HasCommitted (rules : RuleSet) (transactions : List Transaction) (store : Store) : Type 0 where
+  pub history : List Event
+  pub stands : StoreStandsFor (usual rules) store history
+  pub fed : (ledger_of rules history).fed ≡ transactions
+  pub feed_open : (ledger_of rules history).closed ≡ false
+  pub plain : IsPlain (ledger_of rules history)
+  pub written : (ledger_of rules history).written ≡ length (timed transactions)
+  pub position : (ledger_of rules history).position ≡ last_position 0 transactions
+
+-- ---- calls
+
+-- some of the pending changes were written, or the next one passes a limit
+abbrev pub WritesSome : RuleSet → List Transaction → ℕ → Option Limit → Store → Result ℕ Fault → Type 0
+WritesSome rules transactions left passed new (Ok count) = (1 ≤ count) × (count ≤ left) × IsPending rules transactions (left - count) passed new
+WritesSome rules transactions left passed new (Err Usage) = ⊥
+WritesSome rules transactions left passed new (Err (Rules line column why)) = ⊥
+WritesSome rules transactions left passed new (Err (Change line why)) = ⊥
+WritesSome rules transactions left passed new (Err (PastLimit limit)) = passed ≡ Some limit
+WritesSome rules transactions left passed new (Err (TooManyBuckets count)) = ⊥
+WritesSome rules transactions left passed new (Err Claims) = ⊥
+WritesSome rules transactions left passed new (Err Keys) = ⊥
+WritesSome rules transactions left passed new (Err (TooLong seen)) = ⊥
+WritesSome rules transactions left passed new (Err (CannotRead name)) = ⊥
+WritesSome rules transactions left passed new (Err CannotWrite) = ⊥
+WritesSome rules transactions left passed new (Err Memory) = Unit {0}
+
+-- all pending changes were written, or one of them passes a limit
+abbrev pub WritesAll : RuleSet → List Transaction → Option Limit → Store → Result (Unit {0}) Fault → Type 0
+WritesAll rules transactions passed new (Ok done) = IsPending rules transactions 0 passed new
+WritesAll rules transactions passed new (Err Usage) = ⊥
+WritesAll rules transactions passed new (Err (Rules line column why)) = ⊥
+WritesAll rules transactions passed new (Err (Change line why)) = ⊥
+WritesAll rules transactions passed new (Err (PastLimit limit)) = passed ≡ Some limit
+WritesAll rules transactions passed new (Err (TooManyBuckets count)) = ⊥
+WritesAll rules transactions passed new (Err Claims) = ⊥
+WritesAll rules transactions passed new (Err Keys) = ⊥
+WritesAll rules transactions passed new (Err (TooLong seen)) = ⊥
+WritesAll rules transactions passed new (Err (CannotRead name)) = ⊥
+WritesAll rules transactions passed new (Err CannotWrite) = ⊥
+WritesAll rules transactions passed new (Err Memory) = Unit {0}
+
+-- a line's transaction was written and committed, or the line is refused
+abbrev pub TakesLine : RuleSet → List Transaction → Result Transaction Fault → Store → Result (Unit {0}) Fault → Type 0
+TakesLine rules done meant new (Ok taken) = (t : Transaction) × (meant ≡ Ok t) × HasCommitted rules (done ++ t ∷ []) new
+TakesLine rules done meant new (Err Usage) = ⊥
+TakesLine rules done meant new (Err (Rules line column why)) = ⊥
+TakesLine rules done meant new (Err (Change line why)) = meant ≡ Err (Change line why)
+TakesLine rules done meant new (Err (PastLimit limit)) = meant ≡ Err (PastLimit limit)
+TakesLine rules done meant new (Err (TooManyBuckets count)) = ⊥
+TakesLine rules done meant new (Err Claims) = ⊥
+TakesLine rules done meant new (Err Keys) = ⊥
+TakesLine rules done meant new (Err (TooLong seen)) = ⊥
+TakesLine rules done meant new (Err (CannotRead name)) = ⊥
+TakesLine rules done meant new (Err CannotWrite) = ⊥
+TakesLine rules done meant new (Err Memory) = Unit {0}
+
+-- a line is read as it is meant
+abbrev pub ReadsRising : Result Transaction Fault → Result Transaction Fault → Type 0
+ReadsRising (Ok transaction) meant = meant ≡ Ok transaction
+ReadsRising (Err Usage) meant = ⊥
+ReadsRising (Err (Rules line column why)) meant = ⊥
+ReadsRising (Err (Change line why)) meant = meant ≡ Err (Change line why)
+ReadsRising (Err (PastLimit limit)) meant = meant ≡ Err (PastLimit limit)
+ReadsRising (Err (TooManyBuckets count)) meant = ⊥
+ReadsRising (Err Claims) meant = ⊥
+ReadsRising (Err Keys) meant = ⊥
+ReadsRising (Err (TooLong seen)) meant = ⊥
+ReadsRising (Err (CannotRead name)) meant = ⊥
+ReadsRising (Err CannotWrite) meant = ⊥
+ReadsRising (Err Memory) meant = Unit {0}
+
+-- ---- a file
 
 -- the lines of what is left of a file
 abbrev pub lines_left : Option (Bor (List ℕ)) → List (List ℕ)
@@ -23,52 +120,21 @@ abbrev pub bytes_left : Option (Bor (List ℕ)) → ℕ
 bytes_left None = 0
 bytes_left (Some bytes) = length bytes.now + 1
 
--- the transactions before what is left
-abbrev pub before_left : List Transaction → Result (List Transaction) Fault → Result (List Transaction) Fault
-before_left done (Ok left) = Ok (done ++ left)
-before_left done (Err fault) = Err fault
-
--- so far, lines before a number gave these transactions up to a position
-pub record HasRead (bytes : List ℕ) (number last : ℕ) (rest : Option (Bor (List ℕ))) (done : List Transaction) : Type 0 where
-  pub meaning : transactions_of bytes ≡ before_left done (transactions_from (number + 1) last (lines_left rest))
+-- so far, the lines before a number gave transactions, which are committed
+pub record HasWritten (rules : RuleSet) (bytes : List ℕ) (number : ℕ) (rest : Option (Bor (List ℕ))) (store : Store) : Type 0 where
+  pub done : List Transaction
+  pub committed : HasCommitted rules done store
+  pub meaning : transactions_of rules bytes ≡ transactions_from rules.definitions done (number + 1) (lines_left rest)
   pub counted : number + bytes_left rest ≤ length bytes + 1
 
--- a line is read as it is meant
-abbrev pub ReadsRising : Result Transaction Fault → Result Transaction Fault → Type 0
-ReadsRising (Ok transaction) meant = meant ≡ Ok transaction
-ReadsRising (Err Usage) meant = ⊥
-ReadsRising (Err (Rules line column why)) meant = ⊥
-ReadsRising (Err (Change line why)) meant = meant ≡ Err (Change line why)
-ReadsRising (Err (LongLine length)) meant = meant ≡ Err (LongLine length)
-ReadsRising (Err Claims) meant = ⊥
-ReadsRising (Err Keys) meant = ⊥
-ReadsRising (Err (TooLong seen)) meant = ⊥
-ReadsRising (Err (CannotRead name)) meant = ⊥
-ReadsRising (Err CannotWrite) meant = ⊥
-ReadsRising (Err Memory) meant = Unit {0}
-
--- a change file was written: what its transactions wrote, the last of which has that position
-pub record HoldsChanges (rules : RuleSet) (transactions : List Transaction) (written : Written) : Type 0 where
-  pub holds : Holds rules written.replica (timed transactions)
-  pub logs : AreLogs written.replica.logs
-  pub last : written.last.0 ≡ last_position 0 transactions
-  pub rise : Rises 0 transactions
-
--- so far, lines before a number gave transactions up to a position, and these are written
-pub record HasWritten (rules : RuleSet) (bytes : List ℕ) (number last : ℕ) (rest : Option (Bor (List ℕ))) (replica : Replica) : Type 0 where
-  pub done : List Transaction
-  pub read : HasRead bytes number last rest done
-  pub holds : Holds rules replica (timed done)
-  pub ready : IsReady last replica
-  pub last_is : last ≡ last_position 0 done
-
--- writing a change file writes its transactions, or refuses its first line that is refused
-abbrev pub Writes : RuleSet → Result (List Transaction) Fault → Result Written Fault → Type 0
-Writes rules meant (Ok written) = (transactions : List Transaction) × (meant ≡ Ok transactions) × HoldsChanges rules transactions written
+-- writing a change file commits its transactions, or refuses its first line that is refused
+abbrev pub Writes : RuleSet → Result (List Transaction) Fault → Result Store Fault → Type 0
+Writes rules meant (Ok store) = (transactions : List Transaction) × (meant ≡ Ok transactions) × HasCommitted rules transactions store
 Writes rules meant (Err Usage) = ⊥
 Writes rules meant (Err (Rules line column why)) = ⊥
 Writes rules meant (Err (Change line why)) = meant ≡ Err (Change line why)
-Writes rules meant (Err (LongLine length)) = meant ≡ Err (LongLine length)
+Writes rules meant (Err (PastLimit limit)) = meant ≡ Err (PastLimit limit)
+Writes rules meant (Err (TooManyBuckets count)) = ⊥
 Writes rules meant (Err Claims) = ⊥
 Writes rules meant (Err Keys) = ⊥
 Writes rules meant (Err (TooLong seen)) = ⊥

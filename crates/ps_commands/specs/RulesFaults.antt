@@ -9,7 +9,7 @@ use Rattle.ps_rules.specs.declared.faults.RulesFault.TheVariants as rules
 use Rattle.ps_rules.specs.Reading.{rules_in}
 use Rattle.ps_rules.specs.RuleSets.{RuleSet}
 use Rattle.ps_commands.specs.declared.faults.Fault.{Fault}
-use Rattle.ps_commands.specs.declared.faults.Fault.TheVariants.{Usage, Rules, Change, LongLine, Claims, Keys, TooLong, CannotRead, CannotWrite, Memory}
+use Rattle.ps_commands.specs.declared.faults.Fault.TheVariants.{Usage, Rules, Change, PastLimit, TooManyBuckets, Claims, Keys, TooLong, CannotRead, CannotWrite, Memory}
 use Rattle.ps_commands.specs.declared.faults.RulesCause.{RulesCause}
 use Rattle.ps_commands.specs.declared.faults.RulesCause.TheVariants.{YamlIndent, YamlScalar, YamlDuplicateKey, YamlUnsupported, Shape, SqlToken, SqlUnexpected, SqlUnsupported, UnknownParameter, UnmatchedParameter, NoId, TooManyBranches, DuplicateName, MixedOutput}
 
@@ -74,7 +74,8 @@ ReadsRules (Ok rules) meant = meant ≡ Ok rules
 ReadsRules (Err (Rules line column why)) meant = meant ≡ Err (Rules line column why)
 ReadsRules (Err Usage) meant = ⊥
 ReadsRules (Err (Change line why)) meant = ⊥
-ReadsRules (Err (LongLine length)) meant = ⊥
+ReadsRules (Err (PastLimit limit)) meant = ⊥
+ReadsRules (Err (TooManyBuckets count)) meant = ⊥
 ReadsRules (Err Claims) meant = ⊥
 ReadsRules (Err Keys) meant = ⊥
 ReadsRules (Err (TooLong seen)) meant = ⊥

@@ -1,24 +1,22 @@
 ghost use Rattle.std.specs.Prelude.{◌≡◌, ◌≤◌, List, IfOk};
 ghost use Rattle.ps_changes.specs.declared.changes.Transaction.{Transaction};
 ghost use Rattle.ps_client_log.specs.Logs.{kept};
+ghost use Rattle.ps_rules.specs.RuleSets.{RuleSet, AreRules};
 ghost use Rattle.ps_values.specs.Numbers.{greatest};
 ghost use Rattle.ps_sql_eval.specs.Evaluated.{asker_of};
-ghost use Rattle.ps_store.specs.Laws.{last_position};
-ghost use Rattle.ps_commands.specs.Dues.{due};
-ghost use Rattle.ps_commands.specs.ReadingChanges.{HoldsChanges};
-ghost use Rattle.ps_commands.specs.Replicated.{AreRowsOf};
+ghost use Rattle.ps_store.specs.Laws.{HaveNumbers};
+ghost use Rattle.ps_commands.specs.CheckpointBuckets.{AreRowsOf, Answers};
+ghost use Rattle.ps_commands.specs.ReadingChanges.{HasCommitted};
 ghost use Rattle.ps_commands.specs.Sessions.{HoldsLogs, NamesRise, AreWritten};
 
-use crate::buckets::{Bucket, take_buckets};
-use crate::change_files::Written;
+use crate::buckets::{Bucket, read_buckets};
 use crate::checkpoints::Client;
+use crate::faults::Fault;
 use crate::sessions::{new_client, stream_surely};
 use ps_changes::Shown;
 use ps_client_log::SureKeeper;
-use ps_params::notes_of_changes_are_the_source;
-use ps_rules::Rules;
 use ps_sql_eval::Asker;
-use ps_store::{Replica, have_numbers, latest_rows_are_due};
+use ps_store::{Store, TakeFault, Taken, committed_rows_are_due, ledgers_tell_histories};
 use ps_values::{Items, Memory, OpId};
 use std::alloc::Global;
 
@@ -49,32 +47,30 @@ fn streamed_rows(alloc: Global, buckets: &[Bucket], last_op: OpId) -> Result<Ite
     Ok(Items::from_vec(rows))
 }
 
-/// The rows that are due to an asker over all transactions of a change file that was written into buckets, at the position of
-/// the last one: a new client takes one checkpoint of the asker's buckets as the bytes of a stream.
-pub fn due_rows(
-    alloc: Global,
-    rules: &Rules,
-    asker: &Asker,
-    written: Written,
-) -> Result<Items<Shown>, Memory>
-    requires { (transactions : List Transaction) × HoldsChanges rules.now transactions written }
-    ensures { IfOk result (λ rows. (transactions : List Transaction) → HoldsChanges rules.now transactions written
-        → rows ≡ due rules.now (asker_of asker.now) transactions (last_position 0 transactions)) }
+/// The rows that are due to an asker over all transactions of a change file that was written into a store: a new client takes the
+/// store's checkpoint of the asker's buckets as the bytes of a stream.
+/// Fails with `TooManyBuckets` where the asker has more buckets than an asker may have.
+pub fn due_rows<'a>(alloc: Global, store: &Store, asker: &Asker) -> Result<Items<Shown>, Fault<'a>>
+    requires { (rules : RuleSet) × (transactions : List Transaction) × HasCommitted rules transactions store.now }
+    ensures { (rules : RuleSet) (transactions : List Transaction) → HasCommitted rules transactions store.now → AreRules rules → HaveNumbers rules.definitions
+        → Answers rules (asker_of asker.now) transactions result }
 {
-    latest_rows_are_due();
-    notes_of_changes_are_the_source();
-    have_numbers(rules);
-    let Written { replica, last } = written;
-    let Replica {
-        mut logs,
-        index,
+    ledgers_tell_histories();
+    committed_rows_are_due();
+    let taken = match store.take(alloc, asker) {
+        Ok(taken) => taken,
+        Err(TakeFault::TooManyBuckets { count }) => return Err(Fault::TooManyBuckets { count }),
+        Err(TakeFault::Memory) => return Err(Fault::Memory),
+    };
+    let Taken {
+        last_op,
+        buckets,
         ..
-    } = replica;
-    let names = index.rows_for(alloc, rules, asker, last)?;
-    let last_op = logs.last();
+    } = taken;
     if GREATEST_ID < last_op.0 {
-        return Err(Memory);
+        return Err(Fault::Memory);
     }
-    let buckets = take_buckets(alloc, &mut logs, names)?;
-    streamed_rows(alloc, buckets.as_slice(), last_op)
+    let buckets = read_buckets(alloc, store, buckets, last_op)?;
+    let rows = streamed_rows(alloc, buckets.as_slice(), last_op)?;
+    Ok(rows)
 }

@@ -1,24 +1,25 @@
-ghost use Rattle.std.specs.Prelude.{◌≡◌, Err, ◌==◌, ◌<◌, ◌^◌, ◌∷◌, [], length, IfSome, MatchOption};
+ghost use Rattle.std.specs.Prelude.{◌≡◌, ℕ, Err, List, Option, ◌==◌, ◌<◌, ◌≤◌, ◌+◌, ◌^◌, ◌∷◌, ◌++◌, [], length, IfOk, IfSome, OnOk, MatchOption};
 ghost use Rattle.std.specs.List.{position};
+ghost use Rattle.ps_changes.specs.declared.changes.Transaction.{Transaction as TransactionData};
 ghost use Rattle.ps_changes.specs.Lines.{line_of};
-ghost use Rattle.ps_commands.specs.ChangeFiles.{lines_of, is_blank as is_blank_line, rising, transactions_of};
-ghost use Rattle.ps_commands.specs.ReadingChanges.{ReadsRising, Writes};
+ghost use Rattle.ps_rules.specs.RuleSets.{RuleSet};
+ghost use Rattle.ps_store.specs.Laws.{last_position};
+ghost use Rattle.ps_store.specs.Ledgers.{timed_of};
+ghost use Rattle.ps_store.specs.Limits.{greatest};
+ghost use Rattle.ps_store.specs.Originals.{timed};
+ghost use Rattle.ps_commands.specs.declared.faults.Limit.{Limit as LimitData};
+ghost use Rattle.ps_commands.specs.ChangeFiles.{lines_of, is_blank as is_blank_line, rising, accepted, first_passed, transactions_of};
+ghost use Rattle.ps_commands.specs.ReadingChanges.{ReadsRising, IsPending, HasCommitted, WritesSome, WritesAll, TakesLine, Writes};
 
-use crate::faults::{Fault, LineFault};
+use crate::faults::{Fault, Limit, LineFault};
 use ps_changes::{ChangeFault, Transaction, read_line};
 use ps_rules::Rules;
-use ps_store::Replica;
-use ps_values::Position;
+use ps_store::{FeedFault, Limits, NothingToCommit, Store, WriteFault, ledgers_tell_histories};
+use ps_values::Memory;
 use std::alloc::Global;
 
-/// A change file that was written into buckets.
-#[derive(Drop)]
-pub struct Written {
-    /// What its transactions wrote.
-    pub replica: Replica,
-    /// The position of the last of them, 0 where there is none.
-    pub last: Position,
-}
+// The most changes that are written at once.
+const BATCH: u32 = 1000;
 
 // The place of the first line feed.
 fn line_feed(bytes: &[u8]) -> Option<usize>
@@ -47,17 +48,16 @@ pub fn is_blank(line: &[u8]) -> bool
         .all(|byte| *byte == b' ' || *byte == b'\t' || *byte == b'\r')
 }
 
-/// Writes the changes of a change file, whose positions rise, into the buckets that rules give them. Each line is written
-/// before the next is read.
-/// Fails by the first line that is refused: with `LongLine` where it is longer than a line may be, and else with `Change`.
-/// What the lines before it wrote is dropped.
-pub fn write_changes<'a>(alloc: Global, rules: &Rules, changes: &[u8]) -> Result<Written, Fault<'a>>
+/// Writes the changes of a change file, whose positions rise, into a new store of the rules, under the usual limits. Each line is fed,
+/// written in batches and committed before the next is read.
+/// Fails by the first line that is refused: with `PastLimit` where it passes a limit, and else with `Change`. What the lines before it
+/// wrote is dropped.
+pub fn write_changes<'a>(alloc: Global, rules: Rules, changes: &[u8]) -> Result<Store, Fault<'a>>
     requires { length changes.now < 2 ^ 63 }
-    ensures { Writes rules.now (transactions_of changes.now) result }
+    ensures { Writes rules (transactions_of rules changes.now) result }
 {
-    let mut replica = Replica::new(alloc, rules)?;
+    let mut store = Store::new(alloc, rules, Limits::usual())?;
     let mut number = 0u64;
-    let mut last = Position(0);
     let mut rest = Some(changes);
     'lines: while let Some(bytes) = rest {
         let (line, after) = split_line(bytes);
@@ -66,11 +66,102 @@ pub fn write_changes<'a>(alloc: Global, rules: &Rules, changes: &[u8]) -> Result
         if is_blank(line) {
             continue;
         }
-        let transaction = read_rising(alloc, line, number, last.0)?;
-        last = transaction.position;
-        replica.write_transaction(alloc, rules, transaction)?;
+        match write_line(alloc, &mut store, line, number) {
+            Ok(()) => (),
+            Err(fault) => return Err(fault),
+        }
     }
-    Ok(Written { replica, last })
+    Ok(store)
+}
+
+// Writes the transaction of a line and commits it.
+fn write_line<'a>(
+    alloc: Global,
+    store: &mut Store,
+    line: &[u8],
+    number: u64,
+) -> Result<(), Fault<'a>>
+    requires { (rules : RuleSet) × (done : List TransactionData) × HasCommitted rules done store.old }
+    ensures { (rules : RuleSet) (done : List TransactionData) → HasCommitted rules done store.old
+        → TakesLine rules done (accepted rules.definitions done number line.now) store.new result }
+{
+    ledgers_tell_histories();
+    let last = store.head();
+    let transaction = match read_rising(alloc, line, number, last.0) {
+        Ok(transaction) => transaction,
+        Err(fault) => return Err(fault),
+    };
+    let changes = transaction.changes.len();
+    feed(store, transaction)?;
+    match write_fed(alloc, store, changes) {
+        Ok(()) => commit(store),
+        Err(fault) => return Err(fault),
+    }
+    Ok(())
+}
+
+// Feeds a transaction past the last one.
+fn feed(store: &mut Store, transaction: Transaction) -> Result<(), Memory>
+    requires position { transaction.position.0 ≤ greatest }
+    requires committed { (rules : RuleSet) × (done : List TransactionData) × HasCommitted rules done store.old × (last_position 0 done < transaction.position.0) }
+    ensures { OnOk result ((rules : RuleSet) (done : List TransactionData) → HasCommitted rules done store.old
+        → IsPending rules (done ++ transaction ∷ []) (length transaction.changes) (first_passed rules.definitions (timed done) (timed_of transaction)) store.new) }
+{
+    match store.feed(transaction) {
+        Ok(()) => Ok(()),
+        Err(FeedFault::Memory) => Err(Memory),
+        Err(FeedFault::FeedClosed) => unreachable!(),
+        Err(FeedFault::NotRising { .. }) => unreachable!(),
+        Err(FeedFault::PositionFull { .. }) => unreachable!(),
+    }
+}
+
+// Writes all changes that are fed, in batches.
+fn write_fed<'a>(alloc: Global, store: &mut Store, changes: usize) -> Result<(), Fault<'a>>
+    requires { (rules : RuleSet) × (transactions : List TransactionData) × (passed : Option LimitData) × IsPending rules transactions changes passed store.old }
+    ensures { (rules : RuleSet) (transactions : List TransactionData) (passed : Option LimitData) → IsPending rules transactions changes passed store.old
+        → WritesAll rules transactions passed store.new result }
+{
+    let mut left = changes;
+    'batches: while 0 < left {
+        let written = match write_some(alloc, store) {
+            Ok(written) => written,
+            Err(fault) => return Err(fault),
+        };
+        left -= written as usize;
+    }
+    Ok(())
+}
+
+// Writes the next changes that are fed, as many as a batch has, and answers how many these are.
+fn write_some<'a>(alloc: Global, store: &mut Store) -> Result<u32, Fault<'a>>
+    requires { (rules : RuleSet) × (transactions : List TransactionData) × (left : ℕ) × (passed : Option LimitData) × IsPending rules transactions left passed store.old × (0 < left) }
+    ensures { (rules : RuleSet) (transactions : List TransactionData) (left : ℕ) (passed : Option LimitData) → IsPending rules transactions left passed store.old → 0 < left
+        → WritesSome rules transactions left passed store.new result }
+{
+    ledgers_tell_histories();
+    match store.write_batch(alloc, BATCH) {
+        Ok(wrote) => Ok(wrote.changes),
+        Err(WriteFault::TooWide { count, .. }) => Err(Fault::PastLimit {
+            limit: Limit::Entries { count },
+        }),
+        Err(WriteFault::OpsFull { last }) => Err(Fault::PastLimit {
+            limit: Limit::Operations { last: last.0 },
+        }),
+        Err(WriteFault::Memory) => Err(Fault::Memory),
+        Err(WriteFault::NothingToWrite) => unreachable!(),
+    }
+}
+
+// Makes what is written the checkpoint.
+fn commit(store: &mut Store)
+    ensures { (rules : RuleSet) (transactions : List TransactionData) (passed : Option LimitData) → IsPending rules transactions 0 passed store.old
+        → HasCommitted rules transactions store.new }
+{
+    ledgers_tell_histories();
+    match store.commit() {
+        Ok(_) | Err(NothingToCommit) => (),
+    }
 }
 
 // The transaction of a line, where its position is past the last one.
@@ -80,7 +171,8 @@ fn read_rising<'a>(
     number: u64,
     last: u64,
 ) -> Result<Transaction, Fault<'a>>
-    ensures { ReadsRising result (rising number last (line_of line.now)) }
+    ensures read { ReadsRising result (rising number last (line_of line.now)) }
+    ensures position { IfOk result (λ transaction. transaction.position.0 ≤ greatest) }
 {
     match read_line(alloc, line) {
         Ok(transaction) => {
@@ -91,7 +183,9 @@ fn read_rising<'a>(
                 refuse(number, LineFault::NotRising { last, given })
             }
         }
-        Err(ChangeFault::LineTooLong { length }) => Err(Fault::LongLine { length }),
+        Err(ChangeFault::LineTooLong { length }) => Err(Fault::PastLimit {
+            limit: Limit::LineBytes { length },
+        }),
         Err(ChangeFault::BadJson) => refuse(number, LineFault::BadJson),
         Err(ChangeFault::BadShape) => refuse(number, LineFault::BadShape),
         Err(ChangeFault::BadPosition) => refuse(number, LineFault::BadPosition),

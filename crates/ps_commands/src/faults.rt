@@ -21,6 +21,26 @@ pub enum LineFault {
     },
 }
 
+/// A limit that a change line passes: docs/FORMATS.md, "Fault texts".
+#[derive(Clone, Copy, Debug, PartialEq, Eq)]
+pub enum Limit {
+    /// The line is longer than a line may be.
+    LineBytes {
+        /// How many bytes it has.
+        length: u64,
+    },
+    /// The row of a change has more entries than a row may have.
+    Entries {
+        /// One more than a row may have: no entry past it was counted.
+        count: u32,
+    },
+    /// The operations of a change need more ids than are left.
+    Operations {
+        /// The last id that was given, 0 where none.
+        last: u64,
+    },
+}
+
 /// Why a rules file is refused: docs/FORMATS.md, "Faults of rules".
 #[derive(Clone, Copy, Debug, PartialEq, Eq)]
 pub enum RulesCause {
@@ -75,10 +95,15 @@ pub enum Fault<'a> {
         /// What is wrong with it.
         why: LineFault,
     },
-    /// A change line is longer than a line may be.
-    LongLine {
-        /// How many bytes it has.
-        length: u64,
+    /// A change line passes a limit.
+    PastLimit {
+        /// The limit, and what passes it.
+        limit: Limit,
+    },
+    /// The asker has more buckets than an asker may have.
+    TooManyBuckets {
+        /// How many the asker has.
+        count: u64,
     },
     /// The claims file is not of its form.
     Claims,

@@ -1,5 +1,5 @@
 ghost use Rattle.std.specs.Prelude.{◌≡◌, ◌≤◌, ◌<◌, ◌^◌, length};
-ghost use Rattle.ps_commands.specs.Loading.{Loads, IsContent, RefusesNothing, FindsRules, IsRulesFault, FindsKey, IsKeysFault, FindsAsker, IsClaimsFault, FindsRows, RefusesLine, Prepares};
+ghost use Rattle.ps_commands.specs.Loading.{Loads, IsContent, RefusesNothing, FindsRules, IsRulesFault, FindsKey, IsKeysFault, FindsAsker, IsClaimsFault, FindsRows, RefusesRows, Prepares};
 
 use crate::answering::due_rows;
 use crate::change_files::write_changes;
@@ -11,6 +11,7 @@ use crate::signing::choose_key;
 use ps_io::{FileFault, Files};
 use ps_rules::Rules;
 use ps_sql_eval::Asker;
+use ps_store::have_numbers;
 use ps_token::Keys;
 use ps_values::Text;
 use std::alloc::Global;
@@ -89,15 +90,19 @@ pub fn load_asker<'a, F: Files>(
 // The printed rows of a change file's bytes that are due to an asker.
 fn prepare<'a>(
     alloc: Global,
-    rules: &Rules,
+    rules: Rules,
     asker: &Asker,
     changes: &[u8],
 ) -> Result<Vec<u8>, Fault<'a>>
     requires { length changes.now < 2 ^ 63 }
-    ensures { Prepares rules.now asker.now changes.now result }
+    ensures { Prepares rules asker.now changes.now result }
 {
-    let written = write_changes(alloc, rules, changes)?;
-    let rows = due_rows(alloc, rules, asker, written)?;
+    have_numbers(&rules);
+    let store = write_changes(alloc, rules, changes)?;
+    let rows = match due_rows(alloc, &store, asker) {
+        Ok(rows) => rows,
+        Err(fault) => return Err(fault),
+    };
     let text = print_rows(alloc, rows.as_slice())?;
     Ok(text)
 }
@@ -107,11 +112,11 @@ pub fn load_rows<'a, F: Files>(
     alloc: Global,
     files: &mut F,
     name: &'a Text,
-    rules: &Rules,
+    rules: Rules,
     asker: &Asker,
 ) -> Result<Vec<u8>, Fault<'a>>
     ensures loads { Loads (F.held files.old) name.now FILE_LIMIT (F.faults files.old) (F.faults files.new)
-        (FindsRows rules.now asker.now) RefusesLine result }
+        (FindsRows rules asker.now) (RefusesRows rules asker.now) result }
     ensures held { F.held files.new ≡ F.held files.old }
     ensures faults { F.faults files.old ≤ F.faults files.new }
 {

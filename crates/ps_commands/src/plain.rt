@@ -1,6 +1,7 @@
-ghost use Rattle.std.specs.Prelude.{◌≡◌, ◌≢◌, ◌≤◌, ◌⊎◌, ◌↔◌, ℕ, List, [], ◌∷◌, None, true, false, bytes_eq, codes};
+ghost use Rattle.std.specs.Prelude.{◌≡◌, ◌≢◌, ◌≤◌, ◌⊎◌, ◌↔◌, ℕ, List, [], ◌∷◌, Option, Some, None, true, false, bytes_eq, codes};
+ghost use Rattle.ps_io.specs.Contents.{Contents};
 ghost use Rattle.ps_io.specs.Counts.{Rose};
-ghost use Rattle.ps_commands.specs.Commands.{command_of, Outcome, Prints, PrintsFront, RefusesRules, RefusesChanges, RefusesKeys, RefusesClaims, ExceedsLimit, IsNext, IsExact};
+ghost use Rattle.ps_commands.specs.Commands.{command_of, made_limit, generate_lines as generate_lines_command, Outcome, Prints, PrintsFront, RefusesRules, RefusesChanges, RefusesKeys, RefusesClaims, ExceedsLimit, IsNext, IsExact};
 ghost use Rattle.ps_commands.specs.Saying.{SaysCause};
 ghost use Rattle.ps_commands.specs.declared.faults.LineFault.{LineFault as LineFaultData};
 ghost use Rattle.ps_commands.specs.declared.faults.RulesCause.{RulesCause as RulesCauseData};
@@ -8,6 +9,7 @@ ghost use Rattle.ps_commands.specs.declared.faults.RulesCause.{RulesCause as Rul
 use crate::checking::print_check;
 use crate::faults::Fault;
 use crate::loading::{load_asker, load_keys, load_rows, load_rules};
+use crate::making::{made_count, print_made};
 use crate::saying::say;
 use crate::signing::sign_line;
 use ps_io::{Files, Sink};
@@ -16,6 +18,7 @@ use ps_values::{Memory, Text};
 use std::alloc::Global;
 
 // Does the command that the words are: docs/FORMATS.md, "Commands".
+#[tactic(auto, using(crate::proofs::Causes::three_words))]
 fn command<'a, F: Files, K: Sink>(
     alloc: Global,
     words: &'a [Text],
@@ -38,6 +41,15 @@ fn command<'a, F: Files, K: Sink>(
                 return Err(Fault::Usage);
             }
             check(alloc, rules, files, out)
+        }
+        [word, count, lines] => {
+            if word.as_str() != "generate" || lines.as_str() != "lines" {
+                return Err(Fault::Usage);
+            }
+            match made_count(count) {
+                Some(count) => generate_lines(alloc, count, out),
+                None => Err(Fault::Usage),
+            }
         }
         [word, first, second, third] => {
             if word.as_str() == "rows" {
@@ -112,9 +124,33 @@ fn rows<'a, F: Files, K: Sink>(
         Ok(asker) => asker,
         Err(fault) => return Err(fault),
     };
-    let text = match load_rows(alloc, files, changes, &rules, &asker) {
+    let text = match load_rows(alloc, files, changes, rules, &asker) {
         Ok(text) => text,
         Err(fault) => return Err(fault),
+    };
+    match out.write(text.as_slice()) {
+        Ok(()) => Ok(()),
+        Err(_) => Err(Fault::CannotWrite),
+    }
+}
+
+// Prints made change lines.
+fn generate_lines<'a, K: Sink>(alloc: Global, count: u32, out: &mut K) -> Result<(), Fault<'a>>
+    requires { count ≤ made_limit }
+    ensures { (held : Option Contents) (read : ℕ) (words : List (List ℕ)) → command_of words ≡ Some (generate_lines_command count) → Outcome (record {
+      held = held;
+      read_before = read;
+      read_now = read;
+      taken_before = K.taken out.old;
+      taken_now = K.taken out.new;
+      write_before = K.faults out.old;
+      write_now = K.faults out.new;
+    })
+        words result }
+{
+    let text = match print_made(alloc, count) {
+        Ok(text) => text,
+        Err(Memory) => return Err(Fault::Memory),
     };
     match out.write(text.as_slice()) {
         Ok(()) => Ok(()),
@@ -165,7 +201,8 @@ fn token<'a, F: Files, K: Sink>(
 ///
 /// The words are those after the program's name. `check RULES` prints what the rules have. `rows RULES CHANGES CLAIMS` prints the rows
 /// that are due to the asker of the claims over all transactions of the change file. `token KEYS KID CLAIMS` prints the token of the
-/// claims' payload, signed with the key of that kid. Where anything is refused, nothing is printed.
+/// claims' payload, signed with the key of that kid. `generate N lines` prints N made change lines. Where anything is refused, nothing is
+/// printed.
 pub fn run_plain<F: Files, K: Sink, E: Sink>(
     alloc: Global,
     words: &[Text],
@@ -182,7 +219,7 @@ pub fn run_plain<F: Files, K: Sink, E: Sink>(
     ensures rules { result ≡ 2 → (line column : ℕ) × (why : RulesCauseData) × RefusesRules (F.held files.old) words.now (Fault.Rules line column why) }
     ensures changes { result ≡ 3 → (line : ℕ) × (why : LineFaultData) × RefusesChanges (F.held files.old) words.now (Fault.Change line why) }
     ensures claims { result ≡ 4 → RefusesKeys (F.held files.old) words.now ⊎ RefusesClaims (F.held files.old) words.now }
-    ensures limits { result ≡ 5 → (seen : ℕ) × ExceedsLimit (F.held files.old) words.now seen }
+    ensures limits { result ≡ 5 → ExceedsLimit (F.held files.old) words.now }
     ensures unread { result ≡ 6 → Rose (F.faults files.old) (F.faults files.new) × (name : List ℕ) × IsNext (F.held files.old) words.now name }
     ensures unwritten { result ≡ 7 → Rose (K.faults out.old) (K.faults out.new)
         × PrintsFront (F.held files.old) words.now (K.taken out.old) (K.taken out.new) }
@@ -203,7 +240,8 @@ pub fn run_plain<F: Files, K: Sink, E: Sink>(
     })
         (record { old = E.taken err.old; new = E.taken err.new; before = E.faults err.old; now = E.faults err.new }) words.now result }
 
-    // Where files tell what they hold and no count rose, status and output are those that the files mean, or memory was wanting.
+    // Where files tell what they hold, or none is read, and no count rose, status and output are those that the words and files mean, or
+    // memory was wanting.
     ensures exact { ¬ (Rose (F.faults files.old) (F.faults files.new)) → ¬ (Rose (K.faults out.old) (K.faults out.new))
         → IsExact (F.held files.old) words.now (K.taken out.old) (K.taken out.new) result }
 {

@@ -2,7 +2,7 @@ ghost use Rattle.std.specs.Prelude.{◌≡◌, ◌++◌, codes, decimal};
 ghost use Rattle.ps_commands.specs.Commands.{Tells, fault_line};
 ghost use Rattle.ps_commands.specs.Saying.{SaysFault, IsCauseText, joined};
 
-use crate::faults::{Fault, LineFault, RulesCause};
+use crate::faults::{Fault, Limit, LineFault, RulesCause};
 use itoa::Buffer;
 use ps_io::Sink;
 
@@ -69,6 +69,23 @@ fn tell_change<E: Sink>(err: &mut E, line: u64, why: LineFault)
         LineFault::BadPosition => tell_number(err, "powersync: change ", line, " bad-position\n"),
         LineFault::BadValue => tell_number(err, "powersync: change ", line, " bad-value\n"),
         LineFault::NotRising { last, given } => tell_not_rising(err, line, last, given),
+    }
+}
+
+// Writes the line of a limit that a change line passes.
+fn tell_limit<E: Sink>(err: &mut E, limit: Limit)
+    ensures { Tells (E.taken err.old) (E.taken err.new) (E.faults err.old) (E.faults err.new) (fault_line (Fault.PastLimit limit)) }
+{
+    match limit {
+        Limit::LineBytes { length } => {
+            tell_number(err, "powersync: limit line-bytes ", length, "\n");
+        }
+        Limit::Entries { count } => {
+            tell_number(err, "powersync: limit entries ", u64::from(count), "\n");
+        }
+        Limit::Operations { last } => {
+            tell_number(err, "powersync: limit operations ", last, "\n");
+        }
     }
 }
 
@@ -143,8 +160,12 @@ pub fn say<E: Sink>(err: &mut E, fault: &Fault<'_>) -> u8
             tell_change(err, *line, *why);
             3
         }
-        Fault::LongLine { length } => {
-            tell_number(err, "powersync: limit line-bytes ", *length, "\n");
+        Fault::PastLimit { limit } => {
+            tell_limit(err, *limit);
+            5
+        }
+        Fault::TooManyBuckets { count } => {
+            tell_number(err, "powersync: limit buckets ", *count, "\n");
             5
         }
         Fault::Claims => {

@@ -5,40 +5,32 @@ ghost use Rattle.ps_values.specs.Numbers.{greatest};
 ghost use Rattle.ps_bucket_log.specs.Logs.{AreEntries};
 
 use crate::reading::rules_of;
+use crate::storing::{bucket_in, store_over};
 use crate::words::{Stop, Texts, cut};
 use ps_bucket_log::{Log, batches_are_the_log, standing_logs_stay_standing};
-use ps_commands::{Bucket, Written, checkpoint_line, complete_line, data_line, write_changes};
+use ps_commands::{Bucket, checkpoint_line, complete_line, data_line};
 use ps_lines::write_line;
 use ps_rules::Rules;
-use ps_store::Replica;
 use ps_values::{Memory, OpId, Text};
 use std::alloc::Global;
 
 // A bucket over a change file, with the number of all operations.
 fn bucket_over(
     alloc: Global,
-    rules: &Rules,
+    rules: Rules,
     changes: &str,
     name: &str,
 ) -> Result<(Bucket, OpId), Memory>
     ensures entries { IfOk result (λ made. AreEntries 0 made.0.log.ops) }
     ensures last { IfOk result (λ made. made.1.0 ≤ greatest) }
 {
-    if 4294967295 <= changes.len() {
-        return Err(Memory);
-    }
-    let Ok(written) = write_changes(alloc, rules, changes.as_bytes()) else {
-        return Err(Memory);
-    };
-    let Written { replica, .. } = written;
-    let Replica { mut logs, .. } = replica;
-    let last_op = logs.last();
+    let store = store_over(alloc, rules, changes)?;
+    let last_op = store.checkpoint().op;
     if 9223372036854775807 < last_op.0 {
         return Err(Memory);
     }
-    let name = Text::from_str(alloc, name)?;
-    let log = logs.take(alloc, &name);
-    Ok((Bucket { name, log }, last_op))
+    let bucket = bucket_in(alloc, &store, name)?;
+    Ok((bucket, last_op))
 }
 
 // The first data line of a log, as it is written.
@@ -119,7 +111,7 @@ pub fn write_lines(
     let (rules, words) = cut(words);
     let (changes, name) = cut(words);
     let rules = rules_of(alloc, texts.text(rules)?)?;
-    let (bucket, last_op) = bucket_over(alloc, &rules, texts.text(changes)?, name)?;
+    let (bucket, last_op) = bucket_over(alloc, rules, texts.text(changes)?, name)?;
     out.push_str("lines")?;
     push_lines(alloc, bucket, last_op, out)
 }
@@ -127,7 +119,7 @@ pub fn write_lines(
 // The first data line of a bucket, as it is written.
 fn first_data(alloc: Global, rules: &str, changes: &str, name: &str) -> Result<Vec<u8>, Stop> {
     let rules = rules_of(alloc, rules)?;
-    let (bucket, last_op) = bucket_over(alloc, &rules, changes, name)?;
+    let (bucket, last_op) = bucket_over(alloc, rules, changes, name)?;
     Ok(data_bytes(alloc, &bucket, last_op)?)
 }
 

@@ -1,35 +1,44 @@
 //! The logs of all buckets.
 
-ghost use Rattle.std.specs.Prelude.{IfOk};
-ghost use Rattle.ps_store.specs.Logs.{AreLogs};
+ghost use Rattle.std.specs.Prelude.{List, IfOk};
+ghost use Rattle.ps_bucket_log.specs.Logs.{AreEntries};
+ghost use Rattle.ps_changes.specs.declared.changes.Transaction.{Transaction};
+ghost use Rattle.ps_rules.specs.RuleSets.{RuleSet};
+ghost use Rattle.ps_commands.specs.ReadingChanges.{HasCommitted};
 
 use crate::reading::rules_of;
 use crate::words::{Stop, Texts, cut};
 use ps_bucket_log::{Log, Op};
-use ps_changes::{Transaction, read_line};
+use ps_commands::{Bucket, read_bucket, write_changes};
 use ps_rules::Rules;
 use ps_store::{
-    BucketLogs, Replica, have_numbers, latest_rows_are_due, readers_hold_what_stands, replicate,
+    Store, have_numbers, latest_rows_are_due, ledgers_tell_histories, readers_hold_what_stands,
 };
-use ps_values::{Memory, Position, Text};
+use ps_values::{Memory, Text};
 use std::alloc::Global;
 
-// The logs after a text's lines, whose positions rise.
-fn logs_of(alloc: Global, rules: &Rules, text: &str) -> Result<BucketLogs, Stop>
-    ensures { IfOk result AreLogs }
+/// A store that a change file was written into.
+pub fn store_over(alloc: Global, rules: Rules, changes: &str) -> Result<Store, Memory>
+    ensures { IfOk result (λ store. (rules : RuleSet) × (transactions : List Transaction) × HasCommitted rules transactions store) }
 {
-    let mut replica = Replica::new(alloc, rules)?;
-    let mut last = Position(0);
-    'lines: for line in text.lines() {
-        let transaction = read_line(alloc, line.as_bytes())?;
-        if transaction.position.0 <= last.0 {
-            return Err(Memory)?;
-        }
-        last = transaction.position;
-        replica.write_transaction(alloc, rules, transaction)?;
+    if 4294967295 <= changes.len() {
+        return Err(Memory);
     }
-    let Replica { logs, .. } = replica;
-    Ok(logs)
+    match write_changes(alloc, rules, changes.as_bytes()) {
+        Ok(store) => Ok(store),
+        Err(_) => Err(Memory),
+    }
+}
+
+/// A bucket of a store, up to its checkpoint.
+pub fn bucket_in(alloc: Global, store: &Store, name: &str) -> Result<Bucket, Memory>
+    requires { (rules : RuleSet) × (transactions : List Transaction) × HasCommitted rules transactions store.now }
+    ensures { IfOk result (λ bucket. AreEntries 0 bucket.log.ops) }
+{
+    ledgers_tell_histories();
+    let name = Text::from_str(alloc, name)?;
+    let last_op = store.checkpoint().op;
+    read_bucket(alloc, store, name, last_op)
 }
 
 // A sign for an operation's kind, its id, and its row.
@@ -43,59 +52,29 @@ fn write_op(out: &mut String, op: &Op) -> Result<(), Stop> {
 }
 
 // The operations of a bucket, in order.
-fn write_log(
-    alloc: Global,
-    logs: &mut BucketLogs,
-    bucket: &str,
-    out: &mut String,
-) -> Result<(), Stop>
-    requires { AreLogs logs.old }
-    ensures { AreLogs logs.new }
+fn write_log(alloc: Global, store: &Store, name: &str, out: &mut String) -> Result<(), Stop>
+    requires { (rules : RuleSet) × (transactions : List Transaction) × HasCommitted rules transactions store.now }
 {
-    write!(out, "\n{bucket}")?;
-    let log = logs.take(alloc, &Text::from_str(alloc, bucket)?);
-    let ops = log.ops(alloc)?;
+    write!(out, "\n{name}")?;
+    let bucket = bucket_in(alloc, store, name)?;
+    let ops = bucket.log.ops(alloc)?;
     'ops: for op in ops.as_slice() {
         write_op(out, op)?;
     }
     Ok(())
 }
 
-// The operations of buckets, whose logs are taken in that order.
-fn write_logs(
-    alloc: Global,
-    logs: &mut BucketLogs,
-    buckets: &str,
-    out: &mut String,
-) -> Result<(), Stop>
-    requires { AreLogs logs.old }
+// The operations of buckets.
+fn write_logs(alloc: Global, store: &Store, names: &str, out: &mut String) -> Result<(), Stop>
+    requires { (rules : RuleSet) × (transactions : List Transaction) × HasCommitted rules transactions store.now }
 {
-    'buckets: for bucket in buckets.split(' ') {
-        write_log(alloc, logs, bucket, out)?;
+    'names: for name in names.split(' ') {
+        write_log(alloc, store, name, out)?;
     }
     Ok(())
 }
 
-fn write_last(logs: &BucketLogs, out: &mut String) -> Result<(), Stop> {
-    Ok(write!(out, "last {}", logs.last().0)?)
-}
-
-// What changes write into buckets, and the last operation's id before they are taken and after.
-fn write_changed(
-    alloc: Global,
-    rules: &Rules,
-    changes: &str,
-    buckets: &str,
-    out: &mut String,
-) -> Result<(), Stop> {
-    let mut logs = logs_of(alloc, rules, changes)?;
-    write_last(&logs, out)?;
-    write_logs(alloc, &mut logs, buckets, out)?;
-    out.push_str("\n")?;
-    write_last(&logs, out)
-}
-
-/// What changes write into buckets, and the last operation's id before they are taken and after: RULES CHANGES BUCKET ..
+/// The last operation's id after changes, and what they write into buckets: RULES CHANGES BUCKET ..
 pub fn write_written(
     alloc: Global,
     texts: &Texts,
@@ -103,38 +82,14 @@ pub fn write_written(
     out: &mut String,
 ) -> Result<(), Stop> {
     let (rules, words) = cut(words);
-    let (changes, buckets) = cut(words);
+    let (changes, names) = cut(words);
     let rules = rules_of(alloc, texts.text(rules)?)?;
-    write_changed(alloc, &rules, texts.text(changes)?, buckets, out)
+    let store = store_over(alloc, rules, texts.text(changes)?)?;
+    write!(out, "last {}", store.checkpoint().op.0)?;
+    write_logs(alloc, &store, names, out)
 }
 
-// The logs after one transaction.
-fn logs_at_once(alloc: Global, rules: &Rules, transaction: Transaction) -> Result<BucketLogs, Stop>
-    ensures { IfOk result AreLogs }
-{
-    if transaction.position.0 == 0 {
-        return Err(Memory)?;
-    }
-    let replica = replicate(alloc, rules, vec![in alloc; transaction]?)?;
-    let Replica { logs, .. } = replica;
-    Ok(logs)
-}
-
-// What one transaction writes into a bucket.
-fn write_transaction(
-    alloc: Global,
-    rules: &Rules,
-    line: &str,
-    bucket: &str,
-    out: &mut String,
-) -> Result<(), Stop> {
-    let transaction = read_line(alloc, line.as_bytes())?;
-    let mut logs = logs_at_once(alloc, rules, transaction)?;
-    write_log(alloc, &mut logs, bucket, out)
-}
-
-/// What the first transaction of a change file writes into a bucket at once: RULES CHANGES BUCKET. Calls the laws, which do
-/// nothing.
+/// What the first transaction of a change file writes into a bucket: RULES CHANGES BUCKET. Calls the laws, which do nothing.
 pub fn write_at_once(
     alloc: Global,
     texts: &Texts,
@@ -144,10 +99,11 @@ pub fn write_at_once(
     readers_hold_what_stands();
     latest_rows_are_due();
     let (rules, words) = cut(words);
-    let (changes, bucket) = cut(words);
+    let (changes, name) = cut(words);
     let rules = rules_of(alloc, texts.text(rules)?)?;
     have_numbers(&rules);
     let first = texts.text(changes)?.lines().next().ok_or("no line")?;
+    let store = store_over(alloc, rules, first)?;
     out.push_str("at once")?;
-    write_transaction(alloc, &rules, first, bucket, out)
+    write_log(alloc, &store, name, out)
 }

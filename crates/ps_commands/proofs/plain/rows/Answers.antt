@@ -47,8 +47,7 @@ returns-in-Err-load_rows g c = λ word same.
     let first : start ≤ read_1 = c.in-Ok.ensures.faults in
     let second : read_1 ≤ read_2 = c.in-Ok-load_asker.ensures.faults in
     let risen : start ≤ read_2 = omega (arith, first, second) in
-    cause_of_rows o held_2 read_2 words c.args.changes.now c.in-Ok.rules c.in-Ok-load_asker.asker c.in-Err-load_rows.fault same_held risen refl
-    (record { command = rows names; is = command; comes = (refl, record { rules = c.in-Ok.rules; asker = asker_of c.in-Ok-load_asker.asker; rules_read = rules; claims_read = claims }) }) c.in-Err-load_rows.ensures.loads
+    cause_of_rows o held_2 read_2 words names c.in-Ok.rules c.in-Ok-load_asker.asker c.in-Err-load_rows.fault same_held risen refl command rules claims c.in-Err-load_rows.ensures.loads
 
 pub returns-in-Ok-write : goal.returns-in-Ok-write
 returns-in-Ok-write g c = λ word same.

@@ -11,8 +11,11 @@ returns-in-Rules g c = rw c.in-Rules.is (record { is = refl; line = c.tell_rules
 pub returns-in-Change : goal.returns-in-Change
 returns-in-Change g c = rw c.in-Change.is (record { is = refl; line = c.tell_change.ensures })
 
-pub returns-in-LongLine : goal.returns-in-LongLine
-returns-in-LongLine g c = rw c.in-LongLine.is (record { is = refl; line = c.tell_number.ensures })
+pub returns-in-PastLimit : goal.returns-in-PastLimit
+returns-in-PastLimit g c = rw c.in-PastLimit.is (record { is = refl; line = c.tell_limit.ensures })
+
+pub returns-in-TooManyBuckets : goal.returns-in-TooManyBuckets
+returns-in-TooManyBuckets g c = rw c.in-TooManyBuckets.is (record { is = refl; line = c.tell_number.ensures })
 
 pub returns-in-Claims : goal.returns-in-Claims
 returns-in-Claims g c = rw c.in-Claims.is (record { is = refl; line = c.tell_line-in-Claims.ensures })
