@@ -1,0 +1,10 @@
+ghost use Rattle.ps_script.specs.Events.{ReadsWhatIsSpelled};
+
+use ps_values::decimals_read_back;
+
+/// A law: the event that a line is, as a function, is the one that the grammar spells.
+pub fn events_are_spelled()
+    ensures { ReadsWhatIsSpelled }
+{
+    decimals_read_back();
+}

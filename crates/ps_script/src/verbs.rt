@@ -1,0 +1,62 @@
+//! The events whose one argument is a client's name.
+
+ghost use Rattle.std.specs.Prelude.{◌≡◌};
+ghost use Rattle.ps_script.specs.Verbs.{verb_of, event_by};
+
+use crate::ScriptEvent;
+use ps_values::Text;
+
+#[derive(Clone, Copy, Debug, PartialEq, Eq)]
+pub enum Verb {
+    Open,
+    Turn,
+    Take,
+    Cut,
+    Upload,
+    Number,
+    Rows,
+}
+
+pub fn read_verb(word: &[u8]) -> Option<Verb>
+    ensures { result ≡ verb_of word.now }
+{
+    if word == b"open".as_slice() {
+        return Some(Verb::Open);
+    }
+    if word == b"turn".as_slice() {
+        return Some(Verb::Turn);
+    }
+    if word == b"take".as_slice() {
+        return Some(Verb::Take);
+    }
+    if word == b"cut".as_slice() {
+        return Some(Verb::Cut);
+    }
+    if word == b"upload".as_slice() {
+        return Some(Verb::Upload);
+    }
+    if word == b"number".as_slice() {
+        return Some(Verb::Number);
+    }
+    if word == b"rows".as_slice() {
+        return Some(Verb::Rows);
+    }
+    None
+}
+
+impl Verb {
+    /// The event of a client.
+    pub fn with(self, name: Text) -> ScriptEvent
+        ensures { result ≡ event_by self name }
+    {
+        match self {
+            Verb::Open => ScriptEvent::Open { name },
+            Verb::Turn => ScriptEvent::Turn { name },
+            Verb::Take => ScriptEvent::Take { name },
+            Verb::Cut => ScriptEvent::Cut { name },
+            Verb::Upload => ScriptEvent::Upload { name },
+            Verb::Number => ScriptEvent::Number { name },
+            Verb::Rows => ScriptEvent::Rows { name },
+        }
+    }
+}
