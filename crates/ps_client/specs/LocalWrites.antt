@@ -1,9 +1,14 @@
 -- Local writes: what they change, and how they are uploaded.
-use Rattle.std.specs.Prelude.{◌≡◌, ℕ, ◌&&◌, ◌++◌, if◌then◌else◌, List, [], ◌∷◌, Bool, Option, Some, None, Result, Ok, Err, drop, length, bytes_eq, codes, option_map}
+use Rattle.std.specs.Prelude.{◌≡◌, ℕ, ◌<◌, ◌≤◌, ◌^◌, pos, negsuc, ◌&&◌, ◌++◌, if◌then◌else◌, List, [], ◌∷◌, Bool, Option, Some, None, Result, Ok, Err, take, drop, length, bytes_eq, codes, option_map}
+use Rattle.std.specs.List.{AllByRecursion}
 use Rattle.serde_json.specs.Data.{object, array, item, no_items, member, no_members}
 use Rattle.serde_json.specs.Written.{compact_text}
+use Rattle.ps_values.specs.declared.columns.Column.{Column}
+use Rattle.ps_values.specs.declared.values.Value.{Value}
+use Rattle.ps_values.specs.declared.values.Value.TheVariants.{Null, Int, Text}
 use Rattle.ps_values.specs.Documents.{document_of}
 use Rattle.ps_changes.specs.declared.changes.Change.{Change}
+use Rattle.ps_changes.specs.Lines.{longest, body_of}
 use Rattle.ps_changes.specs.Writing.{change_json}
 use Rattle.ps_client_log.specs.declared.states.Target.TheVariants.{Pending, Number}
 use Rattle.ps_client_log.specs.Kept.{Kept}
@@ -68,6 +73,11 @@ WantsNoWrites (change ∷ queue) result = result ≡ Err (QueueWaiting (length (
 
 -- ---- uploads
 
+-- the write that waits longest
+abbrev pub oldest : List Change → Option Change
+oldest [] = None
+oldest (change ∷ queue) = Some change
+
 -- the body that uploads a change by itself
 unfoldable pub upload_text : Change → List ℕ
 upload_text change = compact_text (object (member (codes "changes") (array (item (change_json change) no_items)) no_members))
@@ -76,3 +86,19 @@ upload_text change = compact_text (object (member (codes "changes") (array (item
 abbrev pub next_upload : List Change → Option (List ℕ)
 next_upload [] = None
 next_upload (change ∷ queue) = Some (upload_text change)
+
+-- of what waits, a body is read again as the oldest write alone, where it is no more than a line may have
+abbrev pub IsReadAgain : List Change → List ℕ → Type 0
+IsReadAgain queue body = length body ≤ longest → body_of body ≡ Ok (take 1 queue)
+
+-- an integer has signed 64 bits
+abbrev pub FitsInt64 : Value → Type 0
+FitsInt64 Null = Unit {0}
+FitsInt64 (Int (pos n)) = n < 2 ^ 63
+FitsInt64 (Int (negsuc n)) = n < 2 ^ 63
+FitsInt64 (Text t) = Unit {0}
+
+-- and so have those of a row
+abbrev pub RowFitsInt64 : Option (List Column) → Type 0
+RowFitsInt64 None = Unit {0}
+RowFitsInt64 (Some columns) = AllByRecursion (λ (column : Column). FitsInt64 column.value) columns

@@ -1,4 +1,4 @@
-ghost use Rattle.std.specs.Prelude.{◌≡◌, ◌≢◌, ◌≤◌, [], IfOk, IfErr, OnOk, OnErr, Ok, option_map};
+ghost use Rattle.std.specs.Prelude.{◌≡◌, ◌≢◌, ◌≤◌, [], IfOk, IfErr, IfSome, OnOk, OnErr, Ok, option_map};
 ghost use Rattle.ps_values.specs.Numbers.{greatest};
 ghost use Rattle.ps_lines.specs.Bodies.{IsBody};
 ghost use Rattle.ps_lines.specs.Reading.{line_of};
@@ -7,7 +7,7 @@ ghost use Rattle.ps_client_log.specs.Keeping.{RoseAt, Tells};
 ghost use Rattle.ps_client_log.specs.Rows.{AreInOrder, row_at};
 ghost use Rattle.ps_client.specs.Clients.{asked, ended, line_taken, matches_told, is_pending};
 ghost use Rattle.ps_client.specs.Keepers.{Follows, RoseWhereFaulted};
-ghost use Rattle.ps_client.specs.LocalWrites.{written, popped, aimed, keeping, FailsBelow, WantsWrites, WantsNoWrites, next_upload};
+ghost use Rattle.ps_client.specs.LocalWrites.{written, popped, aimed, keeping, FailsBelow, WantsWrites, WantsNoWrites, next_upload, oldest, IsReadAgain};
 ghost use Rattle.ps_client.specs.Requests.{IsRequest};
 ghost use Rattle.ps_client.specs.States.{keeper_of, state, name_of, IsOpened};
 ghost use Rattle.ps_client.specs.Taking.{Answers, IsInOrder, IsReadFault};
@@ -155,9 +155,22 @@ impl<K: Keeper> Client<K> {
         Ok(())
     }
 
-    /// The body that uploads the oldest local write that waits: docs/FORMATS.md, "Change lines". None where none waits.
+    /// The oldest local write that waits for its upload, whose table is not empty. None where none waits.
+    pub fn next_change(&self) -> Option<&Change>
+        ensures next { option_map (λ change. change.now) result ≡ oldest (state self.now).kept.queue }
+        ensures table { IfSome result (λ change. change.now.table ≢ []) }
+    {
+        match self.log.queue() {
+            [] => None,
+            [change, ..] => Some(change),
+        }
+    }
+
+    /// The body that uploads the oldest local write that waits: docs/FORMATS.md, "Change lines". `read_changes` gives that write
+    /// alone, where the body is no more than a line may have. None where none waits.
     pub fn upload_next(&self, alloc: Global) -> Result<Option<Vec<u8>>, Memory>
-        ensures { IfOk result (λ body. option_map (λ bytes. bytes.items) body ≡ next_upload (state self.now).kept.queue) }
+        ensures value { IfOk result (λ body. option_map (λ bytes. bytes.items) body ≡ next_upload (state self.now).kept.queue) }
+        ensures read_again { IfOk result (λ body. IfSome body (λ bytes. IsReadAgain (state self.now).kept.queue bytes.items)) }
     {
         next_body(alloc, &self.log)
     }

@@ -1,15 +1,15 @@
-ghost use Rattle.std.specs.Prelude.{◌≡◌, ◌≢◌, ◌≤◌, [], IfOk, OnOk, OnErr, option_map};
+ghost use Rattle.std.specs.Prelude.{◌≡◌, ◌≢◌, ◌≤◌, [], ◌∷◌, Some, IfOk, IfSome, OnOk, OnErr, option_map};
 ghost use Rattle.ps_values.specs.Numbers.{greatest};
 ghost use Rattle.ps_client_log.specs.Keeping.{RoseWhereFailed};
 ghost use Rattle.ps_client_log.specs.Logs.{kept, keeper_of};
 ghost use Rattle.ps_client.specs.Keepers.{Follows};
-ghost use Rattle.ps_client.specs.LocalWrites.{written, popped, aimed, upload_text, next_upload};
+ghost use Rattle.ps_client.specs.LocalWrites.{written, popped, aimed, upload_text, next_upload, IsReadAgain, FitsInt64, RowFitsInt64};
 
 use crate::showing::rows_with;
 use crate::taking::commit;
-use ps_changes::{Change, write_change};
+use ps_changes::{Change, Row, write_change};
 use ps_client_log::{ClientLog, Edit, KeepFault, Keeper, Target, edits_leave_what_is_sound};
-use ps_values::Memory;
+use ps_values::{Memory, Value};
 use std::alloc::Global;
 
 /// Keeps a local write, shows its row, and makes the target pending.
@@ -71,11 +71,45 @@ pub fn aim<K: Keeper>(alloc: Global, log: &mut ClientLog<K>, number: u64) -> Res
     commit(alloc, log, edits)
 }
 
+// An integer has signed 64 bits: to read it says so.
+fn read_range(value: &Value)
+    ensures { FitsInt64 value.now }
+{
+    match value {
+        Value::Int(number) => {
+            let _number = *number;
+        }
+        Value::Null | Value::Text(_) => (),
+    }
+}
+
+// The integers of a row have signed 64 bits.
+#[tactic(auto, using(crate::proofs::Uploading::ranges_before))]
+fn read_ranges(row: &Row)
+    ensures { RowFitsInt64 (Some row.now) }
+{
+    'columns: for column in row.columns() {
+        read_range(&column.value);
+    }
+}
+
+// The integers of a change's row have.
+fn has_64_bits(change: &Change)
+    ensures { RowFitsInt64 change.now.row }
+{
+    match &change.row {
+        Some(row) => read_ranges(row),
+        None => (),
+    }
+}
+
 // The body that uploads a change by itself.
 fn upload_of(alloc: Global, change: &Change) -> Result<Vec<u8>, Memory>
     requires { change.now.table ≢ [] }
-    ensures { IfOk result (λ body. body.items ≡ upload_text change.now) }
+    ensures value { IfOk result (λ body. body.items ≡ upload_text change.now) }
+    ensures read_again { IfOk result (λ body. IsReadAgain (change.now ∷ []) body.items) }
 {
+    has_64_bits(change);
     let text = write_change(alloc, change)?;
     let mut body = Vec::new(alloc);
     body.extend_from_slice(b"{\"changes\":[")?;
@@ -86,7 +120,8 @@ fn upload_of(alloc: Global, change: &Change) -> Result<Vec<u8>, Memory>
 
 /// The body that uploads the oldest local write.
 pub fn next_body<K: Keeper>(alloc: Global, log: &ClientLog<K>) -> Result<Option<Vec<u8>>, Memory>
-    ensures { IfOk result (λ body. option_map (λ bytes. bytes.items) body ≡ next_upload (kept log.now).queue) }
+    ensures value { IfOk result (λ body. option_map (λ bytes. bytes.items) body ≡ next_upload (kept log.now).queue) }
+    ensures read_again { IfOk result (λ body. IfSome body (λ bytes. IsReadAgain (kept log.now).queue bytes.items)) }
 {
     match log.queue() {
         [] => Ok(None),

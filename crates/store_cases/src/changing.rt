@@ -37,7 +37,8 @@ fn write_next(alloc: Global, store: &mut Store, limit: u32) -> Result<Wrote, Wri
     store.write_batch(alloc, limit.clamp(1, 1000000))
 }
 
-fn push_feed_fault(out: &mut String, fault: &FeedFault) -> Result<(), Stop> {
+/// Says why nothing was fed.
+pub fn push_feed_fault(out: &mut String, fault: &FeedFault) -> Result<(), Stop> {
     match fault {
         FeedFault::FeedClosed => Ok(out.push_str("feed closed")?),
         FeedFault::NotRising { last, given } => {

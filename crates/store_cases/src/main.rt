@@ -6,7 +6,9 @@
 //! `feed LINE` feeds the transaction of a change line, where `~N~` stands for the numbers from 1 to N, and `feed-all` feeds all
 //! of the change file; `close`, `write LIMIT`, `commit`, `compact BUCKET`, `checkpoint`, `totals` and `names` are its calls,
 //! `write-all LIMIT` writes batches until one is refused, `head` prints the head and whether the feed is closed, and `log BUCKET` how
-//! many operations a log has. `take USER PARAMETERS` takes the checkpoint of a user, and `read AFTER UPTO BUCKET` reads a batch.
+//! many operations a log has. `upload BODY` uploads the changes of a body, and `number USER CLIENT` makes a write checkpoint.
+//! `take USER PARAMETERS` takes the checkpoint of a user, `take-as CLIENT USER PARAMETERS` that of a user's client, whose number is printed
+//! where there is one, and `read AFTER UPTO BUCKET` reads a batch.
 #![tactic(auto)]
 
 ghost use Rattle.store_cases.specs.Standing.{IsStore};
@@ -15,6 +17,7 @@ mod changing;
 mod reading;
 mod showing;
 mod taking;
+mod uploading;
 mod words;
 
 use ps_store::Store;
@@ -47,6 +50,25 @@ fn change(
     Ok(true)
 }
 
+// Does a call that a client asks for; false where the word names none.
+fn ask(
+    alloc: Global,
+    store: &mut Store,
+    word: &str,
+    rest: &str,
+    out: &mut String,
+) -> Result<bool, Stop>
+    requires { IsStore store.old }
+    ensures { IsStore store.new }
+{
+    match word {
+        "upload" => uploading::upload(alloc, store, rest, out)?,
+        "number" => uploading::number(alloc, store, rest, out)?,
+        _ => return Ok(false),
+    }
+    Ok(true)
+}
+
 // Does a call that reads the store; false where the word names none.
 fn show(
     alloc: Global,
@@ -64,6 +86,7 @@ fn show(
         "totals" => showing::show_totals(store, out),
         "names" => showing::show_names(alloc, store, out),
         "take" => taking::show_take(alloc, store, rest, out),
+        "take-as" => taking::show_take_as(alloc, store, rest, out),
         "read" => taking::show_read(alloc, store, rest, out),
         "#" => Ok(write!(out, "# {rest}")?),
         _ => return Ok(false),
@@ -91,7 +114,10 @@ fn answer(
         *store = changing::store_of(alloc, texts.rules(), rest)?;
         return Ok(());
     }
-    if change(alloc, texts, store, word, rest, out)? || show(alloc, store, word, rest, out)? {
+    if change(alloc, texts, store, word, rest, out)?
+        || ask(alloc, store, word, rest, out)?
+        || show(alloc, store, word, rest, out)?
+    {
         Ok(out.push_str("\n")?)
     } else {
         Err("no such case")?

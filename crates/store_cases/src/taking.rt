@@ -9,8 +9,8 @@ use ps_store::{Store, TakeFault, Taken, TakenBucket};
 use ps_values::{Memory, OpId, Text};
 use std::alloc::Global;
 
-// A user with parameters, by default none.
-fn asker_of(alloc: Global, words: &str) -> Result<Asker, Memory> {
+// A user with parameters, by default none, and perhaps the user's client.
+fn asker_of(alloc: Global, words: &str, client: Option<Text>) -> Result<Asker, Memory> {
     let (user, parameters) = cut(words);
     let parameters = if parameters.is_empty() {
         "{}"
@@ -21,7 +21,7 @@ fn asker_of(alloc: Global, words: &str) -> Result<Asker, Memory> {
         user: Text::from_str(alloc, user)?,
         payload: Text::from_str(alloc, "{}")?,
         parameters: Text::from_str(alloc, parameters)?,
-        client: None,
+        client,
     })
 }
 
@@ -36,22 +36,42 @@ fn push_taken(out: &mut String, taken: &Taken) -> Result<(), Stop> {
     write!(out, "position {position} head {head}")?;
     out.push_str(if taken.closed { " closed" } else { " open" })?;
     write!(out, " last {}", taken.last_op.0)?;
+    if let Some(number) = taken.number {
+        write!(out, " number {number}")?;
+    }
     'buckets: for bucket in taken.buckets.as_slice() {
         push_bucket(out, bucket)?;
     }
     Ok(())
 }
 
-/// The checkpoint of a user, with parameters behind it.
-pub fn show_take(alloc: Global, store: &Store, words: &str, out: &mut String) -> Result<(), Stop>
+// The checkpoint of who asks.
+fn show_taken(alloc: Global, store: &Store, asker: &Asker, out: &mut String) -> Result<(), Stop>
     requires { IsStore store.now }
 {
-    let asker = asker_of(alloc, words)?;
-    match store.take(alloc, &asker) {
+    match store.take(alloc, asker) {
         Ok(taken) => push_taken(out, &taken),
         Err(TakeFault::TooManyBuckets { count }) => Ok(write!(out, "too many buckets {count}")?),
         Err(TakeFault::Memory) => Ok(out.push_str("memory")?),
     }
+}
+
+/// The checkpoint of a user, with parameters behind it.
+pub fn show_take(alloc: Global, store: &Store, words: &str, out: &mut String) -> Result<(), Stop>
+    requires { IsStore store.now }
+{
+    let asker = asker_of(alloc, words, None)?;
+    show_taken(alloc, store, &asker, out)
+}
+
+/// The checkpoint of a user's client, with the user and parameters behind it.
+pub fn show_take_as(alloc: Global, store: &Store, words: &str, out: &mut String) -> Result<(), Stop>
+    requires { IsStore store.now }
+{
+    let (client, words) = cut(words);
+    let client = Text::from_str(alloc, client)?;
+    let asker = asker_of(alloc, words, Some(client))?;
+    show_taken(alloc, store, &asker, out)
 }
 
 fn push_op(out: &mut String, op: &Op) -> Result<(), Stop> {
