@@ -1,0 +1,11 @@
+pub mod Grounds
+pub mod Leading
+pub mod Saying
+pub mod Growing
+pub mod Turning
+pub mod Taking
+pub mod Opening
+pub mod Writing
+pub mod Staying
+pub mod Legal
+pub mod Playing
