@@ -1,0 +1,10 @@
+pub mod Histories
+pub mod StoreSteps
+pub mod FedRuns
+pub mod Reading
+pub mod Turned
+pub mod Visited
+pub mod StreamSteps
+pub mod Answered
+pub mod Written
+pub mod WorldSteps
