@@ -1,0 +1,184 @@
+-- A stream over a store that stands still: the run of its session, turn by turn, and what is written of its lines.
+use Rattle.std.specs.Prelude.{◌≡◌, ◌⊎◌, ℕ, ◌<◌, ◌≤◌, List, [], ◌∷◌, ◌++◌, length, map, Option, Some, None, Result, Ok, Err, Vec}
+use Rattle.std.specs.declared.alloc.Global.{Global}
+use Rattle.ps_io.specs.Contents.{Gains, GainsFront}
+use Rattle.ps_io.specs.Counts.{Rose}
+use Rattle.ps_lines.specs.declared.bodies.Known.{Known}
+use Rattle.ps_lines.specs.declared.lines.Line.{Line}
+use Rattle.ps_lines.specs.Writing.{text_of}
+use Rattle.ps_params.specs.Names.{AreTold}
+use Rattle.ps_rules.specs.RuleSets.{AreRules}
+use Rattle.ps_sql.specs.Meaning.{Asker}
+use Rattle.ps_store.specs.declared.events.Event.{Event}
+use Rattle.ps_store.specs.declared.fixed.Fixed.{Fixed}
+use Rattle.ps_store.specs.declared.readings.TakeFault.{TakeFault}
+use Rattle.ps_store.specs.declared.readings.TakeFault.TheVariants as takes
+use Rattle.ps_store.specs.declared.stores.Store.{Store}
+use Rattle.ps_store.specs.Courses.{Course, course_of}
+use Rattle.ps_store.specs.Laws.{HaveNumbers}
+use Rattle.ps_store.specs.Ledgers.{ledger_of}
+use Rattle.ps_store.specs.Readings.{AreTooMany, take_of, taken_names}
+use Rattle.ps_store.specs.Stores.{StoreStandsFor}
+use Rattle.ps_session.specs.declared.phases.Phase.{Phase}
+use Rattle.ps_session.specs.declared.phases.Phase.TheVariants.{Start, Download, Void, Done}
+use Rattle.ps_session.specs.Sessions.{SessionState, Turned, IsDrained, begin, requested_in}
+use Rattle.ps_session.specs.Runs.{Made, Turn, turn, all_made, reached, AreToldIn, Climbs}
+use Rattle.ps_session.specs.Ties.{HasTaken}
+use Rattle.ps_serve.specs.declared.ends.End.{End}
+use Rattle.ps_serve.specs.declared.ends.End.TheVariants.{Answered, Refused, Drained, Expired, PeerGone, CutRequest, TooMany, Memory}
+use Rattle.ps_serve.specs.declared.refusals.Refusal.{Refusal}
+use Rattle.ps_serve.specs.declared.refusals.Refusal.TheVariants as refusals
+use Rattle.ps_serve.specs.Answers.{head_text, Refuses}
+
+-- the store stands for the history, under valid rules
+pub record Serves (fixed : Fixed) (store : Store) (history : List Event) : Type 0 where
+  pub stands : StoreStandsFor fixed store history
+  pub rules : AreRules fixed.rules
+  pub numbers : HaveNumbers fixed.rules.definitions
+
+-- ---- lines
+
+-- the line of a turn that gives one
+abbrev pub list_of : Option Line → List Line
+list_of None = []
+list_of (Some line) = line ∷ []
+
+-- the bytes of lines
+abbrev pub lines_text : List Line → List ℕ
+lines_text [] = []
+lines_text (line ∷ lines) = text_of line ++ lines_text lines
+
+abbrev pub line_of : Made → Line
+line_of made = made.line
+
+-- ---- runs
+
+-- a run of the session of a request over the readings at a place: where it has come, and the lines that it made
+pub record IsRun (course : Course) (place : ℕ) (positions : List Known) (session : SessionState) (lines : List Line) : Type 0 where
+  pub turns : List Turn
+  pub climbs : Climbs place turns place
+  pub told : AreToldIn course (begin (requested_in positions)) turns
+  pub session_is : session ≡ reached course (begin (requested_in positions)) turns
+  pub lines_are : lines ≡ map line_of (all_made course place (begin (requested_in positions)) turns)
+
+-- what was taken last, was taken there
+pub record IsStreaming (course : Course) (place : ℕ) (positions : List Known) (session : SessionState) (lines : List Line) : Type 0 where
+  pub run : IsRun course place positions session lines
+  pub taken : HasTaken course place session
+
+-- a checkpoint is being sent, or is completed
+abbrev pub IsSending : Phase → Type 0
+IsSending Start = ⊥
+IsSending Download = Unit {0}
+IsSending Void = ⊥
+IsSending Done = Unit {0}
+
+-- ---- one turn
+
+-- a line was written, if there is one; or why not
+abbrev pub Sends : Option Line → Option (List ℕ) → Option (List ℕ) → ℕ → ℕ → Result (Unit {0}) End → Type 0
+Sends line old new before now (Ok done) = Gains old new (lines_text (list_of line))
+Sends line old new before now (Err Answered) = ⊥
+Sends line old new before now (Err Refused) = ⊥
+Sends line old new before now (Err Drained) = ⊥
+Sends line old new before now (Err (Expired moment)) = ⊥
+Sends line old new before now (Err PeerGone) = GainsFront old new (lines_text (list_of line)) × Rose before now
+Sends line old new before now (Err CutRequest) = ⊥
+Sends line old new before now (Err (TooMany count)) = ⊥
+Sends line old new before now (Err Memory) = new ≡ old
+
+-- the same of a turn that takes a checkpoint which is not the first: before, the clock is looked at
+abbrev pub SendsInTime : (ℕ → Type 0) → ℕ → Fixed → List Event → Asker → Option Line → Option (List ℕ) → Option (List ℕ) → ℕ → ℕ → Result (Unit {0}) End → Type 0
+SendsInTime may_give exp fixed history asker line old new before now (Ok done) = ((moment : ℕ) × may_give moment × (moment < exp)) × Gains old new (lines_text (list_of line))
+SendsInTime may_give exp fixed history asker line old new before now (Err Answered) = ⊥
+SendsInTime may_give exp fixed history asker line old new before now (Err Refused) = ⊥
+SendsInTime may_give exp fixed history asker line old new before now (Err Drained) = ⊥
+SendsInTime may_give exp fixed history asker line old new before now (Err (Expired moment)) = may_give moment × (exp ≤ moment) × (new ≡ old)
+SendsInTime may_give exp fixed history asker line old new before now (Err PeerGone) =
+    ((moment : ℕ) × may_give moment × (moment < exp)) × GainsFront old new (lines_text (list_of line)) × Rose before now
+SendsInTime may_give exp fixed history asker line old new before now (Err CutRequest) = ⊥
+SendsInTime may_give exp fixed history asker line old new before now (Err (TooMany count)) =
+    ((moment : ℕ) × may_give moment × (moment < exp)) × AreTooMany fixed.limits (ledger_of fixed.rules history) asker count × (new ≡ old)
+SendsInTime may_give exp fixed history asker line old new before now (Err Memory) = new ≡ old
+
+-- the same of any turn
+abbrev pub SendsSo : (ℕ → Type 0) → ℕ → Fixed → List Event → Asker → Option Line → Option (List ℕ) → Option (List ℕ) → ℕ → ℕ → Result (Unit {0}) End → Type 0
+SendsSo may_give exp fixed history asker line old new before now (Ok done) = Gains old new (lines_text (list_of line))
+SendsSo may_give exp fixed history asker line old new before now (Err Answered) = ⊥
+SendsSo may_give exp fixed history asker line old new before now (Err Refused) = ⊥
+SendsSo may_give exp fixed history asker line old new before now (Err Drained) = ⊥
+SendsSo may_give exp fixed history asker line old new before now (Err (Expired moment)) = may_give moment × (exp ≤ moment) × (new ≡ old)
+SendsSo may_give exp fixed history asker line old new before now (Err PeerGone) = GainsFront old new (lines_text (list_of line)) × Rose before now
+SendsSo may_give exp fixed history asker line old new before now (Err CutRequest) = ⊥
+SendsSo may_give exp fixed history asker line old new before now (Err (TooMany count)) = AreTooMany fixed.limits (ledger_of fixed.rules history) asker count × (new ≡ old)
+SendsSo may_give exp fixed history asker line old new before now (Err Memory) = new ≡ old
+
+-- a checkpoint was taken and this is its line; or why not
+abbrev pub Takes : Fixed → List Event → Asker → Turned → SessionState → Result (Option Line) TakeFault → Type 0
+Takes fixed history asker turned session (Ok line) = (session ≡ turned.session) × (line ≡ turned.line) × AreTold (taken_names (take_of (ledger_of fixed.rules history) asker))
+Takes fixed history asker turned session (Err (takes.TooManyBuckets count)) = AreTooMany fixed.limits (ledger_of fixed.rules history) asker count
+Takes fixed history asker turned session (Err takes.Memory) = Unit {0}
+
+-- ---- the whole stream
+
+-- behind some bytes and lines further lines of the run were written
+pub record HasStreamed (course : Course) (place : ℕ) (positions : List Known) (front : List ℕ) (done : List Line) (old new : Option (List ℕ)) (session : SessionState) : Type 0 where
+  pub more : List Line
+  pub run : IsRun course place positions session (done ++ more)
+  pub written : Gains old new (front ++ lines_text more)
+
+-- the same, but for a last part that the sink did not take
+pub record HasStreamedFront (course : Course) (place : ℕ) (positions : List Known) (front : List ℕ) (done : List Line) (old new : Option (List ℕ)) (session : SessionState) : Type 0 where
+  pub more : List Line
+  pub run : IsRun course place positions session (done ++ more)
+  pub written : GainsFront old new (front ++ lines_text more)
+
+-- how the stream ended
+abbrev pub StreamsOn : (ℕ → Type 0) → ℕ → Fixed → List Event → Asker → List Known → List ℕ → List Line → Option (List ℕ) → Option (List ℕ) → ℕ → ℕ → End → Type 0
+StreamsOn may_give exp fixed history asker positions front done old new before now Answered = (session : SessionState)
+    × HasStreamed (course_of fixed.rules history asker) (length history) positions front done old new session × (session.phase ≡ Done) × (¬ IsDrained session)
+StreamsOn may_give exp fixed history asker positions front done old new before now Refused = ⊥
+StreamsOn may_give exp fixed history asker positions front done old new before now Drained = (session : SessionState)
+    × HasStreamed (course_of fixed.rules history asker) (length history) positions front done old new session × IsDrained session
+StreamsOn may_give exp fixed history asker positions front done old new before now (Expired moment) = ((session : SessionState)
+    × HasStreamed (course_of fixed.rules history asker) (length history) positions front done old new session) × may_give moment × (exp ≤ moment)
+StreamsOn may_give exp fixed history asker positions front done old new before now PeerGone = ((session : SessionState)
+    × HasStreamedFront (course_of fixed.rules history asker) (length history) positions front done old new session) × Rose before now
+StreamsOn may_give exp fixed history asker positions front done old new before now CutRequest = ⊥
+StreamsOn may_give exp fixed history asker positions front done old new before now (TooMany count) = ((session : SessionState)
+    × HasStreamed (course_of fixed.rules history asker) (length history) positions front done old new session) × AreTooMany fixed.limits (ledger_of fixed.rules history) asker count
+StreamsOn may_give exp fixed history asker positions front done old new before now Memory = (session : SessionState)
+    × HasStreamed (course_of fixed.rules history asker) (length history) positions front done old new session
+
+-- whether all that will ever be is shown
+abbrev pub Ends : SessionState → End → Type 0
+Ends session Answered = ¬ IsDrained session
+Ends session Refused = ⊥
+Ends session Drained = IsDrained session
+Ends session (Expired moment) = ⊥
+Ends session PeerGone = ⊥
+Ends session CutRequest = ⊥
+Ends session (TooMany count) = ⊥
+Ends session Memory = ⊥
+
+-- what the first take answers: its line, or a refusal
+abbrev pub Begins : Fixed → List Event → Asker → Turned → SessionState → Result (Vec ℕ Global) Refusal → Type 0
+Begins fixed history asker turned session (Ok bytes) =
+    (session ≡ turned.session) × (bytes.items ≡ lines_text (list_of turned.line)) × AreTold (taken_names (take_of (ledger_of fixed.rules history) asker))
+Begins fixed history asker turned session (Err refusals.Cut) = ⊥
+Begins fixed history asker turned session (Err refusals.BadRequest) = ⊥
+Begins fixed history asker turned session (Err refusals.Unauthorized) = ⊥
+Begins fixed history asker turned session (Err refusals.NotFound) = ⊥
+Begins fixed history asker turned session (Err refusals.NotAllowed) = ⊥
+Begins fixed history asker turned session (Err refusals.Conflict) = ⊥
+Begins fixed history asker turned session (Err refusals.LengthRequired) = ⊥
+Begins fixed history asker turned session (Err refusals.TooLarge) = ⊥
+Begins fixed history asker turned session (Err refusals.TooManyBuckets) = (count : ℕ) × AreTooMany fixed.limits (ledger_of fixed.rules history) asker count
+Begins fixed history asker turned session (Err refusals.Memory) = Unit {0}
+
+-- the first take was refused, and so the request; or the head and the first lines of a stream were written
+abbrev pub Streams : (ℕ → Type 0) → ℕ → Fixed → List Event → Asker → List Known → Option (List ℕ) → Option (List ℕ) → ℕ → ℕ → ℕ → End → Type 0
+Streams may_give exp fixed history asker positions old new before now status end =
+    (((count : ℕ) × AreTooMany fixed.limits (ledger_of fixed.rules history) asker count) × Refuses refusals.TooManyBuckets old new before now status end)
+    ⊎ (Refuses refusals.Memory old new before now status end
+    ⊎ ((status ≡ 200) × StreamsOn may_give exp fixed history asker positions (head_text 200 None) [] old new before now end))

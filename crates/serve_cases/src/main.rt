@@ -1,0 +1,171 @@
+//! Answers the lines of its standard input: each is a step of a service that answers one connection after another.
+//!
+//! - `# TEXT` is a heading. `keys JSON` has the keys. `rules TEXT` has the rules, and `store OPS NUMBERS POSITIONS BUCKETS ENTRIES` makes a
+//!   store for them, `store` one under the usual limits. `feed LINE` feeds the transaction of a change line, `rows COUNT` one of so many rows of `t`;
+//!   `write`, `commit` and `close` are the calls of the store.
+//! - `add TEXT` and `times COUNT TEXT` add bytes to a request, `token WORD KID PAYLOAD` an Authorization field of that word with a signed token,
+//!   and `body TEXT` a length, the end of the head and a body.
+//! - `ask MOMENT READS WRITES` answers the request at that moment; the reads and the writes of these numbers fail (`-` for none). It prints the status,
+//!   the end, and what was written. `cuts MOMENT` prints how many of the request's first parts are cut, each shorter than it, with nothing written, and
+//!   how many are not. `forget` begins a request anew.
+//!
+//! In a text `\r`, `\n` and `\b` stand for CR, LF and a backslash. Only `#`, `ask` and `cuts` print a line.
+//!
+//! The expected answers were written from docs/FORMATS.md, "Requests", "Stream lines" and "Checksums".
+#![tactic(auto)]
+
+ghost use Rattle.serve_cases.specs.Standing.{IsStore};
+
+mod asking;
+mod stores;
+mod words;
+
+use ps_serve::Site;
+use ps_store::Store;
+use ps_token::{Keys, read_keys, sign};
+use ps_values::Text;
+use std::alloc::Global;
+use words::{Stop, cut, number, push_spelled};
+
+// One definition of all rows of one table.
+const GLOBAL: &str = "bucket_definitions:\n  global:\n    data:\n      - SELECT * FROM t\n";
+
+// Adds an Authorization field.
+fn push_token(alloc: Global, keys: &Keys, rest: &str, request: &mut Vec<u8>) -> Result<(), Stop> {
+    let (word, rest) = cut(rest);
+    let (kid, payload) = cut(rest);
+    let kid = Text::from_str(alloc, kid)?;
+    let payload = Text::from_str(alloc, payload)?;
+    let token = sign(alloc, keys, &kid, &payload)?;
+    request.extend_from_slice(b"Authorization: ")?;
+    request.extend_from_slice(word.as_bytes())?;
+    request.extend_from_slice(b" ")?;
+    request.extend_from_slice(token.bytes())?;
+    request.extend_from_slice(b"\r\n")?;
+    Ok(())
+}
+
+// Adds a length, the end of the head and a body.
+fn push_body(alloc: Global, text: &str, request: &mut Vec<u8>) -> Result<(), Stop> {
+    let length = format!(in alloc; "Content-Length: {}\r\n\r\n", text.len())?;
+    request.extend_from_slice(length.as_bytes())?;
+    request.extend_from_slice(text.as_bytes())?;
+    Ok(())
+}
+
+// Adds to the request; false where the word adds nothing.
+fn is_added(
+    alloc: Global,
+    keys: &Keys,
+    word: &str,
+    rest: &str,
+    request: &mut Vec<u8>,
+) -> Result<bool, Stop> {
+    match word {
+        "add" => push_spelled(rest, request)?,
+        "times" => {
+            let (count, text) = cut(rest);
+            'times: for _ in 0..number(count)? {
+                push_spelled(text, request)?;
+            }
+        }
+        "token" => push_token(alloc, keys, rest, request)?,
+        "body" => push_body(alloc, rest, request)?,
+        "forget" => request.clear(),
+        _ => return Ok(false),
+    }
+    Ok(true)
+}
+
+// The text that is spelled.
+fn text_of(alloc: Global, rest: &str) -> Result<String, Stop> {
+    let mut bytes = Vec::new(alloc);
+    push_spelled(rest, &mut bytes)?;
+    Ok(String::from_str(alloc, str::from_utf8(bytes.as_slice())?)?)
+}
+
+// Does a call that changes the store; false where the word names none.
+fn is_changed(alloc: Global, store: &mut Store, word: &str, rest: &str) -> Result<bool, Stop>
+    requires { IsStore store.old }
+    ensures { IsStore store.new }
+{
+    match word {
+        "feed" => stores::feed(alloc, store, rest)?,
+        "rows" => stores::feed_rows(alloc, store, number(rest)?)?,
+        "write" => stores::write(alloc, store)?,
+        "commit" => stores::commit(store)?,
+        "close" => stores::close(store),
+        _ => return Ok(false),
+    }
+    Ok(true)
+}
+
+// Prints the answer of a line that has one.
+fn answer(
+    alloc: Global,
+    site: &Site,
+    store: &mut Store,
+    request: &[u8],
+    line: &str,
+    out: &mut String,
+) -> Result<(), Stop>
+    requires { IsStore store.old }
+    ensures { IsStore store.new }
+{
+    let (word, rest) = cut(line);
+    match word {
+        "#" => out.push_str(line)?,
+        "ask" => asking::ask(alloc, site, store, request, rest, out)?,
+        "cuts" => asking::ask_cuts(alloc, site, store, request, rest, out)?,
+        _ => Err("no such case")?,
+    }
+    Ok(out.push_str("\n")?)
+}
+
+fn answer_all(rt: &HostRuntime) -> Result<(), Stop> {
+    let alloc = rt.alloc();
+    let mut rules = String::from_str(alloc, GLOBAL)?;
+    let mut store = stores::store_of(alloc, rules.as_str(), "")?;
+    let mut site = Site {
+        keys: read_keys(alloc, b"{\"keys\":[]}")?,
+        until_drained: true,
+    };
+    let mut request = Vec::new(alloc);
+    'lines: for line in rt.lines(alloc) {
+        let line = line?;
+        let (word, rest) = cut(line.as_str());
+        if word == "keys" {
+            site.keys = read_keys(alloc, rest.as_bytes())?;
+            continue;
+        }
+        if word == "rules" {
+            rules = text_of(alloc, rest)?;
+            continue;
+        }
+        if word == "store" {
+            store = stores::store_of(alloc, rules.as_str(), rest)?;
+            continue;
+        }
+        if is_added(alloc, &site.keys, word, rest, &mut request)? {
+            continue;
+        }
+        if is_changed(alloc, &mut store, word, rest)? {
+            continue;
+        }
+        let mut out = String::new(alloc);
+        answer(
+            alloc,
+            &site,
+            &mut store,
+            request.as_slice(),
+            line.as_str(),
+            &mut out,
+        )?;
+        print!(rt; "{}", out.as_str())?;
+    }
+    Ok(())
+}
+
+fn main(rt: HostRuntime) -> Result<(), &'static str> {
+    answer_all(&rt).ok().ok_or("a line has no answer")
+}
