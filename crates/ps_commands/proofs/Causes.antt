@@ -1,21 +1,22 @@
 -- Why a command ends as it does.
-use Rattle.std.proofs.Common.{◌≡◌, ℕ, ◌≤◌, true, false, List, [], ◌∷◌, Option, Some, None, Result, Ok, Err, refl, sym, ap, ◌∙◌, subst, arith, codes, bytes_eq, Vec, Bool, ◌&&◌, length, get_or}
+use Rattle.std.proofs.Common.{inl, inr, ◌≡◌, ℕ, ◌≤◌, true, false, List, [], ◌∷◌, Option, Some, None, Ok, Err, refl, sym, ap, ◌∙◌, subst, arith, codes, bytes_eq, Vec, Bool, ◌&&◌}
 use Rattle.std.specs.Prelude.{option_map, if◌then◌else◌}
 use Rattle.std.specs.declared.alloc.Global.{Global}
-use Rattle.ps_io.specs.Contents.{Contents, HoldsMore, Gains, GainsFront}
+use Rattle.ps_io.specs.Contents.{Contents, HoldsMore}
 use Rattle.ps_io.specs.Counts.{Rose}
 use Rattle.ps_rules.specs.RuleSets.{RuleSet}
 use Rattle.ps_sql_eval.specs.declared.askers.Asker.{Asker}
 use Rattle.ps_sql_eval.specs.Evaluated.{asker_of}
-use Rattle.ps_sql.specs.Meaning as meaning
 use Rattle.ps_token.specs.KeyLists.{key_of}
 use Rattle.ps_token.specs.declared.key_lists.Key.{Key}
 use Rattle.ps_commands.specs.declared.faults.Fault.{Fault}
-use Rattle.ps_commands.specs.declared.faults.Fault.TheVariants.{Usage, Rules, Change, PastLimit, TooManyBuckets, Claims, Keys, TooLong, CannotRead, CannotWrite, Memory}
-use Rattle.ps_commands.specs.Commands.{Names, Signing, Command, check, rows, token, generate_lines, count_of, command_of, file_limit, rules_limit, HoldsWithin, ReadsRules, ReadsAsker, ReadsChanges, ReadsKey, Role, for_rules, for_keys, for_claims, for_changes, limit_of, ReadsRulesAndClaims, Reaches, ComesTo, RefusesRules, RefusesKeys, RefusesClaims, RefusesChanges, MeansRows, Outside, Kept, Caused}
+use Rattle.ps_commands.specs.declared.faults.Fault.TheVariants.{Usage, Rules, Change, PastLimit, TooManyBuckets, Claims, Keys, TooLong, CannotRead, CannotWrite, Script, Memory}
+use Rattle.ps_commands.specs.Commands.{Names, Inputs, Signing, check, rows, compact, token, generate, generate_lines, count_of, command_of, file_limit, rules_limit, HoldsWithin, ReadsRules, ReadsAsker, ReadsKey, Role, for_rules, for_keys, for_claims, for_changes, limit_of, ReadsRulesAndClaims, Reaches, MeansRows, MeansCompact, Outside, Kept, Caused}
 use Rattle.ps_changes.specs.declared.changes.Transaction.{Transaction}
 use Rattle.ps_commands.specs.ChangeFiles.{transactions_of}
-use Rattle.ps_commands.specs.CheckpointBuckets.{Answers}
+use Rattle.ps_commands.specs.Dues.{Answers}
+use Rattle.ps_commands.specs.Compacting.{FindsReports, RefusesReports}
+use Rattle.ps_commands.specs.Generating.{generated, Summarizes}
 use Rattle.ps_commands.specs.Loading.{Prepares, Loads, FindsRules, IsRulesFault, FindsKey, IsKeysFault, FindsAsker, IsClaimsFault, FindsRows, RefusesRows}
 
 rose_later : (before mid now : ℕ) → before ≤ mid → Rose mid now → Rose before now
@@ -32,30 +33,38 @@ pub words_token : (word keys kid claims : List ℕ) → bytes_eq word (codes "ro
     → command_of (word ∷ keys ∷ kid ∷ claims ∷ []) ≡ Some (token (record { keys = keys; kid = kid; claims = claims }))
 words_token word keys kid claims other h = rw other (rw h refl)
 
-pub words_generate_lines : (word a b : List ℕ) (count : ℕ) → bytes_eq word (codes "generate") ≡ true → bytes_eq b (codes "lines") ≡ true → Some count ≡ count_of a
+pub words_compact : (word rules changes : List ℕ) → bytes_eq word (codes "compact") ≡ true
+    → command_of (word ∷ rules ∷ changes ∷ []) ≡ Some (compact (record { rules = rules; changes = changes }))
+words_compact word rules changes h = rw h refl
+
+pub words_generate : (word a : List ℕ) (count : ℕ) → bytes_eq word (codes "check") ≡ false → bytes_eq word (codes "generate") ≡ true → Some count ≡ count_of a
+    → command_of (word ∷ a ∷ []) ≡ Some (generate count)
+words_generate word a count other h is = rw other (rw h (ap (option_map generate) (sym is)))
+
+pub words_generate_lines : (word a b : List ℕ) (count : ℕ) → bytes_eq word (codes "compact") ≡ false → bytes_eq word (codes "generate") ≡ true → bytes_eq b (codes "lines") ≡ true → Some count ≡ count_of a
     → command_of (word ∷ a ∷ b ∷ []) ≡ Some (generate_lines count)
-words_generate_lines word a b count h k is = rw (h, k) (ap (option_map generate_lines) (sym is))
+words_generate_lines word a b count other h k is = rw other (rw (h, k) (ap (option_map generate_lines) (sym is)))
 
--- the same, word by word
-pub three_words : (ws : List (List ℕ)) (d e f : List ℕ) (count : ℕ) → length ws ≡ 3 → bytes_eq (get_or ws 0 d) (codes "generate") ≡ true → bytes_eq (get_or ws 2 f) (codes "lines") ≡ true → Some count ≡ count_of (get_or ws 1 e)
-    → command_of ws ≡ Some (generate_lines count)
-three_words [] d e f count n h k is = absurd (omega (arith, n))
-three_words (a ∷ []) d e f count n h k is = absurd (omega (arith, n))
-three_words (a ∷ b ∷ []) d e f count n h k is = absurd (omega (arith, n))
-three_words (a ∷ b ∷ x ∷ []) d e f count n h k is = words_generate_lines a b x count h k is
-three_words (a ∷ b ∷ x ∷ y ∷ more) d e f count n h k is = absurd (omega (arith, n))
+pub not_two : (word a : List ℕ) → bytes_eq word (codes "check") ≡ false → bytes_eq word (codes "generate") ≡ false → command_of (word ∷ a ∷ []) ≡ None
+not_two word a other h = rw other (rw h refl)
 
-pub not_generate : (word a b : List ℕ) → bytes_eq word (codes "generate") ≡ false → command_of (word ∷ a ∷ b ∷ []) ≡ None
-not_generate word a b h = rw h refl
+pub no_count_alone : (word a : List ℕ) → bytes_eq word (codes "check") ≡ false → None ≡ count_of a → command_of (word ∷ a ∷ []) ≡ None
+no_count_alone word a other is = rw other (by (bytes_eq word (codes "generate"))) where
+  by : (x : Bool) → (if x then option_map generate (count_of a) else None) ≡ None
+  by true = ap (option_map generate) (sym is)
+  by false = refl
 
-pub not_lines : (word a b : List ℕ) → bytes_eq b (codes "lines") ≡ false → command_of (word ∷ a ∷ b ∷ []) ≡ None
-not_lines word a b h = by (bytes_eq word (codes "generate")) where
+pub not_generate : (word a b : List ℕ) → bytes_eq word (codes "compact") ≡ false → bytes_eq word (codes "generate") ≡ false → command_of (word ∷ a ∷ b ∷ []) ≡ None
+not_generate word a b other h = rw other (rw h refl)
+
+pub not_lines : (word a b : List ℕ) → bytes_eq word (codes "compact") ≡ false → bytes_eq b (codes "lines") ≡ false → command_of (word ∷ a ∷ b ∷ []) ≡ None
+not_lines word a b other h = rw other (by (bytes_eq word (codes "generate"))) where
   by : (x : Bool) → (if x && bytes_eq b (codes "lines") then option_map generate_lines (count_of a) else None) ≡ None
   by true = rw h refl
   by false = refl
 
-pub no_count : (word a b : List ℕ) → None ≡ count_of a → command_of (word ∷ a ∷ b ∷ []) ≡ None
-no_count word a b is = by (bytes_eq word (codes "generate") && bytes_eq b (codes "lines")) where
+pub no_count : (word a b : List ℕ) → bytes_eq word (codes "compact") ≡ false → None ≡ count_of a → command_of (word ∷ a ∷ b ∷ []) ≡ None
+no_count word a b other is = rw other (by (bytes_eq word (codes "generate") && bytes_eq b (codes "lines"))) where
   by : (x : Bool) → (if x then option_map generate_lines (count_of a) else None) ≡ None
   by true = ap (option_map generate_lines) (sym is)
   by false = refl
@@ -79,12 +88,13 @@ module _ (o : Outside) (mid_held : Option Contents) (mid : ℕ) (words : List (L
   cause_of Finds Refuses why (TooLong seen) h = (kept, record { role = role; name = name; reached = reached; more = h.0; file = subst (λ x. HoldsMore x name (limit_of role)) same h.1 })
   cause_of Finds Refuses why (CannotRead file) h = (kept, record { role = role; reached = subst (Reaches o.held words role) (sym h.0) reached }, rose_later o.read_before mid o.read_now risen h.1)
   cause_of Finds Refuses why CannotWrite h = absurd h
-  cause_of Finds Refuses why Memory h = (kept, (reached.command, reached.is))
+  cause_of Finds Refuses why (Script place cause) h = absurd h
+  cause_of Finds Refuses why Memory h = inl (kept, (reached.command, reached.is))
 
 module _ (o : Outside) (words : List (List ℕ)) (name : List ℕ) (kept : Kept o) where
   pub rules_refused : Reaches o.held words for_rules name → (fault : Fault) (bytes : List ℕ) → HoldsWithin o.held name rules_limit bytes → IsRulesFault fault bytes → Caused o words fault
   rules_refused reached Usage bytes file h = absurd h
-  rules_refused reached (Rules line column why) bytes file h = (kept, record { name = name; reached = reached; bytes = bytes; file = file; refused = h })
+  rules_refused reached (Rules line column why) bytes file h = (kept, inl (record { name = name; reached = reached; bytes = bytes; file = file; refused = h }))
   rules_refused reached (Change line why) bytes file h = absurd h
   rules_refused reached (PastLimit limit) bytes file h = absurd h
   rules_refused reached (TooManyBuckets count) bytes file h = absurd h
@@ -93,6 +103,7 @@ module _ (o : Outside) (words : List (List ℕ)) (name : List ℕ) (kept : Kept 
   rules_refused reached (TooLong seen) bytes file h = absurd h
   rules_refused reached (CannotRead other) bytes file h = absurd h
   rules_refused reached CannotWrite bytes file h = absurd h
+  rules_refused reached (Script place cause) bytes file h = absurd h
   rules_refused reached Memory bytes file h = absurd h
 
   pub claims_refused : Reaches o.held words for_claims name → (fault : Fault) (bytes : List ℕ) → HoldsWithin o.held name file_limit bytes → IsClaimsFault fault bytes → Caused o words fault
@@ -106,6 +117,7 @@ module _ (o : Outside) (words : List (List ℕ)) (name : List ℕ) (kept : Kept 
   claims_refused reached (TooLong seen) bytes file h = absurd h
   claims_refused reached (CannotRead other) bytes file h = absurd h
   claims_refused reached CannotWrite bytes file h = absurd h
+  claims_refused reached (Script place cause) bytes file h = absurd h
   claims_refused reached Memory bytes file h = absurd h
 
 module _ (o : Outside) (words : List (List ℕ)) (names : Names) (kept : Kept o) (is : command_of words ≡ Some (rows names)) (rules : RuleSet) (asker : Asker)
@@ -116,11 +128,11 @@ module _ (o : Outside) (words : List (List ℕ)) (names : Names) (kept : Kept o)
   pub changes_refused : (fault : Fault) (bytes : List ℕ) → HoldsWithin o.held names.changes file_limit bytes → RefusesRows rules asker fault bytes → Caused o words fault
   changes_refused Usage bytes file h = absurd h
   changes_refused (Rules line column why) bytes file h = absurd h
-  changes_refused (Change line why) bytes file h = (kept, record { names = names; is = is; before = files_before; bytes = bytes; file = file; refused = h })
-  changes_refused (PastLimit limit) bytes file h = (kept, record { names = names; is = is; before = files_before; bytes = bytes; file = file; refused = h })
+  changes_refused (Change line why) bytes file h = (kept, inl (record { names = names; is = is; before = files_before; bytes = bytes; file = file; refused = h }))
+  changes_refused (PastLimit limit) bytes file h = (kept, inl (inl (record { names = names; is = is; before = files_before; bytes = bytes; file = file; refused = h })))
   changes_refused (TooManyBuckets count) bytes file h = (
     kept,
-    record {
+    inl (record {
       names = names;
       is = is;
       before = files_before;
@@ -128,14 +140,45 @@ module _ (o : Outside) (words : List (List ℕ)) (names : Names) (kept : Kept o)
       changes_read = record { bytes = bytes; file = file; read = h.read };
       count_is = h.count_is;
       more = h.more;
-    },
+    }),
   )
   changes_refused Claims bytes file h = absurd h
   changes_refused Keys bytes file h = absurd h
   changes_refused (TooLong seen) bytes file h = absurd h
   changes_refused (CannotRead other) bytes file h = absurd h
   changes_refused CannotWrite bytes file h = absurd h
+  changes_refused (Script place cause) bytes file h = absurd h
   changes_refused Memory bytes file h = absurd h
+
+module _ (o : Outside) (words : List (List ℕ)) (names : Inputs) (kept : Kept o) (is : command_of words ≡ Some (compact names)) (rules : RuleSet) (rules_read : ReadsRules o.held names.rules rules) where
+  pub reports_refused : (fault : Fault) (bytes : List ℕ) → HoldsWithin o.held names.changes file_limit bytes → RefusesReports rules fault bytes → Caused o words fault
+  reports_refused Usage bytes file h = absurd h
+  reports_refused (Rules line column why) bytes file h = absurd h
+  reports_refused (Change line why) bytes file h = (kept, inr (inl (record { names = names; is = is; rules = rules; rules_read = rules_read; bytes = bytes; file = file; refused = h })))
+  reports_refused (PastLimit limit) bytes file h = (kept, inl (inr (inl (record { names = names; is = is; rules = rules; rules_read = rules_read; bytes = bytes; file = file; refused = h }))))
+  reports_refused (TooManyBuckets count) bytes file h = absurd h
+  reports_refused Claims bytes file h = absurd h
+  reports_refused Keys bytes file h = absurd h
+  reports_refused (TooLong seen) bytes file h = absurd h
+  reports_refused (CannotRead other) bytes file h = absurd h
+  reports_refused CannotWrite bytes file h = absurd h
+  reports_refused (Script place cause) bytes file h = absurd h
+  reports_refused Memory bytes file h = absurd h
+
+-- what is made and has no summary
+pub made_refused : (o : Outside) (words : List (List ℕ)) (count : ℕ) → Kept o → command_of words ≡ Some (generate count) → (fault : Fault) → Summarizes (generated count) (Err fault) → Caused o words fault
+made_refused o words count kept is Usage h = absurd h
+made_refused o words count kept is (Rules line column why) h = (kept, inr (record { count = count; is = is; refused = h }))
+made_refused o words count kept is (Change line why) h = absurd h
+made_refused o words count kept is (PastLimit limit) h = (kept, inr (record { count = count; is = is; refused = h }))
+made_refused o words count kept is (TooManyBuckets buckets) h = (kept, inr (record { count = count; is = is; refused = h }))
+made_refused o words count kept is Claims h = absurd h
+made_refused o words count kept is Keys h = absurd h
+made_refused o words count kept is (TooLong seen) h = absurd h
+made_refused o words count kept is (CannotRead other) h = absurd h
+made_refused o words count kept is CannotWrite h = absurd h
+made_refused o words count kept is (Script place cause) h = absurd h
+made_refused o words count kept is Memory h = inl (kept, (generate count, is))
 
 pub keys_refused : (o : Outside) (words : List (List ℕ)) (names : Signing) → Kept o → command_of words ≡ Some (token names)
     → (fault : Fault) (bytes : List ℕ) → HoldsWithin o.held names.keys file_limit bytes → IsKeysFault names.kid fault bytes → Caused o words fault
@@ -149,6 +192,7 @@ keys_refused o words names kept is Keys bytes file h = (kept, record { names = n
 keys_refused o words names kept is (TooLong seen) bytes file h = absurd h
 keys_refused o words names kept is (CannotRead other) bytes file h = absurd h
 keys_refused o words names kept is CannotWrite bytes file h = absurd h
+keys_refused o words names kept is (Script place cause) bytes file h = absurd h
 keys_refused o words names kept is Memory bytes file h = absurd h
 
 -- ---- what was loaded
@@ -199,7 +243,25 @@ cause_of_rows o mid_held mid words names rules asker fault same risen kept is ru
     cause_of o mid_held mid words for_changes names.changes same risen kept reached (FindsRows rules asker) (RefusesRows rules asker)
     (changes_refused o words names kept is rules asker rules_read claims_read) fault h
 
+pub cause_of_reports : (o : Outside) (mid_held : Option Contents) (mid : ℕ) (words : List (List ℕ)) (names : Inputs) (rules : RuleSet) (fault : Fault) → mid_held ≡ o.held → o.read_before ≤ mid → Kept o
+    → command_of words ≡ Some (compact names) → ReadsRules o.held names.rules rules
+    → Loads {X = Vec ℕ Global} mid_held names.changes file_limit mid o.read_now (FindsReports rules) (RefusesReports rules) (Err fault) → Caused o words fault
+cause_of_reports o mid_held mid words names rules fault same risen kept is rules_read h =
+    let reached : Reaches o.held words for_changes names.changes = record { command = compact names; is = is; comes = (refl, rules, rules_read) } in
+    cause_of o mid_held mid words for_changes names.changes same risen kept reached (FindsReports rules) (RefusesReports rules) (reports_refused o words names kept is rules rules_read) fault h
+
 -- ---- what a command prints
+
+pub means_compact : (held mid_held : Option Contents) (mid now : ℕ) (names : Inputs) (rules : RuleSet) (text : Vec ℕ Global) → mid_held ≡ held
+    → ReadsRules held names.rules rules
+    → Loads mid_held names.changes file_limit mid now (FindsReports rules) (RefusesReports rules) (Ok text) → MeansCompact held names text.items
+means_compact held mid_held mid now names rules text same read h = record {
+  rules = rules;
+  transactions = h.2.transactions;
+  rules_read = read;
+  changes_read = record { bytes = h.0; file = subst (λ x. HoldsWithin x names.changes file_limit h.0) same h.1; read = h.2.read };
+  is = h.2.is;
+}
 
 pub means_rows : (held mid_held : Option Contents) (mid now : ℕ) (names : Names) (rules : RuleSet) (asker : Asker) (text : Vec ℕ Global) → mid_held ≡ held
     → ReadsRules held names.rules rules → ReadsAsker held names.claims (asker_of asker)
@@ -228,4 +290,5 @@ rows_refused rules asker bytes transactions read Keys h = absurd h
 rows_refused rules asker bytes transactions read (TooLong seen) h = absurd h
 rows_refused rules asker bytes transactions read (CannotRead name) h = absurd h
 rows_refused rules asker bytes transactions read CannotWrite h = absurd h
+rows_refused rules asker bytes transactions read (Script place cause) h = absurd h
 rows_refused rules asker bytes transactions read Memory h = tt

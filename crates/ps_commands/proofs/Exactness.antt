@@ -6,23 +6,26 @@ use Rattle.ps_io.specs.Contents.{Contents, HoldsMore, Gains}
 use Rattle.ps_io.specs.Counts.{Rose}
 use Rattle.ps_changes.specs.declared.changes.Transaction.{Transaction}
 use Rattle.ps_changes.specs.declared.shown.Shown.{Shown}
-use Rattle.ps_gen.specs.Made.{made_input}
 use Rattle.ps_rules.specs.RuleSets.{RuleSet}
 use Rattle.ps_sql.specs.Meaning.{Asker}
 use Rattle.ps_token.specs.declared.key_lists.Key.{Key}
 use Rattle.ps_commands.specs.declared.faults.Fault.{Fault}
-use Rattle.ps_commands.specs.declared.faults.Fault.TheVariants.{Usage, Rules, Change, PastLimit, TooManyBuckets, Claims, Keys, TooLong, CannotRead, CannotWrite, Memory}
+use Rattle.ps_commands.specs.declared.faults.Fault.TheVariants.{Usage, Rules, Change, PastLimit, TooManyBuckets, Claims, Keys, TooLong, CannotRead, CannotWrite, Script, Memory}
+use Rattle.ps_commands.specs.declared.faults.Limit.{Limit}
 use Rattle.ps_commands.specs.declared.faults.LineFault.{LineFault}
-use Rattle.ps_commands.specs.ChangeFiles.{transactions_of}
+use Rattle.ps_commands.specs.declared.faults.ScriptCause.{ScriptCause}
+use Rattle.ps_commands.specs.ChangeFiles.{transactions_of, all_transactions_of}
 use Rattle.ps_store.specs.Laws.{last_position}
 use Rattle.ps_store.specs.Limits.{usual_limits}
 use Rattle.ps_commands.specs.Checking.{check_text}
 use Rattle.ps_commands.specs.Claims.{asker_of_claims}
-use Rattle.ps_commands.specs.Commands.{Names, Signing, Command, check, rows, token, generate_lines, command_of, rules_limit, file_limit, HoldsWithin, ReadsRules, ReadsAsker, ReadsChanges, ReadsKey, key_of_file, token_text, Means, Prints, Role, for_rules, for_keys, for_claims, for_changes, limit_of, Reaches, ComesTo, RefusesRules, RefusesKeys, RefusesClaims, RefusesChanges, HasTooManyBuckets, ReadsRulesAndClaims, ExceedsFile, ExceedsLimit, IsNext, PrintsFront, Outside, Caused, status_of, Refusal, exceeds, refused, refusal_status, within_limit, or_refused, or_none, rules_meant, key_meant, asker_meant, transactions_meant, rows_meant, meaning, IsAnswer, IsExact, ◌>>=◌}
+use Rattle.ps_commands.specs.Commands.{Names, Inputs, Scripting, Signing, Command, check, rows, replay, compact, token, generate, generate_lines, command_of, rules_limit, file_limit, HoldsWithin, ReadsRules, ReadsAsker, ReadsChanges, ReadsTransactions, ReadsGame, ReadsKey, key_of_file, token_text, Means, Prints, Role, for_rules, for_keys, for_claims, for_changes, for_script, limit_of, Reaches, ComesTo, RefusesRules, RefusesKeys, RefusesClaims, RefusesChanges, RefusesCompaction, RefusesFed, RefusesScript, RefusesMade, RefusesLines, PassesLimit, ExceedsBuckets, HasTooManyBuckets, ExceedsFile, ExceedsLimit, IsNext, IsCommand, PrintsFront, PrintsSome, Kept, Outside, Caused, status_of, Refusal, exceeds, refused, refusal_status, within_limit, or_refused, or_none, rules_meant, key_meant, asker_meant, transactions_meant, rows_meant, all_meant, script_meant, Meant, prints, plays, printing, meaning, IsPlayed, IsAnswer, IsAnswerAlone, IsExact, ◌>>=◌}
 use Rattle.ps_commands.specs.Dues.{due, own_buckets}
+use Rattle.ps_commands.specs.Compacting.{compact_text}
+use Rattle.ps_commands.specs.Generating.{generated}
+use Rattle.ps_commands.specs.Replaying.{Game}
 use Rattle.ps_commands.specs.RulesFaults.{rules_of_file}
-use Rattle.ps_commands.specs.Saying.{Told, SaysFault}
-use Rattle.ps_commands.specs.Texts.{rows_text, lines_text}
+use Rattle.ps_commands.specs.Texts.{rows_text}
 
 same_value : {A : Type 0} (o : Option A) (a b : A) → o ≡ Some a → o ≡ Some b → a ≡ b
 same_value o a b h g = let e : Some a ≡ Some b = sym h ∙ g in cc
@@ -54,6 +57,12 @@ module _ (held : Contents) (name : List ℕ) where
   transactions_from : (rules : RuleSet) (bytes : List ℕ) → HoldsWithin (Some held) name file_limit bytes → transactions_meant held rules name ≡ or_refused (transactions_of rules bytes)
   transactions_from rules bytes file = ap (λ x. x >>= λ bytes. or_refused (transactions_of rules bytes)) (fits held name file_limit bytes file)
 
+  all_from_file : (bytes : List ℕ) → HoldsWithin (Some held) name file_limit bytes → all_meant held name ≡ or_refused (all_transactions_of bytes)
+  all_from_file bytes file = ap (λ x. x >>= λ bytes. or_refused (all_transactions_of bytes)) (fits held name file_limit bytes file)
+
+  all_are : (transactions : List Transaction) → ReadsTransactions (Some held) name transactions → all_meant held name ≡ Ok transactions
+  all_are transactions r = all_from_file r.bytes r.file ∙ ap or_refused r.read
+
   rules_are : (rules : RuleSet) → ReadsRules (Some held) name rules → rules_meant held name ≡ Ok rules
   rules_are rules r = rules_from r.bytes r.file ∙ ap or_refused r.read
 
@@ -71,13 +80,18 @@ module _ (held : Contents) (name : List ℕ) where
   IsRefusedIn for_rules refusal = rules_meant held name ≡ Err refusal
   IsRefusedIn for_keys refusal = (kid : List ℕ) → key_meant held name kid ≡ Err refusal
   IsRefusedIn for_claims refusal = asker_meant held name ≡ Err refusal
-  IsRefusedIn for_changes refusal = (rules : RuleSet) → transactions_meant held rules name ≡ Err refusal
+  IsRefusedIn for_changes refusal = ((rules : RuleSet) → transactions_meant held rules name ≡ Err refusal) × (all_meant held name ≡ Err refusal)
+  IsRefusedIn for_script refusal = script_meant held name ≡ Err refusal
 
   too_long : (role : Role) → HoldsMore (Some held) name (limit_of role) → IsRefusedIn role exceeds
   too_long for_rules more = ap (λ x. x >>= λ bytes. or_refused (rules_of_file bytes)) (exceeds_by held name rules_limit more)
   too_long for_keys more = λ kid. ap (λ x. x >>= λ bytes. or_none Keys (key_of_file kid bytes)) (exceeds_by held name file_limit more)
   too_long for_claims more = ap (λ x. x >>= λ bytes. or_none Claims (asker_of_claims bytes)) (exceeds_by held name file_limit more)
-  too_long for_changes more = λ rules. ap (λ x. x >>= λ bytes. or_refused (transactions_of rules bytes)) (exceeds_by held name file_limit more)
+  too_long for_changes more = (
+    λ rules. ap (λ x. x >>= λ bytes. or_refused (transactions_of rules bytes)) (exceeds_by held name file_limit more),
+    ap (λ x. x >>= λ bytes. or_refused (all_transactions_of bytes)) (exceeds_by held name file_limit more),
+  )
+  too_long for_script more = exceeds_by held name file_limit more
 
 -- the rows of an asker who has no more buckets than an asker may have, and of one who has
 rows_are : (rules : RuleSet) (asker : Asker) (transactions : List Transaction) → length (own_buckets rules asker transactions) ≤ usual_limits.buckets
@@ -96,23 +110,41 @@ too_many rules asker transactions count is more =
 
 -- ---- a command, file by file
 
-module _ (held : Contents) where
-  abbrev rows_left : Result (List Shown) Refusal → Result (List ℕ) Refusal
-  rows_left r = r >>= λ shown. Ok (rows_text shown)
+abbrev said : List ℕ → Result Meant Refusal
+said text = Ok (prints text)
 
-  abbrev changes_left : RuleSet → Asker → Result (List Transaction) Refusal → Result (List ℕ) Refusal
+module _ (held : Contents) where
+  abbrev rows_left : Result (List Shown) Refusal → Result Meant Refusal
+  rows_left r = r >>= λ shown. Ok (prints (rows_text shown))
+
+  abbrev changes_left : RuleSet → Asker → Result (List Transaction) Refusal → Result Meant Refusal
   changes_left rules asker r = r >>= λ transactions. rows_left (rows_meant rules asker transactions)
 
-  abbrev claims_left : RuleSet → Names → Result Asker Refusal → Result (List ℕ) Refusal
+  abbrev claims_left : RuleSet → Names → Result Asker Refusal → Result Meant Refusal
   claims_left rules names r = r >>= λ asker. changes_left rules asker (transactions_meant held rules names.changes)
 
-  abbrev rules_left : Names → Result RuleSet Refusal → Result (List ℕ) Refusal
+  abbrev rules_left : Names → Result RuleSet Refusal → Result Meant Refusal
   rules_left names r = r >>= λ rules. claims_left rules names (asker_meant held names.claims)
 
-  abbrev token_left : Key → Signing → Result Asker Refusal → Result (List ℕ) Refusal
-  token_left key names r = r >>= λ asker. Ok (token_text key names.kid asker)
+  abbrev script_left : RuleSet → List Transaction → Result (List ℕ) Refusal → Result Meant Refusal
+  script_left rules transactions r = r >>= λ script. Ok (plays (record { rules = rules; transactions = transactions; script = script }))
 
-  abbrev key_left : Signing → Result Key Refusal → Result (List ℕ) Refusal
+  abbrev fed_left : Scripting → RuleSet → Result (List Transaction) Refusal → Result Meant Refusal
+  fed_left names rules r = r >>= λ transactions. script_left rules transactions (script_meant held names.script)
+
+  abbrev replay_rules : Scripting → Result RuleSet Refusal → Result Meant Refusal
+  replay_rules names r = r >>= λ rules. fed_left names rules (all_meant held names.changes)
+
+  abbrev compact_left : RuleSet → Result (List Transaction) Refusal → Result Meant Refusal
+  compact_left rules r = r >>= λ transactions. Ok (prints (compact_text rules transactions))
+
+  abbrev compact_rules : Inputs → Result RuleSet Refusal → Result Meant Refusal
+  compact_rules names r = r >>= λ rules. compact_left rules (transactions_meant held rules names.changes)
+
+  abbrev token_left : Key → Signing → Result Asker Refusal → Result Meant Refusal
+  token_left key names r = r >>= λ asker. Ok (prints (token_text key names.kid asker))
+
+  abbrev key_left : Signing → Result Key Refusal → Result Meant Refusal
   key_left names r = r >>= λ key. token_left key names (asker_meant held names.claims)
 
   past_rules : (names : Names) (rules : RuleSet) → ReadsRules (Some held) names.rules rules → meaning held (rows names) ≡ claims_left rules names (asker_meant held names.claims)
@@ -122,58 +154,116 @@ module _ (held : Contents) where
       → meaning held (rows names) ≡ changes_left rules asker (transactions_meant held rules names.changes)
   past_claims names rules asker r a = past_rules names rules r ∙ ap (claims_left rules names) (asker_is held names.claims asker a)
 
+  past_scripting : (names : Scripting) (rules : RuleSet) → ReadsRules (Some held) names.rules rules → meaning held (replay names) ≡ fed_left names rules (all_meant held names.changes)
+  past_scripting names rules r = ap (replay_rules names) (rules_are held names.rules rules r)
+
+  past_fed : (names : Scripting) (rules : RuleSet) (transactions : List Transaction) → ReadsRules (Some held) names.rules rules → ReadsTransactions (Some held) names.changes transactions
+      → meaning held (replay names) ≡ script_left rules transactions (script_meant held names.script)
+  past_fed names rules transactions r t = past_scripting names rules r ∙ ap (fed_left names rules) (all_are held names.changes transactions t)
+
+  abbrev same_game : Game → Game
+  same_game game = record { rules = game.rules; transactions = game.transactions; script = game.script }
+
+  past_script : (names : Scripting) (game : Game) → ReadsGame (Some held) names game → meaning held (replay names) ≡ Ok (plays (same_game game))
+  past_script names game read =
+      past_fed names game.rules game.transactions read.rules_read read.changes_read
+      ∙ ap (script_left game.rules game.transactions) (fits held names.script file_limit game.script read.script_read)
+
+  past_inputs : (names : Inputs) (rules : RuleSet) → ReadsRules (Some held) names.rules rules → meaning held (compact names) ≡ compact_left rules (transactions_meant held rules names.changes)
+  past_inputs names rules r = ap (compact_rules names) (rules_are held names.rules rules r)
+
   past_key : (names : Signing) (key : Key) → ReadsKey (Some held) names.keys names.kid key → meaning held (token names) ≡ token_left key names (asker_meant held names.claims)
   past_key names key r = ap (key_left names) (key_is held names.keys names.kid key r)
 
   -- what a command prints is what its files mean
-  means_that : (command : Command) (text : List ℕ) → Means (Some held) command text → meaning held command ≡ Ok text
-  means_that (check name) text m = ap (λ r. r >>= λ rules. Ok (check_text rules)) (rules_are held name m.rules m.rules_read) ∙ ap Ok (sym m.is)
+  abbrev IsMeant : Command → List ℕ → Type 0
+  IsMeant command text = (m : Meant) × (meaning held command ≡ Ok m) × ((old new : Option (List ℕ)) → Gains old new text → IsAnswer (Ok m) old new 0)
+
+  a_text : (command : Command) (text : List ℕ) → meaning held command ≡ Ok (prints text) → IsMeant command text
+  a_text command text is = (prints text, is, λ old new gains. inl (refl, gains))
+
+  means_that : (command : Command) (text : List ℕ) → Means (Some held) command text → IsMeant command text
+  means_that (check name) text m = a_text (check name) text (ap (λ r. r >>= λ rules. Ok (prints (check_text rules))) (rules_are held name m.rules m.rules_read) ∙ ap said (sym m.is))
+  means_that (replay names) text m = (plays (same_game m.game), past_script names m.game m.read, λ old new gains. inl (refl, text, m.gives, gains))
   means_that (rows names) text m =
-      past_claims names m.rules m.asker m.rules_read m.claims_read
+      a_text (rows names) text (past_claims names m.rules m.asker m.rules_read m.claims_read
       ∙ ap (changes_left m.rules m.asker) (transactions_are held names.changes m.rules m.transactions m.changes_read)
       ∙ ap rows_left (rows_are m.rules m.asker m.transactions m.within)
-      ∙ ap Ok (sym m.is)
-  means_that (token names) text m = past_key names m.key m.key_read ∙ ap (token_left m.key names) (asker_is held names.claims m.asker m.claims_read) ∙ ap Ok (sym m.is)
-  means_that (generate_lines count) text m = ap Ok (sym m)
+      ∙ ap said (sym m.is))
+  means_that (compact names) text m =
+      a_text (compact names) text (past_inputs names m.rules m.rules_read
+      ∙ ap (compact_left m.rules) (transactions_are held names.changes m.rules m.transactions m.changes_read)
+      ∙ ap said (sym m.is))
+  means_that (token names) text m =
+      a_text (token names) text (past_key names m.key m.key_read ∙ ap (token_left m.key names) (asker_is held names.claims m.asker m.claims_read) ∙ ap said (sym m.is))
+  means_that (generate count) text m = a_text (generate count) text (ap (λ r. printing (or_refused r)) m)
+  means_that (generate_lines count) text m = a_text (generate_lines count) text (ap said (sym m))
 
   -- where the file that comes next is refused, so is the command
   refused_at : (command : Command) (role : Role) (name : List ℕ) (refusal : Refusal) → ComesTo (Some held) command role name → IsRefusedIn held name role refusal → meaning held command ≡ Err refusal
-  refused_at (check rules) for_rules name refusal h r = ap (λ r. r >>= λ rules. Ok (check_text rules)) (subst (λ n. rules_meant held n ≡ Err refusal) h r)
+  refused_at (check rules) for_rules name refusal h r = ap (λ r. r >>= λ rules. Ok (prints (check_text rules))) (subst (λ n. rules_meant held n ≡ Err refusal) h r)
   refused_at (check rules) for_keys name refusal h r = absurd h
   refused_at (check rules) for_claims name refusal h r = absurd h
   refused_at (check rules) for_changes name refusal h r = absurd h
+  refused_at (check rules) for_script name refusal h r = absurd h
   refused_at (rows names) for_rules name refusal h r = ap (rules_left names) (subst (λ n. rules_meant held n ≡ Err refusal) h r)
   refused_at (rows names) for_keys name refusal h r = absurd h
   refused_at (rows names) for_claims name refusal h r =
       past_rules names h.1 h.2 ∙ ap (claims_left h.1 names) (subst (λ n. asker_meant held n ≡ Err refusal) h.0 r)
   refused_at (rows names) for_changes name refusal h r =
-      past_claims names h.1.rules h.1.asker h.1.rules_read h.1.claims_read ∙ ap (changes_left h.1.rules h.1.asker) (subst (λ n. transactions_meant held h.1.rules n ≡ Err refusal) h.0 (r h.1.rules))
+      past_claims names h.1.rules h.1.asker h.1.rules_read h.1.claims_read ∙ ap (changes_left h.1.rules h.1.asker) (subst (λ n. transactions_meant held h.1.rules n ≡ Err refusal) h.0 (r.0 h.1.rules))
+  refused_at (rows names) for_script name refusal h r = absurd h
+  refused_at (replay names) for_rules name refusal h r = ap (replay_rules names) (subst (λ n. rules_meant held n ≡ Err refusal) h r)
+  refused_at (replay names) for_keys name refusal h r = absurd h
+  refused_at (replay names) for_claims name refusal h r = absurd h
+  refused_at (replay names) for_changes name refusal h r =
+      past_scripting names h.1 h.2 ∙ ap (fed_left names h.1) (subst (λ n. all_meant held n ≡ Err refusal) h.0 r.1)
+  refused_at (replay names) for_script name refusal h r =
+      past_fed names h.1.rules h.1.transactions h.1.rules_read h.1.changes_read
+      ∙ ap (script_left h.1.rules h.1.transactions) (subst (λ n. script_meant held n ≡ Err refusal) h.0 r)
+  refused_at (compact names) for_rules name refusal h r = ap (compact_rules names) (subst (λ n. rules_meant held n ≡ Err refusal) h r)
+  refused_at (compact names) for_keys name refusal h r = absurd h
+  refused_at (compact names) for_claims name refusal h r = absurd h
+  refused_at (compact names) for_changes name refusal h r =
+      past_inputs names h.1 h.2 ∙ ap (compact_left h.1) (subst (λ n. transactions_meant held h.1 n ≡ Err refusal) h.0 (r.0 h.1))
+  refused_at (compact names) for_script name refusal h r = absurd h
   refused_at (token names) for_rules name refusal h r = absurd h
   refused_at (token names) for_keys name refusal h r = ap (key_left names) (subst (λ n. key_meant held n names.kid ≡ Err refusal) h (r names.kid))
   refused_at (token names) for_claims name refusal h r = past_key names h.1 h.2 ∙ ap (token_left h.1 names) (subst (λ n. asker_meant held n ≡ Err refusal) h.0 r)
   refused_at (token names) for_changes name refusal h r = absurd h
+  refused_at (token names) for_script name refusal h r = absurd h
+  refused_at (generate count) role name refusal h r = absurd h
   refused_at (generate_lines count) role name refusal h r = absurd h
 
 -- ---- the answer is what the files mean
 
-wanting : (m : Result (List ℕ) Refusal) (old new : Option (List ℕ)) (status : ℕ) → status ≡ 8 → new ≡ old → IsAnswer m old new status
-wanting (Ok text) old new status h kept = inr (h, kept)
+wanting : (m : Result Meant Refusal) (old new : Option (List ℕ)) (status : ℕ) → status ≡ 8 → new ≡ old → IsAnswer m old new status
+wanting (Ok (prints text)) old new status h kept = inr (h, kept)
+wanting (Ok (plays game)) old new status h kept = inr (inr (h, inl kept))
 wanting (Err refusal) old new status h kept = inr (h, kept)
 
 -- the words are one command alone
-at_command : (held : Contents) (words : List (List ℕ)) (command own : Command) (m : Result (List ℕ) Refusal) (old new : Option (List ℕ)) (status : ℕ) → command_of words ≡ Some command → command_of words ≡ Some own
+at_command : (held : Contents) (words : List (List ℕ)) (command own : Command) (m : Result Meant Refusal) (old new : Option (List ℕ)) (status : ℕ) → command_of words ≡ Some command → command_of words ≡ Some own
     → meaning held own ≡ m → IsAnswer m old new status → IsAnswer (meaning held command) old new status
 at_command held words command own m old new status is other means h =
     subst (λ x. IsAnswer x old new status) (sym (ap (meaning held) (same_value (command_of words) command own is other) ∙ means)) h
 
--- a command that reads no file
-alone : (words : List (List ℕ)) (count : ℕ) (own : Command) (text : List ℕ) → command_of words ≡ Some (generate_lines count) → command_of words ≡ Some own → Means None own text → text ≡ lines_text (made_input count)
-alone words count own text is other means = subst (λ c. Means None c text) (same_value (command_of words) own (generate_lines count) other is) means
+-- a command that reads no file prints what it means
+alone : (command : Command) (text : List ℕ) (old new : Option (List ℕ)) → Means None command text → Gains old new text → IsAnswerAlone command old new 0
+alone (check name) text old new means gains = tt
+alone (rows names) text old new means gains = tt
+alone (replay names) text old new means gains = tt
+alone (compact names) text old new means gains = tt
+alone (token names) text old new means gains = tt
+alone (generate count) text old new means gains = rw means (inl (refl, gains))
+alone (generate_lines count) text old new means gains = inl (refl, subst (Gains old new) means gains)
 
 pub exact_ok : (held : Option Contents) (words : List (List ℕ)) (old new : Option (List ℕ)) → Prints held words old new → IsExact held words old new 0
-exact_ok None words old new p = λ count is. inl (refl, subst (Gains old new) (alone words count p.command p.text is p.is p.means) p.printed)
+exact_ok None words old new p = λ command is.
+    subst (λ c. IsAnswerAlone c old new 0) (same_value (command_of words) p.command command p.is is) (alone p.command p.text old new p.means p.printed)
 exact_ok (Some held) words old new p = λ command is.
-    at_command held words command p.command (Ok p.text) old new 0 is p.is (means_that held p.command p.text p.means) (inl (refl, p.printed))
+    let m = means_that held p.command p.text p.means in
+    at_command held words command p.command (Ok m.0) old new 0 is p.is m.1 (m.2 old new p.printed)
 
 abbrev outside : Contents → ℕ → ℕ → Option (List ℕ) → Option (List ℕ) → ℕ → ℕ → Outside
 outside held read_before read_now old new write_before write_now =
@@ -198,6 +288,44 @@ module _ (held : Contents) (words : List (List ℕ)) (command : Command) (is : c
       (past_claims held r.names b.rules b.asker b.rules_read b.claims_read
       ∙ ap (changes_left held b.rules b.asker) (transactions_from held r.names.changes b.rules r.bytes r.file ∙ ap or_refused r.refused)) (inl h)
 
+  compaction_answer : (fault : Fault) → RefusesCompaction (Some held) words fault → (status ≡ status_of fault) × (new ≡ old) → IsAnswer (meaning held command) old new status
+  compaction_answer fault r h =
+      at_command held words command (compact r.names) (Err (refused fault)) old new status is r.is
+      (past_inputs held r.names r.rules r.rules_read
+      ∙ ap (compact_left held r.rules) (transactions_from held r.names.changes r.rules r.bytes r.file ∙ ap or_refused r.refused)) (inl h)
+
+  made_answer : (fault : Fault) → RefusesMade words fault → (status ≡ status_of fault) × (new ≡ old) → IsAnswer (meaning held command) old new status
+  made_answer fault r h = at_command held words command (generate r.count) (Err (refused fault)) old new status is r.is (ap (λ r. printing (or_refused r)) r.refused) (inl h)
+
+  fed_answer : (fault : Fault) → RefusesFed (Some held) words fault → (status ≡ status_of fault) × (new ≡ old) → IsAnswer (meaning held command) old new status
+  fed_answer fault r h =
+      at_command held words command (replay r.names) (Err (refused fault)) old new status is r.is
+      (past_scripting held r.names r.rules r.rules_read
+      ∙ ap (fed_left held r.names r.rules) (all_from_file held r.names.changes r.bytes r.file ∙ ap or_refused r.refused)) (inl h)
+
+  game_answer : (names : Scripting) (game : Game) → command_of words ≡ Some (replay names) → ReadsGame (Some held) names game → IsPlayed game old new status → IsAnswer (meaning held command) old new status
+  game_answer names game own read h = at_command held words command (replay names) (Ok (plays (same_game held game))) old new status is own (past_script held names game read) h
+
+  script_answer : (line : ℕ) (why : ScriptCause) → RefusesScript (Some held) words line why old new → status ≡ 9 → IsAnswer (meaning held command) old new status
+  script_answer line why r s = game_answer r.names r.game r.is r.read (inr (inl (s, line, why, r.text, r.gives, r.printed)))
+
+  want_answer : ((new ≡ old) × IsCommand words) ⊎ PrintsSome (Some held) words old new → status ≡ 8 → IsAnswer (meaning held command) old new status
+  want_answer (inl k) s = wanting (meaning held command) old new status s k.0
+  want_answer (inr p) s = game_answer p.names p.begins.game p.is p.begins.read (inr (inr (s, inr (p.text, p.begins.gives, p.printed))))
+
+  lines_answer : (fault : Fault) → RefusesLines (Some held) words fault → (status ≡ status_of fault) × (new ≡ old) → IsAnswer (meaning held command) old new status
+  lines_answer fault (inl r) h = changes_answer fault r h
+  lines_answer fault (inr (inl r)) h = compaction_answer fault r h
+  lines_answer fault (inr (inr r)) h = fed_answer fault r h
+
+  passed_answer : (limit : Limit) → PassesLimit (Some held) words limit → (status ≡ 5) × (new ≡ old) → IsAnswer (meaning held command) old new status
+  passed_answer limit (inl r) h = lines_answer (PastLimit limit) r h
+  passed_answer limit (inr r) h = made_answer (PastLimit limit) r h
+
+  unruled_answer : (fault : Fault) → RefusesRules (Some held) words fault ⊎ RefusesMade words fault → (status ≡ status_of fault) × (new ≡ old) → IsAnswer (meaning held command) old new status
+  unruled_answer fault (inl r) h = rules_answer fault r h
+  unruled_answer fault (inr r) h = made_answer fault r h
+
   buckets_answer : (count : ℕ) → HasTooManyBuckets (Some held) words count → (status ≡ 5) × (new ≡ old) → IsAnswer (meaning held command) old new status
   buckets_answer count r h =
       let b = r.before in
@@ -205,6 +333,10 @@ module _ (held : Contents) (words : List (List ℕ)) (command : Command) (is : c
       (past_claims held r.names b.rules b.asker b.rules_read b.claims_read
       ∙ ap (changes_left held b.rules b.asker) (transactions_are held r.names.changes b.rules r.transactions r.changes_read)
       ∙ ap (rows_left held) (too_many b.rules b.asker r.transactions count r.count_is r.more)) (inl h)
+
+  many_answer : (count : ℕ) → ExceedsBuckets (Some held) words count → (status ≡ 5) × (new ≡ old) → IsAnswer (meaning held command) old new status
+  many_answer count (inl r) h = buckets_answer count r h
+  many_answer count (inr r) h = made_answer (TooManyBuckets count) r h
 
   keys_answer : RefusesKeys (Some held) words → (status ≡ 4) × (new ≡ old) → IsAnswer (meaning held command) old new status
   keys_answer r h =
@@ -217,51 +349,110 @@ module _ (held : Contents) (words : List (List ℕ)) (command : Command) (is : c
   answer_of : (read_before read_now write_before write_now : ℕ) → ¬ (Rose read_before read_now) → ¬ (Rose write_before write_now)
       → (fault : Fault) → Caused (outside held read_before read_now old new write_before write_now) words fault → status ≡ status_of fault → IsAnswer (meaning held command) old new status
   answer_of read_before read_now write_before write_now read written Usage c s = let wrong : Some command ≡ None = sym is ∙ c.1 in cc
-  answer_of read_before read_now write_before write_now read written (Rules line column why) c s = rules_answer (Rules line column why) c.1 (s, c.0)
-  answer_of read_before read_now write_before write_now read written (Change line why) c s = changes_answer (Change line why) c.1 (s, c.0)
-  answer_of read_before read_now write_before write_now read written (PastLimit limit) c s = changes_answer (PastLimit limit) c.1 (s, c.0)
-  answer_of read_before read_now write_before write_now read written (TooManyBuckets count) c s = buckets_answer count c.1 (s, c.0)
+  answer_of read_before read_now write_before write_now read written (Rules line column why) c s = unruled_answer (Rules line column why) c.1 (s, c.0)
+  answer_of read_before read_now write_before write_now read written (Change line why) c s = lines_answer (Change line why) c.1 (s, c.0)
+  answer_of read_before read_now write_before write_now read written (PastLimit limit) c s = passed_answer limit c.1 (s, c.0)
+  answer_of read_before read_now write_before write_now read written (TooManyBuckets count) c s = many_answer count c.1 (s, c.0)
   answer_of read_before read_now write_before write_now read written Claims c s = claims_answer c.1 (s, c.0)
   answer_of read_before read_now write_before write_now read written Keys c s = keys_answer c.1 (s, c.0)
   answer_of read_before read_now write_before write_now read written (TooLong seen) c s = limit_answer seen c.1 (s, c.0)
   answer_of read_before read_now write_before write_now read written (CannotRead name) c s = absurd (read c.2)
   answer_of read_before read_now write_before write_now read written CannotWrite c s = absurd (written c.1)
-  answer_of read_before read_now write_before write_now read written Memory c s = wanting (meaning held command) old new status s c.0
+  answer_of read_before read_now write_before write_now read written (Script line why) c s = script_answer line why c s
+  answer_of read_before read_now write_before write_now read written Memory c s = want_answer c s
 
--- a command that reads no file fails by the output or for want of memory
-module _ (words : List (List ℕ)) (count : ℕ) (is : command_of words ≡ Some (generate_lines count)) where
-  not_reached : (role : Role) (name : List ℕ) → Reaches None words role name → ⊥
-  not_reached role name r = subst (λ c. ComesTo None c role name) (same_value (command_of words) r.command (generate_lines count) r.is is) r.comes
+-- a command that reads no file fails by what it makes, by the output or for want of memory
+module _ (words : List (List ℕ)) (old new : Option (List ℕ)) (status : ℕ) where
+  abbrev ReadsNone : Command → Type 0
+  ReadsNone (check name) = ⊥
+  ReadsNone (rows names) = ⊥
+  ReadsNone (replay names) = ⊥
+  ReadsNone (compact names) = ⊥
+  ReadsNone (token names) = ⊥
+  ReadsNone (generate count) = Unit {0}
+  ReadsNone (generate_lines count) = Unit {0}
 
-  abbrev IsLines : Command → Type 0
-  IsLines (check name) = ⊥
-  IsLines (rows names) = ⊥
-  IsLines (token names) = ⊥
-  IsLines (generate_lines n) = Unit {0}
+  module _ (command : Command) (is : command_of words ≡ Some command) where
+    abbrev Answer : Type 0
+    Answer = IsAnswerAlone command old new status
 
-  not_other : (own : Command) → command_of words ≡ Some own → IsLines own
-  not_other own other = subst IsLines (same_value (command_of words) (generate_lines count) own is other) tt
+    -- what a command comes to that reads files says nothing of one that reads none
+    of_other : (own : Command) → command_of words ≡ Some own → (ReadsNone own → ⊥) → Answer
+    of_other own other none = by command (same_value (command_of words) own command other is) where
+      by : (c : Command) → own ≡ c → IsAnswerAlone c old new status
+      by (check name) e = tt
+      by (rows names) e = tt
+      by (replay names) e = tt
+      by (compact names) e = tt
+      by (token names) e = tt
+      by (generate count) e = absurd (none (subst ReadsNone (sym e) tt))
+      by (generate_lines count) e = absurd (none (subst ReadsNone (sym e) tt))
 
-  alone_answer : (read_before read_now : ℕ) (old new : Option (List ℕ)) (write_before write_now : ℕ) (status : ℕ) → ¬ (Rose read_before read_now) → ¬ (Rose write_before write_now)
-      → (fault : Fault) → Caused (record { held = None; read_before = read_before; read_now = read_now; taken_before = old; taken_now = new; write_before = write_before; write_now = write_now }) words fault → status ≡ status_of fault
-      → IsAnswer (Ok (lines_text (made_input count))) old new status
-  alone_answer read_before read_now old new write_before write_now status read written Usage c s = let wrong : Some (generate_lines count) ≡ None = sym is ∙ c.1 in cc
-  alone_answer read_before read_now old new write_before write_now status read written (Rules line column why) c s = absurd (not_reached for_rules c.1.name c.1.reached)
-  alone_answer read_before read_now old new write_before write_now status read written (Change line why) c s = absurd (not_other (rows c.1.names) c.1.is)
-  alone_answer read_before read_now old new write_before write_now status read written (PastLimit limit) c s = absurd (not_other (rows c.1.names) c.1.is)
-  alone_answer read_before read_now old new write_before write_now status read written (TooManyBuckets n) c s = absurd (not_other (rows c.1.names) c.1.is)
-  alone_answer read_before read_now old new write_before write_now status read written Claims c s = absurd (not_reached for_claims c.1.name c.1.reached)
-  alone_answer read_before read_now old new write_before write_now status read written Keys c s = absurd (not_other (token c.1.names) c.1.is)
-  alone_answer read_before read_now old new write_before write_now status read written (TooLong seen) c s = absurd (not_reached c.1.role c.1.name c.1.reached)
-  alone_answer read_before read_now old new write_before write_now status read written (CannotRead name) c s = absurd (read c.2)
-  alone_answer read_before read_now old new write_before write_now status read written CannotWrite c s = absurd (written c.1)
-  alone_answer read_before read_now old new write_before write_now status read written Memory c s = inr (s, c.0)
+    comes_to_none : (own : Command) (role : Role) (name : List ℕ) → ComesTo None own role name → ReadsNone own → ⊥
+    comes_to_none (check file) role name comes none = none
+    comes_to_none (rows names) role name comes none = none
+    comes_to_none (replay names) role name comes none = none
+    comes_to_none (compact names) role name comes none = none
+    comes_to_none (token names) role name comes none = none
+    comes_to_none (generate count) role name comes none = comes
+    comes_to_none (generate_lines count) role name comes none = comes
+
+    of_reached : (role : Role) (name : List ℕ) → Reaches None words role name → Answer
+    of_reached role name r = of_other r.command r.is (comes_to_none r.command role name r.comes)
+
+    of_made : (fault : Fault) → RefusesMade words fault → status ≡ status_of fault → new ≡ old → Answer
+    of_made fault r s kept = subst (λ c. IsAnswerAlone c old new status) (same_value (command_of words) (generate r.count) command r.is is) (rw r.refused (inl (s, kept)))
+
+    of_lines : (fault : Fault) → RefusesLines None words fault → Answer
+    of_lines fault (inl r) = of_other (rows r.names) r.is (λ none. none)
+    of_lines fault (inr (inl r)) = of_other (compact r.names) r.is (λ none. none)
+    of_lines fault (inr (inr r)) = of_other (replay r.names) r.is (λ none. none)
+
+    of_passed : (limit : Limit) → PassesLimit None words limit → status ≡ 5 → new ≡ old → Answer
+    of_passed limit (inl r) s kept = of_lines (PastLimit limit) r
+    of_passed limit (inr r) s kept = of_made (PastLimit limit) r s kept
+
+    of_buckets : (count : ℕ) → ExceedsBuckets None words count → status ≡ 5 → new ≡ old → Answer
+    of_buckets count (inl r) s kept = of_other (rows r.names) r.is (λ none. none)
+    of_buckets count (inr r) s kept = of_made (TooManyBuckets count) r s kept
+
+    of_rules : (fault : Fault) → RefusesRules None words fault ⊎ RefusesMade words fault → status ≡ status_of fault → new ≡ old → Answer
+    of_rules fault (inl r) s kept = of_reached for_rules r.name r.reached
+    of_rules fault (inr r) s kept = of_made fault r s kept
+
+    of_want : status ≡ 8 → new ≡ old → Answer
+    of_want s kept = by command where
+      by : (c : Command) → IsAnswerAlone c old new status
+      by (check name) = tt
+      by (rows names) = tt
+      by (replay names) = tt
+      by (compact names) = tt
+      by (token names) = tt
+      by (generate count) = wanting (printing (or_refused (generated count))) old new status s kept
+      by (generate_lines count) = inr (s, kept)
+
+    alone_answer : (read_before read_now : ℕ) (write_before write_now : ℕ) → ¬ (Rose read_before read_now) → ¬ (Rose write_before write_now)
+        → (fault : Fault) → Caused (record { held = None; read_before = read_before; read_now = read_now; taken_before = old; taken_now = new; write_before = write_before; write_now = write_now }) words fault → status ≡ status_of fault
+        → Answer
+    alone_answer read_before read_now write_before write_now read written Usage c s = let wrong : Some command ≡ None = sym is ∙ c.1 in cc
+    alone_answer read_before read_now write_before write_now read written (Rules line column why) c s = of_rules (Rules line column why) c.1 s c.0
+    alone_answer read_before read_now write_before write_now read written (Change line why) c s = of_lines (Change line why) c.1
+    alone_answer read_before read_now write_before write_now read written (PastLimit limit) c s = of_passed limit c.1 s c.0
+    alone_answer read_before read_now write_before write_now read written (TooManyBuckets n) c s = of_buckets n c.1 s c.0
+    alone_answer read_before read_now write_before write_now read written Claims c s = of_reached for_claims c.1.name c.1.reached
+    alone_answer read_before read_now write_before write_now read written Keys c s = of_other (token c.1.names) c.1.is (λ none. none)
+    alone_answer read_before read_now write_before write_now read written (TooLong seen) c s = of_reached c.1.role c.1.name c.1.reached
+    alone_answer read_before read_now write_before write_now read written (CannotRead name) c s = absurd (read c.2)
+    alone_answer read_before read_now write_before write_now read written CannotWrite c s = absurd (written c.1)
+    alone_answer read_before read_now write_before write_now read written (Script line why) c s = of_other (replay c.names) c.is (λ none. none)
+    alone_answer read_before read_now write_before write_now read written Memory (inl k) s = of_want s k.0
+    alone_answer read_before read_now write_before write_now read written Memory (inr p) s = of_other (replay p.names) p.is (λ none. none)
 
 pub exact_err : (held : Option Contents) (words : List (List ℕ)) (read_before read_now : ℕ) (old new : Option (List ℕ)) (write_before write_now : ℕ) (status : ℕ) (fault : Fault)
     → Caused (record { held = held; read_before = read_before; read_now = read_now; taken_before = old; taken_now = new; write_before = write_before; write_now = write_now }) words fault → status ≡ status_of fault
     → ¬ (Rose read_before read_now) → ¬ (Rose write_before write_now) → IsExact held words old new status
-exact_err None words read_before read_now old new write_before write_now status fault c s read written = λ count is.
-    alone_answer words count is read_before read_now old new write_before write_now status read written fault c s
+exact_err None words read_before read_now old new write_before write_now status fault c s read written = λ command is.
+    alone_answer words old new status command is read_before read_now write_before write_now read written fault c s
 exact_err (Some held) words read_before read_now old new write_before write_now status fault c s read written = λ command is.
     answer_of held words command is old new status read_before read_now write_before write_now read written fault c s
 
@@ -278,6 +469,7 @@ limits_by o words status Keys c s h = absurd (omega (arith, s, h))
 limits_by o words status (TooLong seen) c s h = inl (seen, c.1)
 limits_by o words status (CannotRead name) c s h = absurd (omega (arith, s, h))
 limits_by o words status CannotWrite c s h = absurd (omega (arith, s, h))
+limits_by o words status (Script place cause) c s h = absurd (omega (arith, s, h))
 limits_by o words status Memory c s h = absurd (omega (arith, s, h))
 
 -- ---- the cause of a status
@@ -293,6 +485,7 @@ claims_by o words status Keys c s h = inl c.1
 claims_by o words status (TooLong seen) c s h = absurd (omega (arith, s, h))
 claims_by o words status (CannotRead name) c s h = absurd (omega (arith, s, h))
 claims_by o words status CannotWrite c s h = absurd (omega (arith, s, h))
+claims_by o words status (Script place cause) c s h = absurd (omega (arith, s, h))
 claims_by o words status Memory c s h = absurd (omega (arith, s, h))
 
 pub unread_by : (o : Outside) (words : List (List ℕ)) (status : ℕ) (fault : Fault) → Caused o words fault → status ≡ status_of fault → status ≡ 6 → Rose o.read_before o.read_now × (name : List ℕ) × IsNext o.held words name
@@ -306,6 +499,7 @@ unread_by o words status Keys c s h = absurd (omega (arith, s, h))
 unread_by o words status (TooLong seen) c s h = absurd (omega (arith, s, h))
 unread_by o words status (CannotRead name) c s h = (c.2, name.now, c.1)
 unread_by o words status CannotWrite c s h = absurd (omega (arith, s, h))
+unread_by o words status (Script place cause) c s h = absurd (omega (arith, s, h))
 unread_by o words status Memory c s h = absurd (omega (arith, s, h))
 
 pub unwritten_by : (o : Outside) (words : List (List ℕ)) (status : ℕ) (fault : Fault) → Caused o words fault → status ≡ status_of fault → status ≡ 7 → Rose o.write_before o.write_now × PrintsFront o.held words o.taken_before o.taken_now
@@ -319,9 +513,10 @@ unwritten_by o words status Keys c s h = absurd (omega (arith, s, h))
 unwritten_by o words status (TooLong seen) c s h = absurd (omega (arith, s, h))
 unwritten_by o words status (CannotRead name) c s h = absurd (omega (arith, s, h))
 unwritten_by o words status CannotWrite c s h = (c.1, c.0)
+unwritten_by o words status (Script place cause) c s h = absurd (omega (arith, s, h))
 unwritten_by o words status Memory c s h = absurd (omega (arith, s, h))
 
-pub changes_by : (o : Outside) (words : List (List ℕ)) (status : ℕ) (fault : Fault) → Caused o words fault → status ≡ status_of fault → status ≡ 3 → (line : ℕ) × (why : LineFault) × RefusesChanges o.held words (Change line why)
+pub changes_by : (o : Outside) (words : List (List ℕ)) (status : ℕ) (fault : Fault) → Caused o words fault → status ≡ status_of fault → status ≡ 3 → (line : ℕ) × (why : LineFault) × RefusesLines o.held words (Change line why)
 changes_by o words status Usage c s h = absurd (omega (arith, s, h))
 changes_by o words status (Rules line column why) c s h = absurd (omega (arith, s, h))
 changes_by o words status (Change line why) c s h = (line, why, c.1)
@@ -332,4 +527,102 @@ changes_by o words status Keys c s h = absurd (omega (arith, s, h))
 changes_by o words status (TooLong seen) c s h = absurd (omega (arith, s, h))
 changes_by o words status (CannotRead name) c s h = absurd (omega (arith, s, h))
 changes_by o words status CannotWrite c s h = absurd (omega (arith, s, h))
+changes_by o words status (Script place cause) c s h = absurd (omega (arith, s, h))
 changes_by o words status Memory c s h = absurd (omega (arith, s, h))
+
+pub script_by : (o : Outside) (words : List (List ℕ)) (status : ℕ) (fault : Fault) → Caused o words fault → status ≡ status_of fault → status ≡ 9 → (line : ℕ) × (why : ScriptCause) × RefusesScript o.held words line why o.taken_before o.taken_now
+script_by o words status Usage c s h = absurd (omega (arith, s, h))
+script_by o words status (Rules line column why) c s h = absurd (omega (arith, s, h))
+script_by o words status (Change line why) c s h = absurd (omega (arith, s, h))
+script_by o words status (PastLimit limit) c s h = absurd (omega (arith, s, h))
+script_by o words status (TooManyBuckets count) c s h = absurd (omega (arith, s, h))
+script_by o words status Claims c s h = absurd (omega (arith, s, h))
+script_by o words status Keys c s h = absurd (omega (arith, s, h))
+script_by o words status (TooLong seen) c s h = absurd (omega (arith, s, h))
+script_by o words status (CannotRead name) c s h = absurd (omega (arith, s, h))
+script_by o words status CannotWrite c s h = absurd (omega (arith, s, h))
+script_by o words status (Script line why) c s h = (line, why, c)
+script_by o words status Memory c s h = absurd (omega (arith, s, h))
+
+-- ---- what was printed
+
+pub early_by : (o : Outside) (words : List (List ℕ)) (status : ℕ) (fault : Fault) → Caused o words fault → status ≡ status_of fault → status ≡ 8 → (Kept o) ⊎ PrintsSome o.held words o.taken_before o.taken_now
+early_by o words status Usage c s h = absurd (omega (arith, s, h))
+early_by o words status (Rules line column why) c s h = absurd (omega (arith, s, h))
+early_by o words status (Change line why) c s h = absurd (omega (arith, s, h))
+early_by o words status (PastLimit limit) c s h = absurd (omega (arith, s, h))
+early_by o words status (TooManyBuckets count) c s h = absurd (omega (arith, s, h))
+early_by o words status Claims c s h = absurd (omega (arith, s, h))
+early_by o words status Keys c s h = absurd (omega (arith, s, h))
+early_by o words status (TooLong seen) c s h = absurd (omega (arith, s, h))
+early_by o words status (CannotRead name) c s h = absurd (omega (arith, s, h))
+early_by o words status CannotWrite c s h = absurd (omega (arith, s, h))
+early_by o words status (Script line why) c s h = absurd (omega (arith, s, h))
+early_by o words status Memory (inl k) s h = inl k.0
+early_by o words status Memory (inr p) s h = inr p
+
+pub kept_by : (o : Outside) (words : List (List ℕ)) (status : ℕ) (fault : Fault) → Caused o words fault → status ≡ status_of fault → ¬ (status ≡ 7) → ¬ (status ≡ 8) → ¬ (status ≡ 9) → Kept o
+kept_by o words status Usage c s seven eight nine = c.0
+kept_by o words status (Rules line column why) c s seven eight nine = c.0
+kept_by o words status (Change line why) c s seven eight nine = c.0
+kept_by o words status (PastLimit limit) c s seven eight nine = c.0
+kept_by o words status (TooManyBuckets count) c s seven eight nine = c.0
+kept_by o words status Claims c s seven eight nine = c.0
+kept_by o words status Keys c s seven eight nine = c.0
+kept_by o words status (TooLong seen) c s seven eight nine = c.0
+kept_by o words status (CannotRead name) c s seven eight nine = c.0
+kept_by o words status CannotWrite c s seven eight nine = absurd (seven s)
+kept_by o words status (Script line why) c s seven eight nine = absurd (nine s)
+kept_by o words status Memory c s seven eight nine = absurd (eight s)
+
+-- ---- words that are no command
+
+pub usage_by : (o : Outside) (words : List (List ℕ)) (status : ℕ) (fault : Fault) → Caused o words fault → status ≡ status_of fault → status ≡ 1 → command_of words ≡ None
+usage_by o words status Usage c s h = c.1
+usage_by o words status (Rules line column why) c s h = absurd (omega (arith, s, h))
+usage_by o words status (Change line why) c s h = absurd (omega (arith, s, h))
+usage_by o words status (PastLimit limit) c s h = absurd (omega (arith, s, h))
+usage_by o words status (TooManyBuckets count) c s h = absurd (omega (arith, s, h))
+usage_by o words status Claims c s h = absurd (omega (arith, s, h))
+usage_by o words status Keys c s h = absurd (omega (arith, s, h))
+usage_by o words status (TooLong seen) c s h = absurd (omega (arith, s, h))
+usage_by o words status (CannotRead name) c s h = absurd (omega (arith, s, h))
+usage_by o words status CannotWrite c s h = absurd (omega (arith, s, h))
+usage_by o words status (Script line why) c s h = absurd (omega (arith, s, h))
+usage_by o words status Memory c s h = absurd (omega (arith, s, h))
+
+module _ (held : Option Contents) (words : List (List ℕ)) (none : command_of words ≡ None) where
+  not_any : (command : Command) → command_of words ≡ Some command → ⊥
+  not_any command is = let wrong : Some command ≡ None = sym is ∙ none in absurd (cc)
+
+  not_lines : (fault : Fault) → RefusesLines held words fault → ⊥
+  not_lines fault (inl r) = not_any (rows r.names) r.is
+  not_lines fault (inr (inl r)) = not_any (compact r.names) r.is
+  not_lines fault (inr (inr r)) = not_any (replay r.names) r.is
+
+  not_rules : (fault : Fault) → RefusesRules held words fault ⊎ RefusesMade words fault → ⊥
+  not_rules fault (inl r) = not_any r.reached.command r.reached.is
+  not_rules fault (inr r) = not_any (generate r.count) r.is
+
+  not_past : (limit : Limit) → PassesLimit held words limit → ⊥
+  not_past limit (inl r) = not_lines (PastLimit limit) r
+  not_past limit (inr r) = not_any (generate r.count) r.is
+
+  not_many : (count : ℕ) → ExceedsBuckets held words count → ⊥
+  not_many count (inl r) = not_any (rows r.names) r.is
+  not_many count (inr r) = not_any (generate r.count) r.is
+
+pub no_command : (o : Outside) (words : List (List ℕ)) (status : ℕ) (fault : Fault) → Caused o words fault → status ≡ status_of fault → command_of words ≡ None → status ≡ 1
+no_command o words status Usage c s none = s
+no_command o words status (Rules line column why) c s none = absurd (not_rules o.held words none (Rules line column why) c.1)
+no_command o words status (Change line why) c s none = absurd (not_lines o.held words none (Change line why) c.1)
+no_command o words status (PastLimit limit) c s none = absurd (not_past o.held words none limit c.1)
+no_command o words status (TooManyBuckets count) c s none = absurd (not_many o.held words none count c.1)
+no_command o words status Claims c s none = absurd (not_any o.held words none c.1.reached.command c.1.reached.is)
+no_command o words status Keys c s none = absurd (not_any o.held words none (token c.1.names) c.1.is)
+no_command o words status (TooLong seen) c s none = absurd (not_any o.held words none c.1.reached.command c.1.reached.is)
+no_command o words status (CannotRead name) c s none = absurd (not_any o.held words none c.1.reached.command c.1.reached.is)
+no_command o words status CannotWrite c s none = absurd (not_any o.held words none c.0.command c.0.is)
+no_command o words status (Script line why) c s none = absurd (not_any o.held words none (replay c.names) c.is)
+no_command o words status Memory (inl k) s none = absurd (not_any o.held words none k.1.0 k.1.1)
+no_command o words status Memory (inr p) s none = absurd (not_any o.held words none (replay p.names) p.is)

@@ -1,16 +1,19 @@
 -- The lines of faults, from their pieces.
-use Rattle.std.proofs.Common.{◌≡◌, ℕ, List, [], ◌++◌, Option, Some, None, sym, ap, ◌∙◌, append_assoc, codes, decimal}
-use Rattle.std.proofs.lemmas.List.{append-nil}
-use Rattle.ps_commands.specs.declared.faults.Fault.TheVariants.{Rules, Change}
+use Rattle.std.proofs.Common.{◌≡◌, ℕ, List, ◌++◌, Some, None, sym, ap, ◌∙◌, append_assoc, codes, decimal}
+use Rattle.ps_commands.specs.declared.faults.Fault.TheVariants.{Rules, Change, Script}
 use Rattle.ps_commands.specs.declared.faults.LineFault.{LineFault}
 use Rattle.ps_commands.specs.declared.faults.LineFault.TheVariants.{NotRising}
 use Rattle.ps_commands.specs.declared.faults.RulesCause.{RulesCause}
+use Rattle.ps_commands.specs.declared.faults.ScriptCause.{ScriptCause}
 use Rattle.ps_commands.specs.Commands.{fault_line}
 use Rattle.ps_commands.specs.RulesFaults.{cause_text}
-use Rattle.ps_commands.specs.Saying.{end_of_line, IsCauseText}
+use Rattle.ps_commands.specs.Saying.{end_of_line, end_of_script, IsCauseText}
 
 pub change_line : (line : ℕ) (why : LineFault) → codes "powersync: change " ++ (decimal line ++ end_of_line why) ≡ fault_line (Change line why)
 change_line line why = simp append_assoc
+
+pub script_line : (line : ℕ) (why : ScriptCause) → codes "powersync: script " ++ (decimal line ++ end_of_script why) ≡ fault_line (Script line why)
+script_line line why = simp append_assoc
 
 four_more : (a b c d e : List ℕ) → (a ++ b ++ c ++ d) ++ e ≡ a ++ (b ++ (c ++ (d ++ e)))
 four_more a b c d e = simp append_assoc

@@ -1,9 +1,8 @@
 -- Made transactions may be written.
-use Rattle.std.proofs.Common.{◌≡◌, ◌≢◌, ℕ, zero, suc, ◌+◌, ◌*◌, ◌%◌, ◌≤◌, Bool, true, false, cond, List, [], ◌∷◌, eqb, length, get_or, arith, codes, subst, Some, None}
+use Rattle.std.proofs.Common.{◌≢◌, ℕ, zero, suc, ◌+◌, ◌*◌, ◌%◌, ◌≤◌, Bool, true, false, cond, [], eqb, arith, codes, Some, None}
 use Rattle.std.specs.List.{All}
 use Rattle.std.proofs.lemmas.List.Elements.{All-nil, All-cons}
 use Rattle.ps_changes.specs.declared.changes.Change.{Change}
-use Rattle.ps_changes.specs.declared.changes.Transaction.{Transaction}
 use Rattle.ps_changes.specs.Writing.{IsWritable}
 use Rattle.ps_gen.specs.Made.{row_id, made_columns, made_change, made_transaction, made_from, made_input}
 use Rattle.ps_commands.specs.Commands.{made_limit}

@@ -1,19 +1,17 @@
 -- Changes that are fed and not written, and which of them passes a limit.
-use Rattle.std.proofs.Common.{◌≡◌, ℕ, zero, suc, ◌+◌, ◌-◌, ◌≤◌, ◌<◌, Bool, true, false, cond, List, [], ◌∷◌, ◌++◌, Option, Some, None, refl, sym, ap, ◌∙◌, subst, length, take, drop, fold, map, filter, bytes_eq, arith, append_assoc, append-nil, length-append}
+use Rattle.std.proofs.Common.{◌≡◌, ℕ, zero, suc, ◌+◌, ◌≤◌, ◌<◌, Bool, true, false, cond, List, [], ◌∷◌, ◌++◌, Option, Some, None, refl, sym, ap, ◌∙◌, length, take, drop, fold, map, filter, bytes_eq, arith, append_assoc, append-nil, length-append}
 use Rattle.std.specs.Prelude.{nat_lt, if◌then◌else◌}
 use Rattle.std.proofs.lemmas.Bool.Decides.{nat_tests}
-use Rattle.ps_changes.specs.declared.changes.Change.{Change}
-use Rattle.ps_changes.specs.declared.changes.Transaction.{Transaction}
 use Rattle.ps_changes.specs.Source.{Source}
 use Rattle.ps_rules.specs.declared.definitions.Definition.{Definition}
 use Rattle.ps_rules.specs.RuleSets.{RuleSet}
 use Rattle.ps_store.specs.declared.events.Event.{Event}
 use Rattle.ps_store.specs.declared.entered.Entered.{Entered}
 use Rattle.ps_store.specs.Histories.{Tells}
-use Rattle.ps_store.specs.Ledgers.{Ledger, fresh, unwritten, entries_after, next_ops, write_next, ledger_after, ledger_of, CanCome, IsLegalFrom}
+use Rattle.ps_store.specs.Ledgers.{Ledger, fresh, entries_after, next_ops, write_next, ledger_after, ledger_of, CanCome, IsLegalFrom}
 use Rattle.ps_store.specs.Limits.{usual_limits}
 use Rattle.ps_store.specs.Originals.{Timed, timed, key_of, after, entries_at, change_ops, ops_from, in_bucket}
-use Rattle.ps_store.specs.Runs.{Run, refusal_of, run_from, stopped}
+use Rattle.ps_store.specs.Runs.{refusal_of, run_from, stopped}
 use Rattle.ps_commands.specs.declared.faults.Limit.{Limit}
 use Rattle.ps_commands.specs.declared.faults.Limit.TheVariants.{Entries, Operations}
 use Rattle.ps_commands.specs.ChangeFiles.{operations_of, passed_by, first_passed, first_of}
@@ -152,6 +150,15 @@ module _ (rules : RuleSet) (before : List Timed) (l : Ledger) (k : Knows rules b
   passes_none : refusal_of usual_limits l t ≡ None → passed_by rules.definitions before t ≡ None
   passes_none h = passed_is ∙ by_none is_wide is_full _ _ h
 
+  -- what passes none is not refused
+  not_by : {R : Type 0} (wide full : Bool) (a b : R) → tested wide full l.last ≡ None → (if wide then Some a else if full then Some b else None) ≡ None
+  not_by true full a b h = absurd (cc)
+  not_by false true a b h = absurd (cc)
+  not_by false false a b h = refl
+
+  pub not_refused : passed_by rules.definitions before t ≡ None → refusal_of usual_limits l t ≡ None
+  not_refused h = not_by is_wide is_full _ _ (sym passed_is ∙ h)
+
 -- ---- a run of changes
 
 -- none of changes passes a limit
@@ -182,6 +189,23 @@ run_passes (u ∷ us) (suc m) (suc n) rules before l c k h =
       | Some refusal ↦ λ is g. absurd (omega (arith, g))
     ] refl h
 
+none_first : (a b : Option Limit) → first_of a b ≡ None → (a ≡ None) × (b ≡ None)
+none_first None b h = (refl, h)
+none_first (Some limit) b h = absurd (cc)
+
+-- where none passes a limit, a run goes to its end
+pub run_whole : (us : List Timed) (limit : ℕ) (rules : RuleSet) (before : List Timed) (l : Ledger) (c : ℕ) → Knows rules before l → first_passed rules.definitions before us ≡ None
+    → (run_from usual_limits l c (take limit us)).count ≡ c + length (take limit us)
+run_whole [] zero rules before l c k none = omega arith
+run_whole [] (suc m) rules before l c k none = omega arith
+run_whole (u ∷ us) zero rules before l c k none = omega arith
+run_whole (u ∷ us) (suc m) rules before l c k none =
+    let both = none_first (passed_by rules.definitions before u) (first_passed rules.definitions (before ++ u ∷ []) us) none in
+    let on = run_whole us m rules (before ++ u ∷ []) (write_next l u) (c + 1) (knows_more rules before l k u) both.1 in
+    let goes : (run_from usual_limits l c (u ∷ take m us)).count ≡ (run_from usual_limits (write_next l u) (c + 1) (take m us)).count =
+    ap (λ r. (stopped l c r (run_from usual_limits (write_next l u) (c + 1) (take m us))).count) (not_refused rules before l k u both.0) in
+    goes ∙ on ∙ omega arith
+
 pub passed_later : (definitions : List Definition) (n : ℕ) (before us : List Timed) → NonePasses definitions before (take n us)
     → first_passed definitions (before ++ take n us) (drop n us) ≡ first_passed definitions before us
 passed_later definitions zero before us none = ap (λ (b : List Timed). first_passed definitions b us) (append-nil before)
@@ -205,6 +229,7 @@ pub record Follows (l new : Ledger) (n : ℕ) : Type 0 where
   pub fed : new.fed ≡ l.fed
   pub closed : new.closed ≡ l.closed
   pub written : new.written ≡ l.written + n
+  pub position : new.position ≡ l.position
   pub plain : IsPlain l → IsPlain new
 
 in_bucket_more : (bucket : List ℕ) (xs ys : List Entered) → in_bucket bucket (xs ++ ys) ≡ in_bucket bucket xs ++ in_bucket bucket ys
@@ -219,10 +244,10 @@ plain_next : (l : Ledger) (t : Timed) → IsPlain l → IsPlain (write_next l t)
 plain_next l t plain bucket = ap (λ ops. ops ++ in_bucket bucket (next_ops l t)) (plain bucket) ∙ sym (in_bucket_more bucket l.entered (next_ops l t))
 
 pub written_on : (ts : List Timed) (l : Ledger) → Follows l (fold write_next l ts) (length ts)
-written_on [] l = record { fed = refl; closed = refl; written = omega arith; plain = λ plain. plain }
+written_on [] l = record { fed = refl; closed = refl; written = omega arith; position = refl; plain = λ plain. plain }
 written_on (t ∷ ts) l =
     let on = written_on ts (write_next l t) in
-    record { fed = on.fed; closed = on.closed; written = omega (arith, on.written); plain = λ plain. on.plain (plain_next l t plain) }
+    record { fed = on.fed; closed = on.closed; written = omega (arith, on.written); position = on.position; plain = λ plain. on.plain (plain_next l t plain) }
 
 -- what is told of a history is known
 pub known : (rules : RuleSet) (history : List Event) (l : Ledger) → Tells rules history l → Knows rules (take l.written (timed l.fed)) l

@@ -1,5 +1,5 @@
 -- How far a change file has been read and written.
-use Rattle.std.proofs.Common.{◌≡◌, ℕ, ◌+◌, ◌-◌, ◌<◌, ◌≤◌, Bool, true, false, cond, List, [], ◌∷◌, ◌++◌, Option, Some, None, Result, Ok, Err, length, take, drop, refl, sym, ap, ◌∙◌, arith, append_assoc, append-nil, length-append, subst, fold, ltb, leb, Bor}
+use Rattle.std.proofs.Common.{◌≡◌, ℕ, ◌+◌, ◌-◌, ◌<◌, ◌≤◌, Bool, true, false, cond, List, [], ◌∷◌, ◌++◌, Option, Some, None, Result, Ok, Err, length, take, drop, refl, sym, ap, ◌∙◌, arith, append_assoc, append-nil, length-append, length-take, min, subst, fold, ltb, leb, Bor}
 use Rattle.std.specs.Prelude.{MatchOption}
 use Rattle.std.proofs.lemmas.Bool.{ltb-true, le-leb}
 use Rattle.ps_changes.specs.declared.changes.Change.{Change as ChangeData}
@@ -22,13 +22,15 @@ use Rattle.ps_store.specs.Originals.{Timed, timed, timed_from}
 use Rattle.ps_store.specs.Runs.{run_from}
 use Rattle.ps_store.specs.Stores.{StoreStandsFor, IsRefused, Commits, next_run}
 use Rattle.ps_commands.specs.declared.faults.Fault.{Fault}
-use Rattle.ps_commands.specs.declared.faults.Fault.TheVariants.{Usage, Rules, Change, PastLimit, TooManyBuckets, Claims, Keys, TooLong, CannotRead, CannotWrite, Memory}
+use Rattle.ps_commands.specs.declared.faults.Fault.TheVariants.{Usage, Rules, Change, PastLimit, TooManyBuckets, Claims, Keys, TooLong, CannotRead, CannotWrite, Script, Memory}
 use Rattle.ps_commands.specs.declared.faults.Limit.{Limit}
 use Rattle.ps_commands.specs.declared.faults.Limit.TheVariants.{Entries, Operations}
 use Rattle.ps_commands.specs.declared.faults.LineFault.TheVariants.{NotRising}
 use Rattle.ps_commands.specs.ChangeFiles.{lines_of, is_blank, rising, passed_by, first_passed, first_of, unless_passed, within_limits, accepted, transactions_from, transactions_of, ◌>>=◌}
-use Rattle.ps_commands.specs.ReadingChanges.{usual, IsPlain, IsPending, HasCommitted, HasWritten, WritesSome, WritesAll, TakesLine, Writes, ReadsRising, lines_left, bytes_left}
-use Rattle.ps_commands.proofs.Pending.{drop_drop, take_on, length_take, length_drop, drop_front, take_front, Knows, passes_entries, passes_ops, run_passes, passed_later, ledger_more, could_come, Follows, written_on, known}
+use Rattle.ps_commands.specs.ReadingChanges.{usual, IsPlain, IsPending, HasCommitted, HasWritten, WritesSome, WritesAll, TakesLine, Writes, ReadsRising, AreValid, lines_left, bytes_left}
+use Rattle.ps_commands.specs.Committing.{writes, committing, history_of}
+use Rattle.ps_commands.proofs.Committing.{writes_more, history_more}
+use Rattle.ps_commands.proofs.Pending.{drop_drop, take_on, length_take, length_drop, drop_front, take_front, Knows, passes_entries, passes_ops, run_passes, run_whole, passed_later, ledger_more, could_come, Follows, written_on, known}
 
 -- ---- positions
 
@@ -36,7 +38,7 @@ last_from : (position : ℕ) (ts : List Transaction) → fold (λ p (t : Transac
 last_from position [] = refl
 last_from position (t ∷ ts) = last_from t.position.0 ts
 
-last_more : (position : ℕ) (ts : List Transaction) (t : Transaction) → last_position position (ts ++ t ∷ []) ≡ t.position.0
+pub last_more : (position : ℕ) (ts : List Transaction) (t : Transaction) → last_position position (ts ++ t ∷ []) ≡ t.position.0
 last_more position [] t = refl
 last_more position (u ∷ us) t = last_more u.position.0 us t
 
@@ -81,17 +83,19 @@ module _ (rules : RuleSet) (done : List Transaction) (old : Store) (h : HasCommi
   pub head_is : (last : ℕ) → last ≡ head_of before.fed → last ≡ last_position 0 done
   head_is last is = is ∙ ap head_of h.fed ∙ last_from 0 done
 
-  pub fed_more : (t : Transaction) (new : Store) → StoreStandsFor (usual rules) new (h.history ++ Feed t ∷ [])
+  pub fed_more : (t : Transaction) (new : Store) → last_position 0 done < t.position.0 → StoreStandsFor (usual rules) new (h.history ++ Feed t ∷ [])
       → IsPending rules (done ++ t ∷ []) (length t.changes) (first_passed rules.definitions (timed done) (timed_of t)) new
-  fed_more t new stands =
+  fed_more t new later stands =
       let now : Ledger = ledger_of rules (h.history ++ Feed t ∷ []) in
       let next : now ≡ ledger_after before (Feed t) = ledger_more rules h.history (Feed t) in
       let fed : now.fed ≡ done ++ t ∷ [] = ap (λ (l : Ledger). l.fed) next ∙ ap (λ (ts : List Transaction). ts ++ t ∷ []) h.fed in
       let written : now.written ≡ length (timed done) = ap (λ (l : Ledger). l.written) next ∙ h.written in
       let all : timed now.fed ≡ timed done ++ timed_of t = ap timed fed ∙ timed_more done t in
       let left : unwritten now ≡ timed_of t = ap (λ n. drop n (timed now.fed)) written ∙ ap (λ (us : List Timed). drop (length (timed done)) us) all ∙ drop_front (timed done) (timed_of t) in
+      let at : now.position ≡ last_position 0 done = ap (λ (l : Ledger). l.position) next ∙ h.position in
       let front : take now.written (timed now.fed) ≡ timed done = ap (λ n. take n (timed now.fed)) written ∙ ap (λ (us : List Timed). take (length (timed done)) us) all ∙ take_front (timed done) (timed_of t) in
       record {
+        valid = h.valid;
         history = h.history ++ Feed t ∷ [];
         stands = stands;
         fed = fed;
@@ -99,6 +103,11 @@ module _ (rules : RuleSet) (done : List Transaction) (old : Store) (h : HasCommi
         plain = subst IsPlain (sym next) h.plain;
         left_are = ap length left ∙ timed_length t.position.0 0 t.changes;
         passed_is = ap (λ (us : List Timed). first_passed rules.definitions us (unwritten now)) front ∙ ap (first_passed rules.definitions (timed done)) left;
+        behind = omega (arith, at, last_more 0 done t, later);
+        events = λ none.
+            append_assoc h.history (Feed t ∷ []) (writes (length t.changes) ++ Commit ∷ [])
+            ∙ ap (λ (es : List Event). es ++ committing t) h.events
+            ∙ sym (history_more done t);
       }
 
   pub is_open : before.closed ≡ true → ⊥
@@ -145,9 +154,23 @@ module _ (law : LedgersTellHistories) (rules : RuleSet) (ts : List Transaction) 
   full_by new last t us is narrow full last_is =
       next_decides t us (Operations last) is (passes_ops rules front l knows t narrow full ∙ ap (λ n. Some (Operations n)) (sym last_is))
 
-  pub wrote_some : (limit n : ℕ) (new : Store) → 1 ≤ n → n ≡ (next_run (usual rules) h.history limit).count → StoreStandsFor (usual rules) new (h.history ++ Write n ∷ [])
+  -- where none passes a limit, a whole batch is written, or all that is left
+  pub whole_batch : (n : ℕ) → passed ≡ None → n ≡ (next_run (usual rules) h.history 1000).count → n ≡ min 1000 left
+  whole_batch n none count =
+      let run = run_whole (unwritten l) 1000 rules front l 0 knows (h.passed_is ∙ none) in
+      omega (arith, count, run, length-take 1000 (unwritten l), h.left_are)
+
+  more_events : (n : ℕ) → 1 ≤ n → n ≤ left → n ≡ (next_run (usual rules) h.history 1000).count → passed ≡ None
+      → (h.history ++ Write n ∷ []) ++ (writes (left - n) ++ Commit ∷ []) ≡ history_of ts
+  more_events n some many count none =
+      let whole : n ≡ min 1000 left = whole_batch n none count in
+      append_assoc h.history (Write n ∷ []) (writes (left - n) ++ Commit ∷ [])
+      ∙ ap (λ (es : List Event). h.history ++ (es ++ Commit ∷ [])) (sym (writes_more left n (omega (arith, some, many)) whole))
+      ∙ h.events none
+
+  pub wrote_some : (limit n : ℕ) (new : Store) → limit ≡ 1000 → 1 ≤ n → n ≡ (next_run (usual rules) h.history limit).count → StoreStandsFor (usual rules) new (h.history ++ Write n ∷ [])
       → WritesSome rules ts left passed new (Ok n)
-  wrote_some limit n new some count stands =
+  wrote_some limit n new size some count stands =
       let now : Ledger = ledger_of rules (h.history ++ Write n ∷ []) in
       let can = could_come h.history (fresh rules) (Write n) stands.legal in
       let many : n ≤ length (unwritten l) = can.1 in
@@ -163,6 +186,7 @@ module _ (law : LedgersTellHistories) (rules : RuleSet) (ts : List Transaction) 
         some,
         omega (arith, many, h.left_are),
         record {
+          valid = h.valid;
           history = h.history ++ Write n ∷ [];
           stands = stands;
           fed = fed ∙ h.fed;
@@ -174,6 +198,8 @@ module _ (law : LedgersTellHistories) (rules : RuleSet) (ts : List Transaction) 
               ∙ ap (first_passed rules.definitions (front ++ take n (unwritten l))) rest
               ∙ passed_later rules.definitions n front (unwritten l) (run_passes (unwritten l) limit n rules front l 0 knows zero_on)
               ∙ h.passed_is;
+          behind = omega (arith, ap (λ (x : Ledger). x.position) next, on.position, h.behind);
+          events = more_events n some (omega (arith, many, h.left_are)) (subst (λ m. n ≡ (next_run (usual rules) h.history m).count) size count);
         },
       )
 
@@ -195,6 +221,7 @@ module _ (law : LedgersTellHistories) (rules : RuleSet) (ts : List Transaction) 
   committed new none stands =
       let next : ledger_of rules (h.history ++ Commit ∷ []) ≡ ledger_after l Commit = ledger_more rules h.history Commit in
       record {
+        valid = h.valid;
         history = h.history ++ Commit ∷ [];
         stands = stands;
         fed = ap (λ (x : Ledger). x.fed) next ∙ h.fed;
@@ -202,23 +229,15 @@ module _ (law : LedgersTellHistories) (rules : RuleSet) (ts : List Transaction) 
         plain = subst IsPlain (sym next) h.plain;
         written = ap (λ (x : Ledger). x.written) next ∙ written_all none;
         position = ap (λ (x : Ledger). x.position) next ∙ reached_last none;
+        events =
+            ap (λ (es : List Event). h.history ++ (es ++ Commit ∷ [])) (sym (ap writes none))
+            ∙ h.events (none_passes_left none);
       }
 
-  pub committed_before : (new : Store) → left ≡ 0 → l.reach.position ≡ l.position → StoreStandsFor (usual rules) new h.history → HasCommitted rules ts new
-  committed_before new none same stands = record {
-    history = h.history;
-    stands = stands;
-    fed = h.fed;
-    feed_open = h.feed_open;
-    plain = h.plain;
-    written = written_all none;
-    position = sym same ∙ reached_last none;
-  }
-
-  -- a commit leaves it so, also where there is nothing to commit
+  -- there is something to commit
   pub commits : (new : Store) → left ≡ 0 → (r : Result Checkpoint NothingToCommit) → Commits (usual rules) h.history new r → HasCommitted rules ts new
   commits new none (Ok checkpoint) c = committed new none c.2
-  commits new none (Err nothing) c = committed_before new none c.0 c.1
+  commits new none (Err nothing) c = absurd (omega (arith, c.0, reached_last none, h.behind))
 
 pub none_passes : (law : LedgersTellHistories) (rules : RuleSet) (ts : List Transaction) (passed : Option Limit) (store : Store) → IsPending rules ts 0 passed store → passed ≡ None
 none_passes law rules ts passed store h = none_passes_left law rules ts 0 passed store h refl
@@ -235,6 +254,7 @@ pending_refused rules ts left passed store Keys w = w
 pending_refused rules ts left passed store (TooLong seen) w = w
 pending_refused rules ts left passed store (CannotRead name) w = w
 pending_refused rules ts left passed store CannotWrite w = w
+pending_refused rules ts left passed store (Script place cause) w = w
 pending_refused rules ts left passed store Memory w = tt
 
 -- ---- a line
@@ -258,34 +278,40 @@ module _ (rules : RuleSet) (done : List Transaction) (number : ℕ) (line : List
   not_read last (TooLong seen) new at is = is
   not_read last (CannotRead name) new at is = is
   not_read last CannotWrite new at is = is
+  not_read last (Script place cause) new at is = is
   not_read last Memory new at is = tt
 
   module _ (last : ℕ) (t : Transaction) (at : last ≡ last_position 0 done) (is : rising number last (line_of line) ≡ Ok t) where
-    abbrev first : Option Limit
-    first = first_passed rules.definitions (timed done) (timed_of t)
-
-    meant_by : (passed : Option Limit) → first ≡ passed → meant ≡ unless_passed t passed
-    meant_by passed e = meant_from last (Ok t) at is ∙ ap (unless_passed t) e
-
     pub later : last_position 0 done < t.position.0
     later = subst (λ p. p < t.position.0) at (past_last number last (line_of line) t is)
 
-    -- a line that is not written is refused
-    pub not_written : (ts : List Transaction) (fault : Fault) (mid new : Store) → WritesAll rules ts first mid (Err fault) → TakesLine rules done meant new (Err fault)
-    not_written ts Usage mid new w = w
-    not_written ts (Rules place column why) mid new w = absurd w
-    not_written ts (Change place why) mid new w = absurd w
-    not_written ts (PastLimit limit) mid new w = meant_by (Some limit) w
-    not_written ts (TooManyBuckets count) mid new w = w
-    not_written ts Claims mid new w = w
-    not_written ts Keys mid new w = w
-    not_written ts (TooLong seen) mid new w = w
-    not_written ts (CannotRead name) mid new w = w
-    not_written ts CannotWrite mid new w = w
-    not_written ts Memory mid new w = tt
+    -- a line that is read is taken as its transaction is
+    pub taken_so : (new : Store) (r : Result (Unit {0}) Fault) → TakesLine rules done (within_limits rules.definitions done t) new r → TakesLine rules done meant new r
+    taken_so new r h = subst (λ (m : Result Transaction Fault). TakesLine rules done m new r) (sym (meant_from last (Ok t) at is)) h
 
-    pub taken : (new : Store) → first ≡ None → HasCommitted rules (done ++ t ∷ []) new → TakesLine rules done meant new (Ok tt)
-    taken new e h = (t, meant_by None e, h)
+-- ---- a transaction
+
+module _ (rules : RuleSet) (done : List Transaction) (t : Transaction) where
+  abbrev first : Option Limit
+  first = first_passed rules.definitions (timed done) (timed_of t)
+
+  -- a transaction that is not written is refused
+  pub not_written : (ts : List Transaction) (fault : Fault) (mid new : Store) → WritesAll rules ts first mid (Err fault) → TakesLine rules done (within_limits rules.definitions done t) new (Err fault)
+  not_written ts Usage mid new w = w
+  not_written ts (Rules place column why) mid new w = absurd w
+  not_written ts (Change place why) mid new w = absurd w
+  not_written ts (PastLimit limit) mid new w = ap (unless_passed t) w
+  not_written ts (TooManyBuckets count) mid new w = w
+  not_written ts Claims mid new w = w
+  not_written ts Keys mid new w = w
+  not_written ts (TooLong seen) mid new w = w
+  not_written ts (CannotRead name) mid new w = w
+  not_written ts CannotWrite mid new w = w
+  not_written ts (Script place cause) mid new w = w
+  not_written ts Memory mid new w = tt
+
+  pub taken : (new : Store) → first ≡ None → HasCommitted rules (done ++ t ∷ []) new → TakesLine rules done (within_limits rules.definitions done t) new (Ok tt)
+  taken new e h = (t, ap (unless_passed t) e, h)
 
 -- ---- a file
 
@@ -293,19 +319,19 @@ module _ (rules : RuleSet) (done : List Transaction) (number : ℕ) (line : List
 abbrev pub SplitsLine : List ℕ → List ℕ → Option (Bor (List ℕ)) → Type 0
 SplitsLine bytes line rest = MatchOption rest (lines_of bytes ≡ line ∷ []) (λ r. (lines_of bytes ≡ line ∷ lines_of r.now) × (length r.now < length bytes))
 
-left_lines : (bytes line : List ℕ) (rest : Option (Bor (List ℕ))) → SplitsLine bytes line rest → lines_of bytes ≡ line ∷ lines_left rest
+pub left_lines : (bytes line : List ℕ) (rest : Option (Bor (List ℕ))) → SplitsLine bytes line rest → lines_of bytes ≡ line ∷ lines_left rest
 left_lines bytes line None h = h
 left_lines bytes line (Some r) h = h.0
 
-fewer : (bytes line : List ℕ) (rest : Option (Bor (List ℕ))) → SplitsLine bytes line rest → bytes_left rest ≤ length bytes
+pub fewer : (bytes line : List ℕ) (rest : Option (Bor (List ℕ))) → SplitsLine bytes line rest → bytes_left rest ≤ length bytes
 fewer bytes line None h = omega arith
 fewer bytes line (Some r) h = omega (arith, h.1)
 
-pub started : (rules : RuleSet) (changes : Bor (List ℕ)) (store : Store) → StoreStandsFor (usual rules) store [] → HasWritten rules changes.now 0 (Some changes) store
+pub started : (rules : RuleSet) (changes : Bor (List ℕ)) (store : Store) → AreValid rules → StoreStandsFor (usual rules) store [] → HasWritten rules changes.now 0 (Some changes) store
 unfolding transactions_of
-started rules changes store stands = record {
+started rules changes store valid stands = record {
   done = [];
-  committed = record { history = []; stands = stands; fed = refl; feed_open = refl; plain = λ bucket. refl; written = refl; position = refl };
+  committed = record { valid = valid; history = []; stands = stands; fed = refl; feed_open = refl; plain = λ bucket. refl; written = refl; position = refl; events = refl };
   meaning = refl;
   counted = omega arith;
 }
@@ -355,6 +381,7 @@ module _ (rules : RuleSet) (changes : List ℕ) (number : ℕ) (bytes : Bor (Lis
   refuses (TooLong seen) new full is = is
   refuses (CannotRead name) new full is = is
   refuses CannotWrite new full is = is
+  refuses (Script place cause) new full is = is
   refuses Memory new full is = tt
 
 -- where no line is left, all is written

@@ -1,5 +1,5 @@
 -- The faults of rules files by their names in the program.
-use Rattle.std.proofs.Common.{◌≡◌, ℕ, List, Result, Ok, Err, ap}
+use Rattle.std.proofs.Common.{◌≡◌, ℕ, Result, Err, ap}
 use Rattle.ps_sql.specs.declared.faults.SqlFault.{SqlFault}
 use Rattle.ps_sql.specs.declared.faults.SqlFault.TheVariants as sql
 use Rattle.ps_yaml.specs.declared.faults.YamlFault.{YamlFault}

@@ -94,3 +94,22 @@ transactions_from definitions done number (line ∷ lines) = if is_blank line th
 -- the transactions of a change file that rules write into buckets, or the fault of the first line that is refused
 unfoldable pub transactions_of : RuleSet → List ℕ → Result (List Transaction) Fault
 transactions_of rules bytes = transactions_from rules.definitions [] 1 (lines_of bytes)
+
+-- ---- lines whose positions may stand still or fall
+
+-- the transaction of a line with that number, or the line's fault
+abbrev pub numbered : ℕ → Result Transaction ChangeFault → Result Transaction Fault
+numbered number (Ok transaction) = Ok transaction
+numbered number (Err fault) = Err (line_fault number fault)
+
+-- the transactions of lines, counted from a number on, behind others: blank lines are skipped and counted, and the first line that is refused
+-- decides
+abbrev pub all_from : List Transaction → ℕ → List (List ℕ) → Result (List Transaction) Fault
+all_from done number [] = Ok done
+all_from done number (line ∷ lines) = if is_blank line then all_from done (number + 1) lines else (do
+  transaction ← numbered number (line_of line)
+  all_from (done ++ transaction ∷ []) (number + 1) lines)
+
+-- the transactions of a change file, whatever their positions, or the fault of the first line that is refused
+unfoldable pub all_transactions_of : List ℕ → Result (List Transaction) Fault
+all_transactions_of bytes = all_from [] 1 (lines_of bytes)

@@ -1,4 +1,4 @@
--- The commands `check`, `rows`, `token` and `generate`: their words, what their files mean, and the cause of each answer.
+-- The commands `check`, `rows`, `replay`, `compact`, `token` and `generate`: their words, what their files mean, and the cause of each answer.
 use Rattle.std.specs.Prelude.{◌≡◌, ◌⊎◌, ℕ, ◌<◌, ◌≤◌, nat_le, ◌&&◌, List, [], ◌∷◌, ◌++◌, length, codes, bytes_eq, decimal, Option, Some, None, option_map, option_and_then, Result, Ok, Err, if◌then◌else◌}
 use Rattle.ps_io.specs.Contents.{Contents, Holds, HoldsMore, Gains, GainsFront}
 use Rattle.ps_io.specs.Counts.{Rose}
@@ -14,17 +14,22 @@ use Rattle.ps_token.specs.declared.key_lists.Key.{Key}
 use Rattle.ps_token.specs.declared.faults.KeysFault.{KeysFault}
 use Rattle.ps_values.specs.Numbers.{decimal_of}
 use Rattle.ps_commands.specs.declared.faults.Fault.{Fault}
-use Rattle.ps_commands.specs.declared.faults.Fault.TheVariants.{Usage, Rules, Change, PastLimit, TooManyBuckets, Claims, Keys, TooLong, CannotRead, CannotWrite, Memory}
+use Rattle.ps_commands.specs.declared.faults.Fault.TheVariants.{Usage, Rules, Change, PastLimit, TooManyBuckets, Claims, Keys, TooLong, CannotRead, CannotWrite, Script, Memory}
 use Rattle.ps_commands.specs.declared.faults.Limit.{Limit}
 use Rattle.ps_commands.specs.declared.faults.Limit.TheVariants.{LineBytes, Entries, Operations}
 use Rattle.ps_commands.specs.declared.faults.LineFault.{LineFault}
 use Rattle.ps_commands.specs.declared.faults.LineFault.TheVariants.{BadJson, BadShape, BadPosition, BadValue, NotRising}
-use Rattle.ps_commands.specs.ChangeFiles.{transactions_of}
+use Rattle.ps_commands.specs.declared.faults.ScriptCause.{ScriptCause}
+use Rattle.ps_commands.specs.declared.faults.ScriptCause.TheVariants.{BadEvent, UnknownClient, WrongPhase}
+use Rattle.ps_commands.specs.ChangeFiles.{transactions_of, all_transactions_of}
 use Rattle.ps_store.specs.Laws.{last_position}
 use Rattle.ps_store.specs.Limits.{usual_limits}
 use Rattle.ps_commands.specs.Checking.{check_text}
 use Rattle.ps_commands.specs.Claims.{asker_of_claims}
+use Rattle.ps_commands.specs.Compacting.{compact_text}
 use Rattle.ps_commands.specs.Dues.{due, own_buckets, rows_after}
+use Rattle.ps_commands.specs.Generating.{generated}
+use Rattle.ps_commands.specs.Replaying.{Game, GivesAll, GivesSome, GivesUntil}
 use Rattle.ps_commands.specs.RulesFaults.{rules_of_file, cause_text}
 use Rattle.ps_commands.specs.Texts.{rows_text, lines_text}
 
@@ -36,6 +41,17 @@ pub record Names : Type 0 where
   pub changes : List ℕ
   pub claims : List ℕ
 
+-- the files that `replay` names
+pub record Scripting : Type 0 where
+  pub rules : List ℕ
+  pub changes : List ℕ
+  pub script : List ℕ
+
+-- the files that `compact` names
+pub record Inputs : Type 0 where
+  pub rules : List ℕ
+  pub changes : List ℕ
+
 -- the files that `token` names, and the kid of the key to sign with
 pub record Signing : Type 0 where
   pub keys : List ℕ
@@ -46,7 +62,10 @@ pub record Signing : Type 0 where
 pub data Command : Type 0 where
   check : List ℕ → Command
   rows : Names → Command
+  replay : Scripting → Command
+  compact : Inputs → Command
   token : Signing → Command
+  generate : ℕ → Command
   generate_lines : ℕ → Command
 
 -- how many transactions are to be made: a number from 1 to 100,000
@@ -59,15 +78,21 @@ may_make n = if nat_le 1 n && nat_le n made_limit then Some n else None
 abbrev pub count_of : List ℕ → Option ℕ
 count_of word = option_and_then may_make (decimal_of word)
 
--- the words `check RULES`, `rows RULES CHANGES CLAIMS`, `token KEYS KID CLAIMS` or `generate N lines`, and no others
+-- the words `check RULES`, `rows RULES CHANGES CLAIMS`, `replay RULES CHANGES SCRIPT`, `compact RULES CHANGES`, `token KEYS KID CLAIMS`,
+-- `generate N` or `generate N lines`, and no others
 abbrev pub command_of : List (List ℕ) → Option Command
 command_of [] = None
 command_of (w ∷ []) = None
-command_of (w ∷ a ∷ []) = if bytes_eq w (codes "check") then Some (check a) else None
-command_of (w ∷ a ∷ b ∷ []) = if bytes_eq w (codes "generate") && bytes_eq b (codes "lines") then option_map generate_lines (count_of a) else None
+command_of (w ∷ a ∷ []) =
+    if bytes_eq w (codes "check") then Some (check a) else
+    if bytes_eq w (codes "generate") then option_map generate (count_of a) else None
+command_of (w ∷ a ∷ b ∷ []) =
+    if bytes_eq w (codes "compact") then Some (compact (record { rules = a; changes = b })) else
+    if bytes_eq w (codes "generate") && bytes_eq b (codes "lines") then option_map generate_lines (count_of a) else None
 command_of (w ∷ a ∷ b ∷ c ∷ []) =
     if bytes_eq w (codes "rows") then Some (rows (record { rules = a; changes = b; claims = c })) else
-    if bytes_eq w (codes "token") then Some (token (record { keys = a; kid = b; claims = c })) else None
+    if bytes_eq w (codes "token") then Some (token (record { keys = a; kid = b; claims = c })) else
+    if bytes_eq w (codes "replay") then Some (replay (record { rules = a; changes = b; script = c })) else None
 command_of (w ∷ a ∷ b ∷ c ∷ d ∷ more) = None
 
 -- the words are a command
@@ -106,6 +131,18 @@ pub record ReadsChanges (held : Option Contents) (name : List ℕ) (rules : Rule
   pub file : HoldsWithin held name file_limit bytes
   pub read : transactions_of rules bytes ≡ Ok transactions
 
+-- a change file is read as those transactions, whatever their positions
+pub record ReadsTransactions (held : Option Contents) (name : List ℕ) (transactions : List Transaction) : Type 0 where
+  pub bytes : List ℕ
+  pub file : HoldsWithin held name file_limit bytes
+  pub read : all_transactions_of bytes ≡ Ok transactions
+
+-- the files of `replay` are read as that
+pub record ReadsGame (held : Option Contents) (names : Scripting) (game : Game) : Type 0 where
+  pub rules_read : ReadsRules held names.rules game.rules
+  pub changes_read : ReadsTransactions held names.changes game.transactions
+  pub script_read : HoldsWithin held names.script file_limit game.script
+
 -- the key of a kid in a key file: none where the file is not of its form, or where no key has that kid
 abbrev pub key_among : List ℕ → Result (List Key) KeysFault → Option Key
 key_among kid (Ok keys) = key_of kid keys
@@ -140,6 +177,26 @@ pub record MeansRows (held : Option Contents) (names : Names) (text : List ℕ) 
   pub within : length (own_buckets rules asker transactions) ≤ usual_limits.buckets
   pub is : text ≡ rows_text (due rules asker transactions (last_position 0 transactions))
 
+-- `replay`: the texts of all lines of the script, over the rules and all transactions of the change file; no line leads a client wrong
+pub record MeansReplay (held : Option Contents) (names : Scripting) (text : List ℕ) : Type 0 where
+  pub game : Game
+  pub read : ReadsGame held names game
+  pub gives : GivesAll game text
+
+-- the texts of some first lines of the script
+pub record BeginsReplay (held : Option Contents) (names : Scripting) (text : List ℕ) : Type 0 where
+  pub game : Game
+  pub read : ReadsGame held names game
+  pub gives : GivesSome game text
+
+-- `compact`: the report of each bucket, once each transaction of the change file is fed, written in batches and committed before the next
+pub record MeansCompact (held : Option Contents) (names : Inputs) (text : List ℕ) : Type 0 where
+  pub rules : RuleSet
+  pub transactions : List Transaction
+  pub rules_read : ReadsRules held names.rules rules
+  pub changes_read : ReadsChanges held names.changes rules transactions
+  pub is : text ≡ compact_text rules transactions
+
 -- the token of an asker's payload, signed with a key, and a line feed
 abbrev pub token_text : Key → List ℕ → Asker → List ℕ
 token_text key kid asker = signed_token key kid asker.payload ++ codes "\n"
@@ -156,8 +213,21 @@ pub record MeansToken (held : Option Contents) (names : Signing) (text : List �
 abbrev pub Means : Option Contents → Command → List ℕ → Type 0
 Means held (check name) text = MeansCheck held name text
 Means held (rows names) text = MeansRows held names text
+Means held (replay names) text = MeansReplay held names text
+Means held (compact names) text = MeansCompact held names text
 Means held (token names) text = MeansToken held names text
+Means held (generate count) text = generated count ≡ Ok text
 Means held (generate_lines count) text = text ≡ lines_text (made_input count)
+
+-- what a command may be about to print: `replay` prints the text of each line before it looks at the next, and any other all at once
+abbrev pub Begins : Option Contents → Command → List ℕ → Type 0
+Begins held (check name) text = Means held (check name) text
+Begins held (rows names) text = Means held (rows names) text
+Begins held (replay names) text = BeginsReplay held names text
+Begins held (compact names) text = Means held (compact names) text
+Begins held (token names) text = Means held (token names) text
+Begins held (generate count) text = Means held (generate count) text
+Begins held (generate_lines count) text = Means held (generate_lines count) text
 
 -- the output took exactly what the command prints
 pub record Prints (held : Option Contents) (words : List (List ℕ)) (old new : Option (List ℕ)) : Type 0 where
@@ -167,13 +237,21 @@ pub record Prints (held : Option Contents) (words : List (List ℕ)) (old new : 
   pub means : Means held command text
   pub printed : Gains old new text
 
--- the output took a front of what the command prints
+-- the output took a front of what the command prints, of `replay` of the texts of some first lines
 pub record PrintsFront (held : Option Contents) (words : List (List ℕ)) (old new : Option (List ℕ)) : Type 0 where
   pub command : Command
   pub is : command_of words ≡ Some command
   pub text : List ℕ
-  pub means : Means held command text
+  pub means : Begins held command text
   pub printed : GainsFront old new text
+
+-- the words are `replay`, its files are read, and the output took the texts of some first lines of the script
+pub record PrintsSome (held : Option Contents) (words : List (List ℕ)) (old new : Option (List ℕ)) : Type 0 where
+  pub names : Scripting
+  pub is : command_of words ≡ Some (replay names)
+  pub text : List ℕ
+  pub begins : BeginsReplay held names text
+  pub printed : Gains old new text
 
 -- ---- the files of a command, in order
 
@@ -183,12 +261,14 @@ pub data Role : Type 0 where
   for_keys : Role
   for_claims : Role
   for_changes : Role
+  for_script : Role
 
 abbrev pub limit_of : Role → ℕ
 limit_of for_rules = rules_limit
 limit_of for_keys = file_limit
 limit_of for_claims = file_limit
 limit_of for_changes = file_limit
+limit_of for_script = file_limit
 
 -- the files of `rows` before the change file are read
 pub record ReadsRulesAndClaims (held : Option Contents) (names : Names) : Type 0 where
@@ -197,20 +277,41 @@ pub record ReadsRulesAndClaims (held : Option Contents) (names : Names) : Type 0
   pub rules_read : ReadsRules held names.rules rules
   pub claims_read : ReadsAsker held names.claims asker
 
+-- the files of `replay` before the script are read
+pub record ReadsRulesAndChanges (held : Option Contents) (names : Scripting) : Type 0 where
+  pub rules : RuleSet
+  pub transactions : List Transaction
+  pub rules_read : ReadsRules held names.rules rules
+  pub changes_read : ReadsTransactions held names.changes transactions
+
 -- that is the command's file in that role, and those before it are read
 abbrev pub ComesTo : Option Contents → Command → Role → List ℕ → Type 0
 ComesTo held (check rules) for_rules name = name ≡ rules
 ComesTo held (check rules) for_keys name = ⊥
 ComesTo held (check rules) for_claims name = ⊥
 ComesTo held (check rules) for_changes name = ⊥
+ComesTo held (check rules) for_script name = ⊥
 ComesTo held (rows names) for_rules name = name ≡ names.rules
 ComesTo held (rows names) for_keys name = ⊥
 ComesTo held (rows names) for_claims name = (name ≡ names.claims) × (rules : RuleSet) × ReadsRules held names.rules rules
 ComesTo held (rows names) for_changes name = (name ≡ names.changes) × ReadsRulesAndClaims held names
+ComesTo held (rows names) for_script name = ⊥
+ComesTo held (replay names) for_rules name = name ≡ names.rules
+ComesTo held (replay names) for_keys name = ⊥
+ComesTo held (replay names) for_claims name = ⊥
+ComesTo held (replay names) for_changes name = (name ≡ names.changes) × (rules : RuleSet) × ReadsRules held names.rules rules
+ComesTo held (replay names) for_script name = (name ≡ names.script) × ReadsRulesAndChanges held names
+ComesTo held (compact names) for_rules name = name ≡ names.rules
+ComesTo held (compact names) for_keys name = ⊥
+ComesTo held (compact names) for_claims name = ⊥
+ComesTo held (compact names) for_changes name = (name ≡ names.changes) × (rules : RuleSet) × ReadsRules held names.rules rules
+ComesTo held (compact names) for_script name = ⊥
 ComesTo held (token names) for_rules name = ⊥
 ComesTo held (token names) for_keys name = name ≡ names.keys
 ComesTo held (token names) for_claims name = (name ≡ names.claims) × (key : Key) × ReadsKey held names.keys names.kid key
 ComesTo held (token names) for_changes name = ⊥
+ComesTo held (token names) for_script name = ⊥
+ComesTo held (generate count) role name = ⊥
 ComesTo held (generate_lines count) role name = ⊥
 
 -- the words are a command, and a file of it comes next in that role: those before it, in order, are read
@@ -245,7 +346,44 @@ pub record RefusesClaims (held : Option Contents) (words : List (List ℕ)) : Ty
   pub file : HoldsWithin held name file_limit bytes
   pub refused : asker_of_claims bytes ≡ None
 
--- rules and claims are read, and that is the fault of the first line of the change file that is refused
+-- the rules of `compact` are read, and that is the fault of the first line of its change file that is refused
+pub record RefusesCompaction (held : Option Contents) (words : List (List ℕ)) (fault : Fault) : Type 0 where
+  pub names : Inputs
+  pub is : command_of words ≡ Some (compact names)
+  pub rules : RuleSet
+  pub rules_read : ReadsRules held names.rules rules
+  pub bytes : List ℕ
+  pub file : HoldsWithin held names.changes file_limit bytes
+  pub refused : transactions_of rules bytes ≡ Err fault
+
+-- the rules of `replay` are read, and that is the fault of the first line of its change file that is refused
+pub record RefusesFed (held : Option Contents) (words : List (List ℕ)) (fault : Fault) : Type 0 where
+  pub names : Scripting
+  pub is : command_of words ≡ Some (replay names)
+  pub rules : RuleSet
+  pub rules_read : ReadsRules held names.rules rules
+  pub bytes : List ℕ
+  pub file : HoldsWithin held names.changes file_limit bytes
+  pub refused : all_transactions_of bytes ≡ Err fault
+
+-- the files of `replay` are read, the line of that number is the first of the script that is refused, that is why, and the output took the
+-- texts of the lines before it
+pub record RefusesScript (held : Option Contents) (words : List (List ℕ)) (line : ℕ) (why : ScriptCause) (old new : Option (List ℕ)) : Type 0 where
+  pub names : Scripting
+  pub is : command_of words ≡ Some (replay names)
+  pub game : Game
+  pub read : ReadsGame held names game
+  pub text : List ℕ
+  pub gives : GivesUntil game line why text
+  pub printed : Gains old new text
+
+-- that is why what `generate` makes has no summary
+pub record RefusesMade (words : List (List ℕ)) (fault : Fault) : Type 0 where
+  pub count : ℕ
+  pub is : command_of words ≡ Some (generate count)
+  pub refused : generated count ≡ Err fault
+
+-- rules and claims are read, and that is the fault of the first line of the change file of `rows` that is refused
 pub record RefusesChanges (held : Option Contents) (words : List (List ℕ)) (fault : Fault) : Type 0 where
   pub names : Names
   pub is : command_of words ≡ Some (rows names)
@@ -253,6 +391,10 @@ pub record RefusesChanges (held : Option Contents) (words : List (List ℕ)) (fa
   pub bytes : List ℕ
   pub file : HoldsWithin held names.changes file_limit bytes
   pub refused : transactions_of before.rules bytes ≡ Err fault
+
+-- that is the fault of the first line of a change file that is refused, once what comes before the file is read
+abbrev pub RefusesLines : Option Contents → List (List ℕ) → Fault → Type 0
+RefusesLines held words fault = RefusesChanges held words fault ⊎ RefusesCompaction held words fault ⊎ RefusesFed held words fault
 
 -- rules, claims and changes are read, and the asker has so many buckets, more than an asker may have
 pub record HasTooManyBuckets (held : Option Contents) (words : List (List ℕ)) (count : ℕ) : Type 0 where
@@ -272,9 +414,17 @@ pub record ExceedsFile (held : Option Contents) (words : List (List ℕ)) (seen 
   pub more : limit_of role < seen
   pub file : HoldsMore held name (limit_of role)
 
--- a file is longer than its limit, or the first line of the change file that is refused passes one, or the asker has too many buckets
+-- the first change that is refused passes that limit
+abbrev pub PassesLimit : Option Contents → List (List ℕ) → Limit → Type 0
+PassesLimit held words limit = RefusesLines held words (PastLimit limit) ⊎ RefusesMade words (PastLimit limit)
+
+-- the asker has so many buckets, more than an asker may have
+abbrev pub ExceedsBuckets : Option Contents → List (List ℕ) → ℕ → Type 0
+ExceedsBuckets held words count = HasTooManyBuckets held words count ⊎ RefusesMade words (TooManyBuckets count)
+
+-- a file is longer than its limit, or the first change that is refused passes one, or the asker has too many buckets
 abbrev pub ExceedsLimit : Option Contents → List (List ℕ) → Type 0
-ExceedsLimit held words = ((seen : ℕ) × ExceedsFile held words seen) ⊎ ((limit : Limit) × RefusesChanges held words (PastLimit limit)) ⊎ ((count : ℕ) × HasTooManyBuckets held words count)
+ExceedsLimit held words = ((seen : ℕ) × ExceedsFile held words seen) ⊎ ((limit : Limit) × PassesLimit held words limit) ⊎ ((count : ℕ) × ExceedsBuckets held words count)
 
 -- that is a file of the command, and those before it, in order, are read
 pub record IsNext (held : Option Contents) (words : List (List ℕ)) (name : List ℕ) : Type 0 where
@@ -299,16 +449,17 @@ Kept o = o.taken_now ≡ o.taken_before
 -- why a command ends with a fault, and what the output has taken then
 abbrev pub Caused : Outside → List (List ℕ) → Fault → Type 0
 Caused o words Usage = Kept o × (command_of words ≡ None)
-Caused o words (Rules line column why) = Kept o × RefusesRules o.held words (Rules line column why)
-Caused o words (Change line why) = Kept o × RefusesChanges o.held words (Change line why)
-Caused o words (PastLimit limit) = Kept o × RefusesChanges o.held words (PastLimit limit)
-Caused o words (TooManyBuckets count) = Kept o × HasTooManyBuckets o.held words count
+Caused o words (Rules line column why) = Kept o × (RefusesRules o.held words (Rules line column why) ⊎ RefusesMade words (Rules line column why))
+Caused o words (Change line why) = Kept o × RefusesLines o.held words (Change line why)
+Caused o words (PastLimit limit) = Kept o × PassesLimit o.held words limit
+Caused o words (TooManyBuckets count) = Kept o × ExceedsBuckets o.held words count
 Caused o words Claims = Kept o × RefusesClaims o.held words
 Caused o words Keys = Kept o × RefusesKeys o.held words
 Caused o words (TooLong seen) = Kept o × ExceedsFile o.held words seen
 Caused o words (CannotRead name) = Kept o × IsNext o.held words name.now × Rose o.read_before o.read_now
 Caused o words CannotWrite = PrintsFront o.held words o.taken_before o.taken_now × Rose o.write_before o.write_now
-Caused o words Memory = Kept o × IsCommand words
+Caused o words (Script line why) = RefusesScript o.held words line why o.taken_before o.taken_now
+Caused o words Memory = (Kept o × IsCommand words) ⊎ PrintsSome o.held words o.taken_before o.taken_now
 
 abbrev pub Outcome : Outside → List (List ℕ) → Result (Unit {0}) Fault → Type 0
 Outcome o words (Ok _) = Prints o.held words o.taken_before o.taken_now
@@ -327,6 +478,7 @@ status_of Keys = 4
 status_of (TooLong seen) = 5
 status_of (CannotRead name) = 6
 status_of CannotWrite = 7
+status_of (Script line why) = 9
 status_of Memory = 8
 
 abbrev pub line_fault_text : LineFault → List ℕ
@@ -341,6 +493,11 @@ limit_text (LineBytes length) = codes "line-bytes " ++ decimal length
 limit_text (Entries count) = codes "entries " ++ decimal count
 limit_text (Operations last) = codes "operations " ++ decimal last
 
+abbrev pub script_cause_text : ScriptCause → List ℕ
+script_cause_text BadEvent = codes "bad-event"
+script_cause_text UnknownClient = codes "unknown-client"
+script_cause_text WrongPhase = codes "wrong-phase"
+
 abbrev pub fault_text : Fault → List ℕ
 fault_text Usage = codes "usage"
 fault_text (Rules line column why) = codes "rules " ++ decimal line ++ codes ":" ++ decimal column ++ codes " " ++ cause_text why
@@ -352,6 +509,7 @@ fault_text Keys = codes "keys"
 fault_text (TooLong seen) = codes "limit file-bytes " ++ decimal seen
 fault_text (CannotRead name) = codes "cannot read " ++ name.now
 fault_text CannotWrite = codes "cannot write"
+fault_text (Script line why) = codes "script " ++ decimal line ++ codes " " ++ script_cause_text why
 fault_text Memory = codes "out of memory"
 
 -- what standard error gets of a fault
@@ -405,34 +563,76 @@ transactions_meant held rules name = within_limit file_limit (held name) >>= λ 
 abbrev pub rows_meant : RuleSet → Asker → List Transaction → Result (List Shown) Refusal
 rows_meant rules asker transactions = or_refused (rows_after rules asker transactions)
 
--- what a command prints over its files, or the first refusal: rules before claims before changes, and keys before claims
-abbrev pub meaning : Contents → Command → Result (List ℕ) Refusal
+abbrev pub all_meant : Contents → List ℕ → Result (List Transaction) Refusal
+all_meant held name = within_limit file_limit (held name) >>= λ bytes. or_refused (all_transactions_of bytes)
+
+abbrev pub script_meant : Contents → List ℕ → Result (List ℕ) Refusal
+script_meant held name = within_limit file_limit (held name)
+
+-- what a command prints: a text, or what a script gives when it is played
+pub data Meant : Type 0 where
+  prints : List ℕ → Meant
+  plays : Game → Meant
+
+abbrev pub printing : Result (List ℕ) Refusal → Result Meant Refusal
+printing r = r >>= λ text. Ok (prints text)
+
+-- what a command prints over its files, or the first refusal: rules before claims before changes before the script, and keys before claims
+abbrev pub meaning : Contents → Command → Result Meant Refusal
 meaning held (check name) = do
   rules ← rules_meant held name
-  Ok (check_text rules)
+  Ok (prints (check_text rules))
 meaning held (rows names) = do
   rules ← rules_meant held names.rules
   asker ← asker_meant held names.claims
   transactions ← transactions_meant held rules names.changes
   shown ← rows_meant rules asker transactions
-  Ok (rows_text shown)
+  Ok (prints (rows_text shown))
+meaning held (replay names) = do
+  rules ← rules_meant held names.rules
+  transactions ← all_meant held names.changes
+  script ← script_meant held names.script
+  Ok (plays (record { rules = rules; transactions = transactions; script = script }))
+meaning held (compact names) = do
+  rules ← rules_meant held names.rules
+  transactions ← transactions_meant held rules names.changes
+  Ok (prints (compact_text rules transactions))
 meaning held (token names) = do
   key ← key_meant held names.keys names.kid
   asker ← asker_meant held names.claims
-  Ok (token_text key names.kid asker)
-meaning held (generate_lines count) = Ok (lines_text (made_input count))
+  Ok (prints (token_text key names.kid asker))
+meaning held (generate count) = printing (or_refused (generated count))
+meaning held (generate_lines count) = Ok (prints (lines_text (made_input count)))
 
 abbrev pub refusal_status : Refusal → ℕ
 refusal_status missing = 8
 refusal_status exceeds = 5
 refusal_status (refused fault) = status_of fault
 
+-- all lines of the script are played, or the first that is refused ends it, or memory was wanting
+abbrev pub IsPlayed : Game → Option (List ℕ) → Option (List ℕ) → ℕ → Type 0
+IsPlayed game old new status =
+    ((status ≡ 0) × (text : List ℕ) × GivesAll game text × Gains old new text)
+    ⊎ ((status ≡ 9) × (line : ℕ) × (why : ScriptCause) × (text : List ℕ) × GivesUntil game line why text × Gains old new text)
+    ⊎ ((status ≡ 8) × ((new ≡ old) ⊎ ((text : List ℕ) × GivesSome game text × Gains old new text)))
+
 -- the status and the output are those that the files mean, or memory was wanting
-abbrev pub IsAnswer : Result (List ℕ) Refusal → Option (List ℕ) → Option (List ℕ) → ℕ → Type 0
-IsAnswer (Ok text) old new status = ((status ≡ 0) × Gains old new text) ⊎ ((status ≡ 8) × (new ≡ old))
+abbrev pub IsAnswer : Result Meant Refusal → Option (List ℕ) → Option (List ℕ) → ℕ → Type 0
+IsAnswer (Ok (plays game)) old new status = IsPlayed game old new status
+IsAnswer (Ok (prints text)) old new status = ((status ≡ 0) × Gains old new text) ⊎ ((status ≡ 8) × (new ≡ old))
 IsAnswer (Err refusal) old new status = ((status ≡ refusal_status refusal) × (new ≡ old)) ⊎ ((status ≡ 8) × (new ≡ old))
+
+-- the status and the output of a command that reads no file
+abbrev pub IsAnswerAlone : Command → Option (List ℕ) → Option (List ℕ) → ℕ → Type 0
+IsAnswerAlone (check name) old new status = Unit {0}
+IsAnswerAlone (rows names) old new status = Unit {0}
+IsAnswerAlone (replay names) old new status = Unit {0}
+IsAnswerAlone (compact names) old new status = Unit {0}
+IsAnswerAlone (token names) old new status = Unit {0}
+IsAnswerAlone (generate count) old new status = IsAnswer (printing (or_refused (generated count))) old new status
+IsAnswerAlone (generate_lines count) old new status = IsAnswer (Ok (prints (lines_text (made_input count)))) old new status
 
 -- where files tell what they hold, or none is read
 abbrev pub IsExact : Option Contents → List (List ℕ) → Option (List ℕ) → Option (List ℕ) → ℕ → Type 0
-IsExact None words old new status = (count : ℕ) → command_of words ≡ Some (generate_lines count) → IsAnswer (Ok (lines_text (made_input count))) old new status
+IsExact None words old new status = (command : Command) → command_of words ≡ Some command → IsAnswerAlone command old new status
 IsExact (Some held) words old new status = (command : Command) → command_of words ≡ Some command → IsAnswer (meaning held command) old new status

@@ -1,5 +1,5 @@
 -- The rows that are due to an asker.
-use Rattle.std.specs.Prelude.{ℕ, nat_lt, if◌then◌else◌, List, length, Result, Ok, Err}
+use Rattle.std.specs.Prelude.{◌≡◌, ℕ, ◌<◌, ◌≤◌, nat_lt, if◌then◌else◌, List, length, Result, Ok, Err}
 use Rattle.ps_changes.specs.declared.changes.Transaction.{Transaction}
 use Rattle.ps_changes.specs.declared.shown.Shown.{Shown}
 use Rattle.ps_changes.specs.Source.{source_at}
@@ -11,7 +11,7 @@ use Rattle.ps_sql.specs.Meaning.{Asker}
 use Rattle.ps_store.specs.Laws.{last_position}
 use Rattle.ps_store.specs.Limits.{usual_limits}
 use Rattle.ps_commands.specs.declared.faults.Fault.{Fault}
-use Rattle.ps_commands.specs.declared.faults.Fault.TheVariants.{TooManyBuckets}
+use Rattle.ps_commands.specs.declared.faults.Fault.TheVariants.{Usage, Rules, Change, PastLimit, TooManyBuckets, Claims, Keys, TooLong, CannotRead, CannotWrite, Script, Memory}
 
 -- of each object that the rules grant the asker over the source at a position, the data of its latest copy, in the order of type and id
 abbrev pub due : RuleSet → Asker → List Transaction → ℕ → List Shown
@@ -26,3 +26,20 @@ abbrev pub rows_after : RuleSet → Asker → List Transaction → Result (List 
 rows_after rules asker transactions =
     if nat_lt usual_limits.buckets (length (own_buckets rules asker transactions)) then Err (TooManyBuckets (length (own_buckets rules asker transactions)))
     else Ok (due rules asker transactions (last_position 0 transactions))
+
+-- the rows that are due to an asker, or the number of buckets, which is more than an asker may have
+abbrev pub Answers : RuleSet → Asker → List Transaction → Result (List Shown) Fault → Type 0
+Answers rules asker transactions (Ok rows) =
+    (length (own_buckets rules asker transactions) ≤ usual_limits.buckets) × (rows ≡ due rules asker transactions (last_position 0 transactions))
+Answers rules asker transactions (Err Usage) = ⊥
+Answers rules asker transactions (Err (Rules line column why)) = ⊥
+Answers rules asker transactions (Err (Change line why)) = ⊥
+Answers rules asker transactions (Err (PastLimit limit)) = ⊥
+Answers rules asker transactions (Err (TooManyBuckets count)) = (count ≡ length (own_buckets rules asker transactions)) × (usual_limits.buckets < count)
+Answers rules asker transactions (Err Claims) = ⊥
+Answers rules asker transactions (Err Keys) = ⊥
+Answers rules asker transactions (Err (TooLong seen)) = ⊥
+Answers rules asker transactions (Err (CannotRead name)) = ⊥
+Answers rules asker transactions (Err CannotWrite) = ⊥
+Answers rules asker transactions (Err (Script place cause)) = ⊥
+Answers rules asker transactions (Err Memory) = Unit {0}

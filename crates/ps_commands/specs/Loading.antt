@@ -5,7 +5,7 @@ use Rattle.ps_io.specs.Contents.{Contents, HoldsMore}
 use Rattle.ps_io.specs.Counts.{Rose}
 use Rattle.ps_changes.specs.declared.changes.Transaction.{Transaction}
 use Rattle.ps_commands.specs.declared.faults.Fault.{Fault}
-use Rattle.ps_commands.specs.declared.faults.Fault.TheVariants.{Usage, Rules, Change, PastLimit, TooManyBuckets, Claims, Keys, TooLong, CannotRead, CannotWrite, Memory}
+use Rattle.ps_commands.specs.declared.faults.Fault.TheVariants.{Usage, Rules, Change, PastLimit, TooManyBuckets, Claims, Keys, TooLong, CannotRead, CannotWrite, Script, Memory}
 use Rattle.ps_rules.specs.RuleSets.{RuleSet}
 use Rattle.ps_sql_eval.specs.declared.askers.Asker.{Asker}
 use Rattle.ps_sql_eval.specs.Evaluated.{asker_of}
@@ -37,6 +37,7 @@ Loads held name limit before now Finds Refuses (Err Keys) = (bytes : List ℕ) �
 Loads held name limit before now Finds Refuses (Err (TooLong seen)) = (limit < seen) × HoldsMore held name limit
 Loads held name limit before now Finds Refuses (Err (CannotRead file)) = (file.now ≡ name) × Rose before now
 Loads held name limit before now Finds Refuses (Err CannotWrite) = ⊥
+Loads held name limit before now Finds Refuses (Err (Script place cause)) = ⊥
 Loads held name limit before now Finds Refuses (Err Memory) = Unit {0}
 
 -- bytes alone
@@ -61,6 +62,7 @@ IsRulesFault Keys bytes = ⊥
 IsRulesFault (TooLong seen) bytes = ⊥
 IsRulesFault (CannotRead name) bytes = ⊥
 IsRulesFault CannotWrite bytes = ⊥
+IsRulesFault (Script place cause) bytes = ⊥
 IsRulesFault Memory bytes = ⊥
 
 -- keys of a key file, one of which has the kid
@@ -78,6 +80,7 @@ IsKeysFault kid Claims bytes = ⊥
 IsKeysFault kid (TooLong seen) bytes = ⊥
 IsKeysFault kid (CannotRead name) bytes = ⊥
 IsKeysFault kid CannotWrite bytes = ⊥
+IsKeysFault kid (Script place cause) bytes = ⊥
 IsKeysFault kid Memory bytes = ⊥
 
 -- keys of a key file are found, or refused; of want of memory nothing is said
@@ -94,6 +97,7 @@ ChoosesKey kid bytes (Err Claims) = ⊥
 ChoosesKey kid bytes (Err (TooLong seen)) = ⊥
 ChoosesKey kid bytes (Err (CannotRead name)) = ⊥
 ChoosesKey kid bytes (Err CannotWrite) = ⊥
+ChoosesKey kid bytes (Err (Script place cause)) = ⊥
 
 -- a line with a token is that of the key of the kid; no key has it; want of memory says nothing
 abbrev pub SignsLine : List Key → List ℕ → List ℕ → Result (List ℕ) SignFault → Type 0
@@ -116,6 +120,7 @@ IsClaimsFault Keys bytes = ⊥
 IsClaimsFault (TooLong seen) bytes = ⊥
 IsClaimsFault (CannotRead name) bytes = ⊥
 IsClaimsFault CannotWrite bytes = ⊥
+IsClaimsFault (Script place cause) bytes = ⊥
 IsClaimsFault Memory bytes = ⊥
 
 -- the printed rows of a change file that are due to an asker
@@ -143,6 +148,7 @@ RefusesRows rules asker Keys bytes = ⊥
 RefusesRows rules asker (TooLong seen) bytes = ⊥
 RefusesRows rules asker (CannotRead name) bytes = ⊥
 RefusesRows rules asker CannotWrite bytes = ⊥
+RefusesRows rules asker (Script place cause) bytes = ⊥
 RefusesRows rules asker Memory bytes = ⊥
 
 -- the same, of bytes that were read
@@ -159,3 +165,4 @@ Prepares rules asker bytes (Err Keys) = ⊥
 Prepares rules asker bytes (Err (TooLong seen)) = ⊥
 Prepares rules asker bytes (Err (CannotRead name)) = ⊥
 Prepares rules asker bytes (Err CannotWrite) = ⊥
+Prepares rules asker bytes (Err (Script place cause)) = ⊥

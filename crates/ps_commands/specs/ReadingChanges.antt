@@ -1,20 +1,22 @@
 -- Writing a change file into a store, line by line.
-use Rattle.std.specs.Prelude.{◌≡◌, ℕ, ◌+◌, ◌-◌, ◌<◌, ◌≤◌, Bool, false, List, [], ◌∷◌, Option, Some, None, Result, Ok, Err, ◌++◌, length, take}
+use Rattle.std.specs.Prelude.{◌≡◌, ℕ, ◌+◌, ◌-◌, ◌<◌, ◌≤◌, false, List, [], ◌∷◌, Option, Some, None, Result, Ok, Err, ◌++◌, length, take}
 use Rattle.std.specs.Borrow.{Bor}
 use Rattle.ps_changes.specs.declared.changes.Transaction.{Transaction}
-use Rattle.ps_rules.specs.RuleSets.{RuleSet}
+use Rattle.ps_rules.specs.RuleSets.{RuleSet, AreRules}
 use Rattle.ps_store.specs.declared.events.Event.{Event}
+use Rattle.ps_store.specs.declared.events.Event.TheVariants.{Commit}
 use Rattle.ps_store.specs.declared.fixed.Fixed.{Fixed}
 use Rattle.ps_store.specs.declared.stores.Store.{Store}
-use Rattle.ps_store.specs.Laws.{last_position}
-use Rattle.ps_store.specs.Ledgers.{Ledger, timed_of, unwritten, ledger_of}
+use Rattle.ps_store.specs.Laws.{last_position, HaveNumbers}
+use Rattle.ps_store.specs.Ledgers.{Ledger, unwritten, ledger_of}
 use Rattle.ps_store.specs.Limits.{usual_limits}
 use Rattle.ps_store.specs.Originals.{timed, in_bucket}
 use Rattle.ps_store.specs.Stores.{StoreStandsFor}
 use Rattle.ps_commands.specs.declared.faults.Fault.{Fault}
-use Rattle.ps_commands.specs.declared.faults.Fault.TheVariants.{Usage, Rules, Change, PastLimit, TooManyBuckets, Claims, Keys, TooLong, CannotRead, CannotWrite, Memory}
+use Rattle.ps_commands.specs.declared.faults.Fault.TheVariants.{Usage, Rules, Change, PastLimit, TooManyBuckets, Claims, Keys, TooLong, CannotRead, CannotWrite, Script, Memory}
 use Rattle.ps_commands.specs.declared.faults.Limit.{Limit}
-use Rattle.ps_commands.specs.ChangeFiles.{lines_of, transactions_of, transactions_from, first_passed, accepted}
+use Rattle.ps_commands.specs.ChangeFiles.{lines_of, transactions_of, transactions_from, first_passed}
+use Rattle.ps_commands.specs.Committing.{writes, history_of}
 
 -- ---- a store that transactions are written into
 
@@ -22,12 +24,19 @@ use Rattle.ps_commands.specs.ChangeFiles.{lines_of, transactions_of, transaction
 abbrev pub IsPlain : Ledger → Type 0
 IsPlain l = (bucket : List ℕ) → l.log bucket ≡ in_bucket bucket l.entered
 
+-- what each rule set keeps, and that its numbers have 32 bits
+pub record AreValid (rules : RuleSet) : Type 0 where
+  pub are : AreRules rules
+  pub numbers : HaveNumbers rules.definitions
+
 -- rules under the usual limits
 abbrev pub usual : RuleSet → Fixed
 usual rules = record { rules = rules; limits = usual_limits }
 
--- the transactions are fed, so many of their changes are not written, and the first of these that passes a limit passes this one
+-- under valid rules the transactions are fed, so many of their changes are not written, and the first of these that passes a limit passes this one; where none
+-- does, the writes of these and a commit are left of the transactions' history
 pub record IsPending (rules : RuleSet) (transactions : List Transaction) (left : ℕ) (passed : Option Limit) (store : Store) : Type 0 where
+  pub valid : AreValid rules
   pub history : List Event
   pub stands : StoreStandsFor (usual rules) store history
   pub fed : (ledger_of rules history).fed ≡ transactions
@@ -35,9 +44,13 @@ pub record IsPending (rules : RuleSet) (transactions : List Transaction) (left :
   pub plain : IsPlain (ledger_of rules history)
   pub left_are : length (unwritten (ledger_of rules history)) ≡ left
   pub passed_is : first_passed rules.definitions (take (ledger_of rules history).written (timed (ledger_of rules history).fed)) (unwritten (ledger_of rules history)) ≡ passed
+  pub behind : (ledger_of rules history).position < last_position 0 transactions
+  pub events : passed ≡ None → history ++ (writes left ++ Commit ∷ []) ≡ history_of transactions
 
--- the transactions are fed, all of their changes are written, and the last position is the checkpoint's
+-- under valid rules each of the transactions is fed, written in batches and committed before the next: all changes are written, and the last position is the
+-- checkpoint's
 pub record HasCommitted (rules : RuleSet) (transactions : List Transaction) (store : Store) : Type 0 where
+  pub valid : AreValid rules
   pub history : List Event
   pub stands : StoreStandsFor (usual rules) store history
   pub fed : (ledger_of rules history).fed ≡ transactions
@@ -45,6 +58,7 @@ pub record HasCommitted (rules : RuleSet) (transactions : List Transaction) (sto
   pub plain : IsPlain (ledger_of rules history)
   pub written : (ledger_of rules history).written ≡ length (timed transactions)
   pub position : (ledger_of rules history).position ≡ last_position 0 transactions
+  pub events : history ≡ history_of transactions
 
 -- ---- calls
 
@@ -61,6 +75,7 @@ WritesSome rules transactions left passed new (Err Keys) = ⊥
 WritesSome rules transactions left passed new (Err (TooLong seen)) = ⊥
 WritesSome rules transactions left passed new (Err (CannotRead name)) = ⊥
 WritesSome rules transactions left passed new (Err CannotWrite) = ⊥
+WritesSome rules transactions left passed new (Err (Script place cause)) = ⊥
 WritesSome rules transactions left passed new (Err Memory) = Unit {0}
 
 -- all pending changes were written, or one of them passes a limit
@@ -76,6 +91,7 @@ WritesAll rules transactions passed new (Err Keys) = ⊥
 WritesAll rules transactions passed new (Err (TooLong seen)) = ⊥
 WritesAll rules transactions passed new (Err (CannotRead name)) = ⊥
 WritesAll rules transactions passed new (Err CannotWrite) = ⊥
+WritesAll rules transactions passed new (Err (Script place cause)) = ⊥
 WritesAll rules transactions passed new (Err Memory) = Unit {0}
 
 -- a line's transaction was written and committed, or the line is refused
@@ -91,6 +107,7 @@ TakesLine rules done meant new (Err Keys) = ⊥
 TakesLine rules done meant new (Err (TooLong seen)) = ⊥
 TakesLine rules done meant new (Err (CannotRead name)) = ⊥
 TakesLine rules done meant new (Err CannotWrite) = ⊥
+TakesLine rules done meant new (Err (Script place cause)) = ⊥
 TakesLine rules done meant new (Err Memory) = Unit {0}
 
 -- a line is read as it is meant
@@ -106,6 +123,7 @@ ReadsRising (Err Keys) meant = ⊥
 ReadsRising (Err (TooLong seen)) meant = ⊥
 ReadsRising (Err (CannotRead name)) meant = ⊥
 ReadsRising (Err CannotWrite) meant = ⊥
+ReadsRising (Err (Script place cause)) meant = ⊥
 ReadsRising (Err Memory) meant = Unit {0}
 
 -- ---- a file
@@ -140,4 +158,5 @@ Writes rules meant (Err Keys) = ⊥
 Writes rules meant (Err (TooLong seen)) = ⊥
 Writes rules meant (Err (CannotRead name)) = ⊥
 Writes rules meant (Err CannotWrite) = ⊥
+Writes rules meant (Err (Script place cause)) = ⊥
 Writes rules meant (Err Memory) = Unit {0}

@@ -9,7 +9,7 @@ use Rattle.ps_rules.specs.declared.faults.RulesFault.TheVariants as rules
 use Rattle.ps_rules.specs.Reading.{rules_in}
 use Rattle.ps_rules.specs.RuleSets.{RuleSet}
 use Rattle.ps_commands.specs.declared.faults.Fault.{Fault}
-use Rattle.ps_commands.specs.declared.faults.Fault.TheVariants.{Usage, Rules, Change, PastLimit, TooManyBuckets, Claims, Keys, TooLong, CannotRead, CannotWrite, Memory}
+use Rattle.ps_commands.specs.declared.faults.Fault.TheVariants.{Usage, Rules, Change, PastLimit, TooManyBuckets, Claims, Keys, TooLong, CannotRead, CannotWrite, Script, Memory}
 use Rattle.ps_commands.specs.declared.faults.RulesCause.{RulesCause}
 use Rattle.ps_commands.specs.declared.faults.RulesCause.TheVariants.{YamlIndent, YamlScalar, YamlDuplicateKey, YamlUnsupported, Shape, SqlToken, SqlUnexpected, SqlUnsupported, UnknownParameter, UnmatchedParameter, NoId, TooManyBranches, DuplicateName, MixedOutput}
 
@@ -81,4 +81,5 @@ ReadsRules (Err Keys) meant = ⊥
 ReadsRules (Err (TooLong seen)) meant = ⊥
 ReadsRules (Err (CannotRead name)) meant = ⊥
 ReadsRules (Err CannotWrite) meant = ⊥
+ReadsRules (Err (Script place cause)) meant = ⊥
 ReadsRules (Err Memory) meant = Unit {0}

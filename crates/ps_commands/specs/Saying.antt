@@ -4,8 +4,9 @@ use Rattle.std.specs.Borrow.{Bor}
 use Rattle.ps_commands.specs.declared.faults.Fault.{Fault}
 use Rattle.ps_commands.specs.declared.faults.LineFault.{LineFault}
 use Rattle.ps_commands.specs.declared.faults.RulesCause.{RulesCause}
+use Rattle.ps_commands.specs.declared.faults.ScriptCause.{ScriptCause}
 use Rattle.ps_commands.specs.RulesFaults.{cause_text}
-use Rattle.ps_commands.specs.Commands.{Outside, Caused, status_of, line_fault_text, fault_line, Tells}
+use Rattle.ps_commands.specs.Commands.{Outside, Caused, status_of, line_fault_text, script_cause_text, fault_line, Tells}
 
 -- standard error before and after
 pub record Told : Type 0 where
@@ -32,6 +33,10 @@ joined (piece ∷ next ∷ pieces) = piece.now ++ joined (next ∷ pieces)
 -- the end of the line of a change line's fault
 abbrev pub end_of_line : LineFault → List ℕ
 end_of_line why = codes " " ++ (line_fault_text why ++ codes "\n")
+
+-- the end of the line of a script line's fault
+abbrev pub end_of_script : ScriptCause → List ℕ
+end_of_script why = codes " " ++ (script_cause_text why ++ codes "\n")
 
 -- the text of a rules file's fault, of which a number may stand at the end
 abbrev pub IsCauseText : RulesCause → List ℕ → Option ℕ → Type 0

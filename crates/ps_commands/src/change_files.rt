@@ -8,13 +8,15 @@ ghost use Rattle.ps_store.specs.Ledgers.{timed_of};
 ghost use Rattle.ps_store.specs.Limits.{greatest};
 ghost use Rattle.ps_store.specs.Originals.{timed};
 ghost use Rattle.ps_commands.specs.declared.faults.Limit.{Limit as LimitData};
-ghost use Rattle.ps_commands.specs.ChangeFiles.{lines_of, is_blank as is_blank_line, rising, accepted, first_passed, transactions_of};
+ghost use Rattle.ps_commands.specs.ChangeFiles.{lines_of, is_blank as is_blank_line, rising, accepted, first_passed, transactions_of, within_limits};
 ghost use Rattle.ps_commands.specs.ReadingChanges.{ReadsRising, IsPending, HasCommitted, WritesSome, WritesAll, TakesLine, Writes};
 
 use crate::faults::{Fault, Limit, LineFault};
 use ps_changes::{ChangeFault, Transaction, read_line};
 use ps_rules::Rules;
-use ps_store::{FeedFault, Limits, NothingToCommit, Store, WriteFault, ledgers_tell_histories};
+use ps_store::{
+    FeedFault, Limits, NothingToCommit, Store, WriteFault, have_numbers, ledgers_tell_histories,
+};
 use ps_values::Memory;
 use std::alloc::Global;
 
@@ -56,6 +58,7 @@ pub fn write_changes<'a>(alloc: Global, rules: Rules, changes: &[u8]) -> Result<
     requires { length changes.now < 2 ^ 63 }
     ensures { Writes rules (transactions_of rules changes.now) result }
 {
+    have_numbers(&rules);
     let mut store = Store::new(alloc, rules, Limits::usual())?;
     let mut number = 0u64;
     let mut rest = Some(changes);
@@ -85,12 +88,27 @@ fn write_line<'a>(
     ensures { (rules : RuleSet) (done : List TransactionData) → HasCommitted rules done store.old
         → TakesLine rules done (accepted rules.definitions done number line.now) store.new result }
 {
-    ledgers_tell_histories();
     let last = store.head();
     let transaction = match read_rising(alloc, line, number, last.0) {
         Ok(transaction) => transaction,
         Err(fault) => return Err(fault),
     };
+    write_transaction(alloc, store, transaction)
+}
+
+/// Feeds a transaction whose position is past the last one, writes it in batches and commits it.
+/// Fails with `PastLimit` where one of its changes passes a limit.
+pub fn write_transaction<'a>(
+    alloc: Global,
+    store: &mut Store,
+    transaction: Transaction,
+) -> Result<(), Fault<'a>>
+    requires position { transaction.position.0 ≤ greatest }
+    requires committed { (rules : RuleSet) × (done : List TransactionData) × HasCommitted rules done store.old × (last_position 0 done < transaction.position.0) }
+    ensures { (rules : RuleSet) (done : List TransactionData) → HasCommitted rules done store.old → last_position 0 done < transaction.position.0
+        → TakesLine rules done (within_limits rules.definitions done transaction) store.new result }
+{
+    ledgers_tell_histories();
     let changes = transaction.changes.len();
     feed(store, transaction)?;
     match write_fed(alloc, store, changes) {
@@ -104,7 +122,7 @@ fn write_line<'a>(
 fn feed(store: &mut Store, transaction: Transaction) -> Result<(), Memory>
     requires position { transaction.position.0 ≤ greatest }
     requires committed { (rules : RuleSet) × (done : List TransactionData) × HasCommitted rules done store.old × (last_position 0 done < transaction.position.0) }
-    ensures { OnOk result ((rules : RuleSet) (done : List TransactionData) → HasCommitted rules done store.old
+    ensures { OnOk result ((rules : RuleSet) (done : List TransactionData) → HasCommitted rules done store.old → last_position 0 done < transaction.position.0
         → IsPending rules (done ++ transaction ∷ []) (length transaction.changes) (first_passed rules.definitions (timed done) (timed_of transaction)) store.new) }
 {
     match store.feed(transaction) {

@@ -5,8 +5,8 @@ use ps_rules::{Definition, Rules, Warning, WarningKind};
 use ps_values::Memory;
 use std::alloc::Global;
 
-// Adds the decimal text of a number.
-fn push_number(alloc: Global, out: &mut Vec<u8>, number: u64) -> Result<(), Memory>
+/// Adds the decimal text of a number.
+pub fn push_number(alloc: Global, out: &mut Vec<u8>, number: u64) -> Result<(), Memory>
     ensures { OnOk result (out.new.items ≡ out.old.items ++ decimal number) }
 {
     let digits = format!(in alloc; "{number}")?;

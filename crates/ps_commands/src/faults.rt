@@ -74,6 +74,17 @@ pub enum RulesCause {
     MixedOutput,
 }
 
+/// Why a line of a script is refused: docs/FORMATS.md, "Scripts".
+#[derive(Clone, Copy, Debug, PartialEq, Eq)]
+pub enum ScriptCause {
+    /// The line is no event.
+    BadEvent,
+    /// No client has the event's name.
+    UnknownClient,
+    /// The event may not come now: a client has its name already, or it wants what is not there.
+    WrongPhase,
+}
+
 /// Why the program did not do what it was asked: docs/FORMATS.md, "Fault texts".
 #[derive(Debug, Drop)]
 pub enum Fault<'a> {
@@ -121,6 +132,13 @@ pub enum Fault<'a> {
     },
     /// The faults of the output rose.
     CannotWrite,
+    /// A line of the script is refused.
+    Script {
+        /// The line's number, counted from 1.
+        line: u64,
+        /// Why.
+        why: ScriptCause,
+    },
     /// Want of memory.
     Memory,
 }

@@ -2,25 +2,23 @@
 #![tactic(auto)]
 
 mod answering;
-mod buckets;
 mod change_files;
 mod checking;
-mod checkpoints;
 mod claims;
+mod compacting;
 mod faults;
+mod generating;
 mod loading;
 mod making;
 mod plain;
 mod printing;
+mod reading_all;
+mod replaying;
 mod rules_faults;
 mod saying;
-mod sessions;
 mod signing;
-mod streams;
-mod tables;
 
-pub use buckets::{Bucket, read_bucket};
 pub use change_files::write_changes;
-pub use faults::{Fault, Limit, LineFault, RulesCause};
+pub use compacting::{Compacted, compact_all};
+pub use faults::{Fault, Limit, LineFault, RulesCause, ScriptCause};
 pub use plain::run_plain;
-pub use streams::{checkpoint_line, complete_line, data_line};

@@ -11,7 +11,6 @@ use crate::signing::choose_key;
 use ps_io::{FileFault, Files};
 use ps_rules::Rules;
 use ps_sql_eval::Asker;
-use ps_store::have_numbers;
 use ps_token::Keys;
 use ps_values::Text;
 use std::alloc::Global;
@@ -22,8 +21,8 @@ pub const RULES_LIMIT: u64 = 1048576;
 /// The greatest number of bytes of any other file.
 pub const FILE_LIMIT: u64 = 268435456;
 
-// Reads a file within a limit.
-fn load<'a, F: Files>(
+/// Reads a file within a limit.
+pub fn load<'a, F: Files>(
     alloc: Global,
     files: &mut F,
     name: &'a Text,
@@ -91,13 +90,12 @@ pub fn load_asker<'a, F: Files>(
 fn prepare<'a>(
     alloc: Global,
     rules: Rules,
-    asker: &Asker,
+    asker: Asker,
     changes: &[u8],
 ) -> Result<Vec<u8>, Fault<'a>>
     requires { length changes.now < 2 ^ 63 }
-    ensures { Prepares rules asker.now changes.now result }
+    ensures { Prepares rules asker changes.now result }
 {
-    have_numbers(&rules);
     let store = write_changes(alloc, rules, changes)?;
     let rows = match due_rows(alloc, &store, asker) {
         Ok(rows) => rows,
@@ -113,10 +111,10 @@ pub fn load_rows<'a, F: Files>(
     files: &mut F,
     name: &'a Text,
     rules: Rules,
-    asker: &Asker,
+    asker: Asker,
 ) -> Result<Vec<u8>, Fault<'a>>
     ensures loads { Loads (F.held files.old) name.now FILE_LIMIT (F.faults files.old) (F.faults files.new)
-        (FindsRows rules asker.now) (RefusesRows rules asker.now) result }
+        (FindsRows rules asker) (RefusesRows rules asker) result }
     ensures held { F.held files.new ≡ F.held files.old }
     ensures faults { F.faults files.old ≤ F.faults files.new }
 {

@@ -1,15 +1,19 @@
 ghost use Rattle.std.specs.Prelude.{◌≡◌, ◌≢◌, ◌≤◌, ◌⊎◌, ◌↔◌, ℕ, List, [], ◌∷◌, Option, Some, None, true, false, bytes_eq, codes};
 ghost use Rattle.ps_io.specs.Contents.{Contents};
 ghost use Rattle.ps_io.specs.Counts.{Rose};
-ghost use Rattle.ps_commands.specs.Commands.{command_of, made_limit, generate_lines as generate_lines_command, Outcome, Prints, PrintsFront, RefusesRules, RefusesChanges, RefusesKeys, RefusesClaims, ExceedsLimit, IsNext, IsExact};
+ghost use Rattle.ps_commands.specs.Commands.{command_of, made_limit, generate as generate_command, generate_lines as generate_lines_command, Outcome, Prints, PrintsFront, RefusesRules, RefusesMade, RefusesLines, RefusesKeys, RefusesClaims, RefusesScript, ExceedsLimit, IsNext, PrintsSome, IsExact};
 ghost use Rattle.ps_commands.specs.Saying.{SaysCause};
 ghost use Rattle.ps_commands.specs.declared.faults.LineFault.{LineFault as LineFaultData};
 ghost use Rattle.ps_commands.specs.declared.faults.RulesCause.{RulesCause as RulesCauseData};
+ghost use Rattle.ps_commands.specs.declared.faults.ScriptCause.{ScriptCause as ScriptCauseData};
 
 use crate::checking::print_check;
+use crate::compacting::load_reports;
 use crate::faults::Fault;
+use crate::generating::print_summary;
 use crate::loading::{load_asker, load_keys, load_rows, load_rules};
 use crate::making::{made_count, print_made};
+use crate::replaying::replay_files;
 use crate::saying::say;
 use crate::signing::sign_line;
 use ps_io::{Files, Sink};
@@ -18,7 +22,6 @@ use ps_values::{Memory, Text};
 use std::alloc::Global;
 
 // Does the command that the words are: docs/FORMATS.md, "Commands".
-#[tactic(auto, using(crate::proofs::Causes::three_words))]
 fn command<'a, F: Files, K: Sink>(
     alloc: Global,
     words: &'a [Text],
@@ -36,32 +39,104 @@ fn command<'a, F: Files, K: Sink>(
     }) words.now result }
 {
     match words {
-        [word, rules] => {
-            if word.as_str() != "check" {
-                return Err(Fault::Usage);
-            }
-            check(alloc, rules, files, out)
-        }
-        [word, count, lines] => {
-            if word.as_str() != "generate" || lines.as_str() != "lines" {
-                return Err(Fault::Usage);
-            }
-            match made_count(count) {
-                Some(count) => generate_lines(alloc, count, out),
-                None => Err(Fault::Usage),
-            }
-        }
-        [word, first, second, third] => {
-            if word.as_str() == "rows" {
-                return rows(alloc, first, second, third, files, out);
-            }
-            if word.as_str() == "token" {
-                return token(alloc, first, second, third, files, out);
-            }
-            Err(Fault::Usage)
-        }
+        [word, second] => of_two(alloc, word, second, files, out),
+        [word, second, third] => of_three(alloc, word, second, third, files, out),
+        [word, second, third, fourth] => of_four(alloc, word, second, third, fourth, files, out),
         _ => Err(Fault::Usage),
     }
+}
+
+// Does the command of two words.
+fn of_two<'a, F: Files, K: Sink>(
+    alloc: Global,
+    word: &Text,
+    second: &'a Text,
+    files: &mut F,
+    out: &mut K,
+) -> Result<(), Fault<'a>>
+    ensures { Outcome (record {
+      held = F.held files.old;
+      read_before = F.faults files.old;
+      read_now = F.faults files.new;
+      taken_before = K.taken out.old;
+      taken_now = K.taken out.new;
+      write_before = K.faults out.old;
+      write_now = K.faults out.new;
+    }) (word.now ∷ second.now ∷ []) result }
+{
+    if word.as_str() == "check" {
+        return check(alloc, second, files, out);
+    }
+    if word.as_str() != "generate" {
+        return Err(Fault::Usage);
+    }
+    match made_count(second) {
+        Some(count) => generate(alloc, count, out),
+        None => Err(Fault::Usage),
+    }
+}
+
+// Does the command of three words.
+fn of_three<'a, F: Files, K: Sink>(
+    alloc: Global,
+    word: &Text,
+    second: &'a Text,
+    third: &'a Text,
+    files: &mut F,
+    out: &mut K,
+) -> Result<(), Fault<'a>>
+    ensures { Outcome (record {
+      held = F.held files.old;
+      read_before = F.faults files.old;
+      read_now = F.faults files.new;
+      taken_before = K.taken out.old;
+      taken_now = K.taken out.new;
+      write_before = K.faults out.old;
+      write_now = K.faults out.new;
+    }) (word.now ∷ second.now ∷ third.now ∷ []) result }
+{
+    if word.as_str() == "compact" {
+        return compact(alloc, second, third, files, out);
+    }
+    if word.as_str() != "generate" || third.as_str() != "lines" {
+        return Err(Fault::Usage);
+    }
+    match made_count(second) {
+        Some(count) => generate_lines(alloc, count, out),
+        None => Err(Fault::Usage),
+    }
+}
+
+// Does the command of four words.
+fn of_four<'a, F: Files, K: Sink>(
+    alloc: Global,
+    word: &Text,
+    second: &'a Text,
+    third: &'a Text,
+    fourth: &'a Text,
+    files: &mut F,
+    out: &mut K,
+) -> Result<(), Fault<'a>>
+    ensures { Outcome (record {
+      held = F.held files.old;
+      read_before = F.faults files.old;
+      read_now = F.faults files.new;
+      taken_before = K.taken out.old;
+      taken_now = K.taken out.new;
+      write_before = K.faults out.old;
+      write_now = K.faults out.new;
+    }) (word.now ∷ second.now ∷ third.now ∷ fourth.now ∷ []) result }
+{
+    if word.as_str() == "rows" {
+        return rows(alloc, second, third, fourth, files, out);
+    }
+    if word.as_str() == "token" {
+        return token(alloc, second, third, fourth, files, out);
+    }
+    if word.as_str() == "replay" {
+        return replay_files(alloc, second, third, fourth, files, out);
+    }
+    Err(Fault::Usage)
 }
 
 // Prints what rules have.
@@ -124,7 +199,64 @@ fn rows<'a, F: Files, K: Sink>(
         Ok(asker) => asker,
         Err(fault) => return Err(fault),
     };
-    let text = match load_rows(alloc, files, changes, rules, &asker) {
+    let text = match load_rows(alloc, files, changes, rules, asker) {
+        Ok(text) => text,
+        Err(fault) => return Err(fault),
+    };
+    match out.write(text.as_slice()) {
+        Ok(()) => Ok(()),
+        Err(_) => Err(Fault::CannotWrite),
+    }
+}
+
+// Prints what the compaction of each bucket reports.
+fn compact<'a, F: Files, K: Sink>(
+    alloc: Global,
+    rules: &'a Text,
+    changes: &'a Text,
+    files: &mut F,
+    out: &mut K,
+) -> Result<(), Fault<'a>>
+    ensures { (word : List ℕ) → bytes_eq word (codes "compact") ≡ true → Outcome (record {
+      held = F.held files.old;
+      read_before = F.faults files.old;
+      read_now = F.faults files.new;
+      taken_before = K.taken out.old;
+      taken_now = K.taken out.new;
+      write_before = K.faults out.old;
+      write_now = K.faults out.new;
+    })
+        (word ∷ rules.now ∷ changes.now ∷ []) result }
+{
+    let rules = match load_rules(alloc, files, rules) {
+        Ok(rules) => rules,
+        Err(fault) => return Err(fault),
+    };
+    let text = match load_reports(alloc, files, changes, rules) {
+        Ok(text) => text,
+        Err(fault) => return Err(fault),
+    };
+    match out.write(text.as_slice()) {
+        Ok(()) => Ok(()),
+        Err(_) => Err(Fault::CannotWrite),
+    }
+}
+
+// Prints the summary of made transactions.
+fn generate<'a, K: Sink>(alloc: Global, count: u32, out: &mut K) -> Result<(), Fault<'a>>
+    requires { count ≤ made_limit }
+    ensures { (held : Option Contents) (read : ℕ) (words : List (List ℕ)) → command_of words ≡ Some (generate_command count) → Outcome (record {
+      held = held;
+      read_before = read;
+      read_now = read;
+      taken_before = K.taken out.old;
+      taken_now = K.taken out.new;
+      write_before = K.faults out.old;
+      write_now = K.faults out.new;
+    })
+        words result }
+{
+    let text = match print_summary(alloc, count) {
         Ok(text) => text,
         Err(fault) => return Err(fault),
     };
@@ -200,9 +332,10 @@ fn token<'a, F: Files, K: Sink>(
 /// Does a command that does not wait, and answers its status: docs/FORMATS.md, "Commands" and "Statuses".
 ///
 /// The words are those after the program's name. `check RULES` prints what the rules have. `rows RULES CHANGES CLAIMS` prints the rows
-/// that are due to the asker of the claims over all transactions of the change file. `token KEYS KID CLAIMS` prints the token of the
-/// claims' payload, signed with the key of that kid. `generate N lines` prints N made change lines. Where anything is refused, nothing is
-/// printed.
+/// that are due to the asker of the claims over all transactions of the change file. `replay RULES CHANGES SCRIPT` prints the text of each
+/// event of the script as it comes. `compact RULES CHANGES` prints what the compaction of each bucket reports. `token KEYS KID CLAIMS` prints
+/// the token of the claims' payload, signed with the key of that kid. `generate N lines` prints N made change lines, and `generate N` a
+/// summary of them. Where anything is refused, nothing is printed, but for the texts of the lines of a script before the refused one.
 pub fn run_plain<F: Files, K: Sink, E: Sink>(
     alloc: Global,
     words: &[Text],
@@ -210,23 +343,28 @@ pub fn run_plain<F: Files, K: Sink, E: Sink>(
     out: &mut K,
     err: &mut E,
 ) -> u8
-    // Status 0: exactly the lines of the rules, the rows that are due or the signed token were printed, and nothing was said.
+    // Status 0: exactly what the command means was printed, and nothing was said.
     ensures done { result ≡ 0 → Prints (F.held files.old) words.now (K.taken out.old) (K.taken out.new) }
     ensures quiet { result ≡ 0 → E.taken err.new ≡ E.taken err.old }
 
-    // Statuses 1 to 8, each by its cause.
+    // Statuses 1 to 9, each by its cause.
     ensures usage { (result ≡ 1) ↔ (command_of words.now ≡ None) }
-    ensures rules { result ≡ 2 → (line column : ℕ) × (why : RulesCauseData) × RefusesRules (F.held files.old) words.now (Fault.Rules line column why) }
-    ensures changes { result ≡ 3 → (line : ℕ) × (why : LineFaultData) × RefusesChanges (F.held files.old) words.now (Fault.Change line why) }
+    ensures rules { result ≡ 2 → (line column : ℕ) × (why : RulesCauseData)
+        × (RefusesRules (F.held files.old) words.now (Fault.Rules line column why) ⊎ RefusesMade words.now (Fault.Rules line column why)) }
+    ensures changes { result ≡ 3 → (line : ℕ) × (why : LineFaultData) × RefusesLines (F.held files.old) words.now (Fault.Change line why) }
     ensures claims { result ≡ 4 → RefusesKeys (F.held files.old) words.now ⊎ RefusesClaims (F.held files.old) words.now }
     ensures limits { result ≡ 5 → ExceedsLimit (F.held files.old) words.now }
     ensures unread { result ≡ 6 → Rose (F.faults files.old) (F.faults files.new) × (name : List ℕ) × IsNext (F.held files.old) words.now name }
     ensures unwritten { result ≡ 7 → Rose (K.faults out.old) (K.faults out.new)
         × PrintsFront (F.held files.old) words.now (K.taken out.old) (K.taken out.new) }
-    ensures known { result ≤ 8 }
+    ensures script { result ≡ 9 → (line : ℕ) × (why : ScriptCauseData)
+        × RefusesScript (F.held files.old) words.now line why (K.taken out.old) (K.taken out.new) }
+    ensures known { result ≤ 9 }
 
-    // Nothing is printed unless all went well, but for the front that a failed write leaves.
-    ensures kept { result ≢ 0 → result ≢ 7 → K.taken out.new ≡ K.taken out.old }
+    // Nothing is printed unless all went well, but for the front that a failed write leaves. `replay` prints as it goes: what it printed
+    // before a refused line, or before memory was wanting, are the texts of the lines before.
+    ensures kept { result ≢ 0 → result ≢ 7 → result ≢ 8 → result ≢ 9 → K.taken out.new ≡ K.taken out.old }
+    ensures early { result ≡ 8 → (K.taken out.new ≡ K.taken out.old) ⊎ PrintsSome (F.held files.old) words.now (K.taken out.old) (K.taken out.new) }
 
     // What is said is the line of a fault that has its cause and that status.
     ensures said { result ≢ 0 → SaysCause (record {

@@ -2,7 +2,7 @@ ghost use Rattle.std.specs.Prelude.{◌≡◌, ◌++◌, codes, decimal};
 ghost use Rattle.ps_commands.specs.Commands.{Tells, fault_line};
 ghost use Rattle.ps_commands.specs.Saying.{SaysFault, IsCauseText, joined};
 
-use crate::faults::{Fault, Limit, LineFault, RulesCause};
+use crate::faults::{Fault, Limit, LineFault, RulesCause, ScriptCause};
 use itoa::Buffer;
 use ps_io::Sink;
 
@@ -136,6 +136,19 @@ fn tell_rules<E: Sink>(err: &mut E, line: u32, column: u32, why: RulesCause)
     }
 }
 
+// Writes the line of a fault of a script's line.
+fn tell_script<E: Sink>(err: &mut E, line: u64, why: ScriptCause)
+    ensures { Tells (E.taken err.old) (E.taken err.new) (E.faults err.old) (E.faults err.new) (fault_line (Fault.Script line why)) }
+{
+    match why {
+        ScriptCause::BadEvent => tell_number(err, "powersync: script ", line, " bad-event\n"),
+        ScriptCause::UnknownClient => {
+            tell_number(err, "powersync: script ", line, " unknown-client\n");
+        }
+        ScriptCause::WrongPhase => tell_number(err, "powersync: script ", line, " wrong-phase\n"),
+    }
+}
+
 // Writes the line of a file that cannot be read.
 fn tell_cannot_read<E: Sink>(err: &mut E, name: &str)
     ensures { Tells (E.taken err.old) (E.taken err.new) (E.faults err.old) (E.faults err.new) (codes "powersync: cannot read " ++ (name.now ++ codes "\n")) }
@@ -187,6 +200,10 @@ pub fn say<E: Sink>(err: &mut E, fault: &Fault<'_>) -> u8
         Fault::CannotWrite => {
             tell_line(err, "powersync: cannot write\n");
             7
+        }
+        Fault::Script { line, why } => {
+            tell_script(err, *line, *why);
+            9
         }
         Fault::Memory => {
             tell_line(err, "powersync: out of memory\n");

@@ -1,129 +1,95 @@
-//! The lines of a checkpoint of one bucket.
+//! The lines of a stream's first checkpoint, as they are written.
 
-ghost use Rattle.std.specs.Prelude.{◌≤◌, IfOk};
-ghost use Rattle.ps_values.specs.Numbers.{greatest};
-ghost use Rattle.ps_bucket_log.specs.Logs.{AreEntries};
+ghost use Rattle.std.specs.Prelude.{OnOk};
+ghost use Rattle.ps_sql_eval.specs.Evaluated.{asker_of as seen_of};
+ghost use Rattle.ps_session.specs.Kept.{state_of};
+ghost use Rattle.service_cases.specs.Serving.{IsServing, IsOver};
 
-use crate::reading::rules_of;
-use crate::storing::{bucket_in, store_over};
+use crate::reading::{asker_of, rules_of};
+use crate::storing::store_over;
+use crate::turns::{begin, turn};
 use crate::words::{Stop, Texts, cut};
-use ps_bucket_log::{Log, batches_are_the_log, standing_logs_stay_standing};
-use ps_commands::{Bucket, checkpoint_line, complete_line, data_line};
-use ps_lines::write_line;
-use ps_rules::Rules;
-use ps_values::{Memory, OpId, Text};
+use ps_lines::{Line, read_line, write_line};
+use ps_session::{Action, Session};
+use ps_sql_eval::Asker;
+use ps_store::Store;
+use ps_values::Memory;
 use std::alloc::Global;
 
-// A bucket over a change file, with the number of all operations.
-fn bucket_over(
+// Adds the line of a session's next turn, if there is one.
+fn push_turn(
     alloc: Global,
-    rules: Rules,
-    changes: &str,
-    name: &str,
-) -> Result<(Bucket, OpId), Memory>
-    ensures entries { IfOk result (λ made. AreEntries 0 made.0.log.ops) }
-    ensures last { IfOk result (λ made. made.1.0 ≤ greatest) }
-{
-    let store = store_over(alloc, rules, changes)?;
-    let last_op = store.checkpoint().op;
-    if 9223372036854775807 < last_op.0 {
-        return Err(Memory);
-    }
-    let bucket = bucket_in(alloc, &store, name)?;
-    Ok((bucket, last_op))
-}
-
-// The first data line of a log, as it is written.
-fn data_bytes(alloc: Global, bucket: &Bucket, last_op: OpId) -> Result<Vec<u8>, Memory>
-    requires log { AreEntries 0 bucket.now.log.ops }
-    requires last { last_op.0 ≤ greatest }
-{
-    standing_logs_stay_standing();
-    batches_are_the_log();
-    if bucket.log.newest_upto(last_op).0 == 0 {
-        return Ok(Vec::new(alloc));
-    }
-    let batch = bucket.log.read(alloc, OpId(0), last_op)?;
-    let line = data_line(alloc, &bucket.name, OpId(0), batch)?;
-    write_line(alloc, &line)
-}
-
-// The checkpoint's line, as it is written.
-fn checkpoint_bytes(alloc: Global, buckets: &[Bucket], last_op: OpId) -> Result<Vec<u8>, Memory>
-    requires { last_op.0 ≤ greatest }
-{
-    let line = checkpoint_line(alloc, buckets, last_op)?;
-    write_line(alloc, &line)
-}
-
-// The line that completes the checkpoint, as it is written.
-fn complete_bytes(alloc: Global, last_op: OpId) -> Result<Vec<u8>, Memory>
-    requires { last_op.0 ≤ greatest }
-{
-    write_line(alloc, &complete_line(last_op))
-}
-
-fn push_line(out: &mut String, bytes: &[u8]) -> Result<(), Stop> {
-    out.push_str("\n")?;
-    Ok(out.push_str(str::from_utf8(bytes)?.trim_end())?)
-}
-
-// Adds the checkpoint's line.
-fn push_checkpoint(
-    alloc: Global,
-    bucket: Bucket,
-    last_op: OpId,
-    out: &mut String,
+    store: &Store,
+    session: &mut Session,
+    lines: &mut String,
 ) -> Result<(), Stop>
-    requires { last_op.0 ≤ greatest }
+    requires { IsOver store.now (seen_of session.old.asker) (state_of session.old) }
+    ensures { OnOk result (IsOver store.now (seen_of session.new.asker) (state_of session.new)) }
 {
-    let buckets = vec![in alloc; bucket]?;
-    let checkpoint = checkpoint_bytes(alloc, buckets.as_slice(), last_op)?;
-    push_line(out, checkpoint.as_slice())
+    match turn(alloc, store, session)? {
+        Some(line) => {
+            let bytes = write_line(alloc, &line)?;
+            Ok(lines.push_str(str::from_utf8(bytes.as_slice())?)?)
+        }
+        None => Ok(()),
+    }
 }
 
-// Adds the complete line.
-fn push_complete(alloc: Global, last_op: OpId, out: &mut String) -> Result<(), Stop>
-    requires { last_op.0 ≤ greatest }
+// Adds the lines of all turns of a session, up to the end of its checkpoint.
+fn push_lines(
+    alloc: Global,
+    store: &Store,
+    session: &mut Session,
+    lines: &mut String,
+) -> Result<(), Stop>
+    requires { IsOver store.now (seen_of session.old.asker) (state_of session.old) }
 {
-    let complete = complete_bytes(alloc, last_op)?;
-    push_line(out, complete.as_slice())
+    'turns: for _ in 0..1000000 {
+        if session.next_action() == Action::Wait {
+            return Ok(());
+        }
+        push_turn(alloc, store, session, lines)?;
+    }
+    Err(Memory)?
 }
 
-// Adds the three lines.
-fn push_lines(alloc: Global, bucket: Bucket, last_op: OpId, out: &mut String) -> Result<(), Stop>
-    requires log { AreEntries 0 bucket.log.ops }
-    requires last { last_op.0 ≤ greatest }
+// The lines for an asker who holds nothing.
+fn lines_for(alloc: Global, store: &Store, asker: Asker) -> Result<String, Stop>
+    requires { IsServing store.now }
 {
-    let data = data_bytes(alloc, &bucket, last_op)?;
-    push_checkpoint(alloc, bucket, last_op, out)?;
-    push_line(out, data.as_slice())?;
-    push_complete(alloc, last_op, out)
+    let mut lines = String::new(alloc);
+    let mut session = begin(alloc, asker);
+    push_lines(alloc, store, &mut session, &mut lines)?;
+    Ok(lines)
 }
 
-/// The checkpoint's line, the first data line and the complete line of a bucket: RULES CHANGES BUCKET.
+// The lines for a user of whom no more is known, over rules and changes.
+fn lines_over(alloc: Global, rules: &str, changes: &str, user: &str) -> Result<String, Stop> {
+    let rules = rules_of(alloc, rules)?;
+    let store = store_over(alloc, rules, changes)?;
+    lines_for(alloc, &store, asker_of(alloc, user, "{}")?)
+}
+
+// RULES CHANGES USER
+fn lines_of(alloc: Global, texts: &Texts, words: &str) -> Result<String, Stop> {
+    let (rules, words) = cut(words);
+    let (changes, user) = cut(words);
+    lines_over(alloc, texts.text(rules)?, texts.text(changes)?, user)
+}
+
+/// All lines: RULES CHANGES USER.
 pub fn write_lines(
     alloc: Global,
     texts: &Texts,
     words: &str,
     out: &mut String,
 ) -> Result<(), Stop> {
-    let (rules, words) = cut(words);
-    let (changes, name) = cut(words);
-    let rules = rules_of(alloc, texts.text(rules)?)?;
-    let (bucket, last_op) = bucket_over(alloc, rules, texts.text(changes)?, name)?;
-    out.push_str("lines")?;
-    push_lines(alloc, bucket, last_op, out)
+    let lines = lines_of(alloc, texts, words)?;
+    out.push_str("lines\n")?;
+    Ok(out.push_str(lines.as_str().trim_end())?)
 }
 
-// The first data line of a bucket, as it is written.
-fn first_data(alloc: Global, rules: &str, changes: &str, name: &str) -> Result<Vec<u8>, Stop> {
-    let rules = rules_of(alloc, rules)?;
-    let (bucket, last_op) = bucket_over(alloc, rules, changes, name)?;
-    Ok(data_bytes(alloc, &bucket, last_op)?)
-}
-
-/// The last bytes of the first data line of a bucket: COUNT RULES CHANGES BUCKET.
+/// The last bytes of the first data line: COUNT RULES CHANGES USER.
 pub fn write_line_end(
     alloc: Global,
     texts: &Texts,
@@ -131,9 +97,43 @@ pub fn write_line_end(
     out: &mut String,
 ) -> Result<(), Stop> {
     let (count, words) = cut(words);
-    let (rules, words) = cut(words);
-    let (changes, name) = cut(words);
-    let data = first_data(alloc, texts.text(rules)?, texts.text(changes)?, name)?;
+    let lines = lines_of(alloc, texts, words)?;
+    let data = lines.as_str().lines().nth(1).ok_or("no data")?.as_bytes();
     let start = data.len().saturating_sub(count.parse::<usize>()?);
-    Ok(out.push_str(str::from_utf8(&data.as_slice()[start..])?.trim_end())?)
+    Ok(out.push_str(str::from_utf8(&data[start..])?)?)
+}
+
+// What a line of a first checkpoint tells.
+fn write_told(out: &mut String, line: &Line) -> Result<(), Stop> {
+    match line {
+        Line::Checkpoint {
+            last_op,
+            buckets,
+            ..
+        } => Ok(write!(out, "\ncheckpoint {} buckets {}", last_op.0, buckets.len())?),
+        Line::Data {
+            bucket,
+            after,
+            has_more,
+            ops,
+            next_after,
+        } => {
+            write!(out, "\ndata {} after {}", bucket.as_str(), after.0)?;
+            write!(out, " operations {} has_more {has_more}", ops.len())?;
+            Ok(write!(out, " next_after {}", next_after.0)?)
+        }
+        Line::Complete { last_op } => Ok(write!(out, "\ncomplete {}", last_op.0)?),
+        Line::Diff { .. } | Line::Expires { .. } | Line::Unknown => Err(Memory)?,
+    }
+}
+
+/// What each line tells, as it is read from its bytes: RULES CHANGES USER.
+pub fn write_sent(alloc: Global, texts: &Texts, words: &str, out: &mut String) -> Result<(), Stop> {
+    let lines = lines_of(alloc, texts, words)?;
+    out.push_str("sent")?;
+    'lines: for line in lines.as_str().lines() {
+        let line = read_line(alloc, line.as_bytes())?;
+        write_told(out, &line)?;
+    }
+    Ok(())
 }

@@ -9,6 +9,7 @@ mod lookups;
 mod placing;
 mod reading;
 mod storing;
+mod turns;
 mod words;
 
 use std::alloc::Global;
@@ -58,6 +59,7 @@ fn answer_part(
         "at-once" => storing::write_at_once(alloc, texts, rest, out),
         "lines" => lines::write_lines(alloc, texts, rest, out),
         "line-end" => lines::write_line_end(alloc, texts, rest, out),
+        "sent" => lines::write_sent(alloc, texts, rest, out),
         _ => return Ok(false),
     };
     answered?;

@@ -1,25 +1,20 @@
-//! The logs of all buckets.
+//! Stores over change files, and the logs of their buckets.
 
-ghost use Rattle.std.specs.Prelude.{List, IfOk};
-ghost use Rattle.ps_bucket_log.specs.Logs.{AreEntries};
-ghost use Rattle.ps_changes.specs.declared.changes.Transaction.{Transaction};
-ghost use Rattle.ps_rules.specs.RuleSets.{RuleSet};
-ghost use Rattle.ps_commands.specs.ReadingChanges.{HasCommitted};
+ghost use Rattle.std.specs.Prelude.{IfOk};
+ghost use Rattle.service_cases.specs.Serving.{IsServing};
 
 use crate::reading::rules_of;
 use crate::words::{Stop, Texts, cut};
-use ps_bucket_log::{Log, Op};
-use ps_commands::{Bucket, read_bucket, write_changes};
+use ps_bucket_log::Op;
+use ps_commands::write_changes;
 use ps_rules::Rules;
-use ps_store::{
-    Store, have_numbers, latest_rows_are_due, ledgers_tell_histories, readers_hold_what_stands,
-};
-use ps_values::{Memory, Text};
+use ps_store::{Store, latest_rows_are_due, readers_hold_what_stands};
+use ps_values::{Memory, OpId, Text};
 use std::alloc::Global;
 
 /// A store that a change file was written into.
 pub fn store_over(alloc: Global, rules: Rules, changes: &str) -> Result<Store, Memory>
-    ensures { IfOk result (λ store. (rules : RuleSet) × (transactions : List Transaction) × HasCommitted rules transactions store) }
+    ensures { IfOk result IsServing }
 {
     if 4294967295 <= changes.len() {
         return Err(Memory);
@@ -28,17 +23,6 @@ pub fn store_over(alloc: Global, rules: Rules, changes: &str) -> Result<Store, M
         Ok(store) => Ok(store),
         Err(_) => Err(Memory),
     }
-}
-
-/// A bucket of a store, up to its checkpoint.
-pub fn bucket_in(alloc: Global, store: &Store, name: &str) -> Result<Bucket, Memory>
-    requires { (rules : RuleSet) × (transactions : List Transaction) × HasCommitted rules transactions store.now }
-    ensures { IfOk result (λ bucket. AreEntries 0 bucket.log.ops) }
-{
-    ledgers_tell_histories();
-    let name = Text::from_str(alloc, name)?;
-    let last_op = store.checkpoint().op;
-    read_bucket(alloc, store, name, last_op)
 }
 
 // A sign for an operation's kind, its id, and its row.
@@ -51,23 +35,34 @@ fn write_op(out: &mut String, op: &Op) -> Result<(), Stop> {
     }
 }
 
-// The operations of a bucket, in order.
-fn write_log(alloc: Global, store: &Store, name: &str, out: &mut String) -> Result<(), Stop>
-    requires { (rules : RuleSet) × (transactions : List Transaction) × HasCommitted rules transactions store.now }
-{
-    write!(out, "\n{name}")?;
-    let bucket = bucket_in(alloc, store, name)?;
-    let ops = bucket.log.ops(alloc)?;
-    'ops: for op in ops.as_slice() {
+// Writes operations. The answer is the last one's id, the one before them where there is none.
+fn write_ops(out: &mut String, before: OpId, ops: &[Op]) -> Result<OpId, Stop> {
+    let mut last = before;
+    'ops: for op in ops {
         write_op(out, op)?;
+        last = op.id();
+    }
+    Ok(last)
+}
+
+// The operations of a bucket up to the checkpoint, in order, batch after batch.
+fn write_log(alloc: Global, store: &Store, name: &str, out: &mut String) -> Result<(), Stop> {
+    write!(out, "\n{name}")?;
+    let name = Text::from_str(alloc, name)?;
+    let upto = store.checkpoint().op;
+    let mut after = OpId(0);
+    'batches: for _ in 0..store.log_length(&name) {
+        let batch = store.read_batch(alloc, &name, after, upto)?;
+        after = write_ops(out, after, batch.ops.as_slice())?;
+        if !batch.has_more {
+            break;
+        }
     }
     Ok(())
 }
 
 // The operations of buckets.
-fn write_logs(alloc: Global, store: &Store, names: &str, out: &mut String) -> Result<(), Stop>
-    requires { (rules : RuleSet) × (transactions : List Transaction) × HasCommitted rules transactions store.now }
-{
+fn write_logs(alloc: Global, store: &Store, names: &str, out: &mut String) -> Result<(), Stop> {
     'names: for name in names.split(' ') {
         write_log(alloc, store, name, out)?;
     }
@@ -101,7 +96,6 @@ pub fn write_at_once(
     let (rules, words) = cut(words);
     let (changes, name) = cut(words);
     let rules = rules_of(alloc, texts.text(rules)?)?;
-    have_numbers(&rules);
     let first = texts.text(changes)?.lines().next().ok_or("no line")?;
     let store = store_over(alloc, rules, first)?;
     out.push_str("at once")?;

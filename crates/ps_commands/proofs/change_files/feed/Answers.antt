@@ -1,10 +1,10 @@
 use Rattle.std.proofs.Common.{Err, ap, ◌∙◌}
 use Rattle.ps_commands.specs.ReadingChanges.{usual}
-use Rattle.ps_commands.proofs.Reaching.{fed_more, is_open, is_past}
+use Rattle.ps_commands.proofs.Reaching.{fed_more, is_past}
 use Rattle.ps_commands.proofs.change_files.feed.Goals as goal
 
 pub returns-in-Ok : goal.returns-in-Ok
-returns-in-Ok c = λ rules done h. fed_more rules done c.args.store.now h c.args.transaction c.feed.new.self (rw c.in-Ok.is at (c.feed.ensures (usual rules) h.history h.stands))
+returns-in-Ok c = λ rules done h later. fed_more rules done c.args.store.now h c.args.transaction c.feed.new.self later (rw c.in-Ok.is at (c.feed.ensures (usual rules) h.history h.stands))
 
 pub unreachable-requires-in-Err-NotRising : goal.unreachable-requires-in-Err-NotRising
 unreachable-requires-in-Err-NotRising c =

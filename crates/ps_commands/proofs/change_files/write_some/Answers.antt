@@ -1,4 +1,4 @@
-use Rattle.std.proofs.Common.{Err, ap, ◌∙◌}
+use Rattle.std.proofs.Common.{Err, refl, ap, ◌∙◌}
 use Rattle.ps_commands.specs.ReadingChanges.{usual}
 use Rattle.ps_commands.proofs.Reaching.{wrote_some, full_by}
 use Rattle.ps_commands.proofs.change_files.write_some.Goals as goal
@@ -6,7 +6,7 @@ use Rattle.ps_commands.proofs.change_files.write_some.Goals as goal
 pub returns-in-Ok : goal.returns-in-Ok
 returns-in-Ok c = λ rules ts left passed h some.
     let wrote = rw c.in-Ok.is at (c.write_batch.ensures (usual rules) h.history h.stands) in
-    wrote_some c.ledgers_tell_histories.ensures rules ts left passed c.args.store.now h 1000 c.in-Ok.wrote.changes c.write_batch.new.self wrote.0 wrote.1 wrote.4
+    wrote_some c.ledgers_tell_histories.ensures rules ts left passed c.args.store.now h 1000 c.in-Ok.wrote.changes c.write_batch.new.self refl wrote.0 wrote.1 wrote.4
 
 pub returns-in-Err-OpsFull : goal.returns-in-Err-OpsFull
 returns-in-Err-OpsFull c = λ rules ts left passed h some.

@@ -1,4 +1,4 @@
-use Rattle.std.proofs.Common.{◌≡◌, ◌++◌, ◌∷◌, [], ◌∙◌, ap, sym, List, ℕ, append_assoc, codes, decimal, length}
+use Rattle.std.proofs.Common.{◌≡◌, ◌++◌, ◌∙◌, ap, List, ℕ, append_assoc, codes, decimal, length}
 use Rattle.ps_commands.specs.Checking.{definition_line}
 use Rattle.ps_commands.proofs.checking.push_definition.Goals as goal
 

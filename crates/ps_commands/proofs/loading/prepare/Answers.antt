@@ -3,13 +3,18 @@ use Rattle.ps_commands.specs.Texts.{rows_text}
 use Rattle.ps_commands.proofs.Causes.{rows_refused}
 use Rattle.ps_commands.proofs.loading.prepare.Goals as goal
 
+pub due_rows-requires : goal.due_rows-requires
+due_rows-requires c =
+    let s = c.in_ok-store.ensures in
+    (c.args.rules, s.0, s.2)
+
 pub returns-in-Err : goal.returns-in-Err
 returns-in-Err c =
     let s = c.in_ok-store.ensures in
-    rows_refused c.args.rules c.args.asker.now c.args.changes.now s.0 s.1 c.in-Err.fault (c.in-Err.ensures c.args.rules s.0 s.2 c.have_numbers.ensures.rules c.have_numbers.ensures.numbers)
+    rows_refused c.args.rules c.args.asker c.args.changes.now s.0 s.1 c.in-Err.fault (c.in-Err.ensures c.args.rules s.0 s.2)
 
 pub returns : goal.returns
 returns c =
     let s = c.in_ok-store.ensures in
-    let a = c.in-Ok.ensures c.args.rules s.0 s.2 c.have_numbers.ensures.rules c.have_numbers.ensures.numbers in
+    let a = c.in-Ok.ensures c.args.rules s.0 s.2 in
     record { transactions = s.0; read = s.1; within = a.0; is = c.in_ok-text.ensures ∙ ap rows_text (c.as_slice.ensures ∙ a.1) }

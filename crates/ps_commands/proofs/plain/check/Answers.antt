@@ -1,4 +1,4 @@
-use Rattle.std.proofs.Common.{refl, subst, List, ℕ, [], ◌∷◌, Option}
+use Rattle.std.proofs.Common.{inl, refl, subst, List, ℕ, [], ◌∷◌, Option}
 use Rattle.ps_io.specs.Contents.{Contents, Gains, GainsFront}
 use Rattle.ps_commands.specs.Commands.{check, Outside, MeansCheck}
 use Rattle.ps_commands.proofs.Causes.{words_check, rules_read, cause_of_rules}
@@ -11,7 +11,7 @@ returns-in-Err g c = λ word same.
     cause_of_rules o words c.args.rules.now c.in-Err.fault refl (record { command = check c.args.rules.now; is = words_check word c.args.rules.now same; comes = refl }) c.in-Err.ensures.loads
 
 pub returns-in-Err-print_check : goal.returns-in-Err-print_check
-returns-in-Err-print_check g c = λ word same. (refl, (check c.args.rules.now, words_check word c.args.rules.now same))
+returns-in-Err-print_check g c = λ word same. inl (refl, (check c.args.rules.now, words_check word c.args.rules.now same))
 
 pub returns-in-Ok-write : goal.returns-in-Ok-write
 returns-in-Ok-write g c = λ word same.

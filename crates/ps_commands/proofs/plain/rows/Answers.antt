@@ -1,6 +1,5 @@
 use Rattle.std.proofs.Common.{◌≤◌, ◌∙◌, Option, refl, subst, arith, List, ℕ, [], ◌∷◌}
 use Rattle.ps_io.specs.Contents.{Contents, Gains, GainsFront}
-use Rattle.ps_sql_eval.specs.Evaluated.{asker_of}
 use Rattle.ps_commands.specs.Commands.{Names, rows, Outside}
 use Rattle.ps_commands.proofs.Causes.{words_rows, rules_read, cause_of_rules, asker_read, cause_of_asker, cause_of_rows, means_rows}
 use Rattle.ps_commands.proofs.plain.rows.Goals as goal

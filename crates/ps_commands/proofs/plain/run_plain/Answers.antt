@@ -1,4 +1,4 @@
-use Rattle.ps_commands.proofs.Exactness.{exact_ok, exact_err, limits_by, changes_by, claims_by, unread_by, unwritten_by}
+use Rattle.ps_commands.proofs.Exactness.{exact_ok, exact_err, limits_by, changes_by, claims_by, unread_by, unwritten_by, script_by, early_by, kept_by}
 use Rattle.ps_commands.proofs.plain.run_plain.Goals as goal
 
 pub returns-in-Ok-clause-exact : goal.returns-in-Ok-clause-exact
@@ -30,3 +30,15 @@ returns-in-Err-clause-unwritten g c = λ status.
 pub returns-in-Err-clause-changes : goal.returns-in-Err-clause-changes
 returns-in-Err-clause-changes g c = λ status.
     changes_by (record { held = g.F.Files.held c.args.files.now; read_before = g.F.Files.faults c.args.files.now; read_now = g.F.Files.faults c.command.new.files; taken_before = g.K.Sink.taken c.args.out.now; taken_now = g.K.Sink.taken c.command.new.out; write_before = g.K.Sink.faults c.args.out.now; write_now = g.K.Sink.faults c.command.new.out }) c.args.words.now c.say.result c.in-Err.fault c.in-Err.ensures c.say.ensures.is status
+
+pub returns-in-Err-clause-script : goal.returns-in-Err-clause-script
+returns-in-Err-clause-script g c = λ status.
+    script_by (record { held = g.F.Files.held c.args.files.now; read_before = g.F.Files.faults c.args.files.now; read_now = g.F.Files.faults c.command.new.files; taken_before = g.K.Sink.taken c.args.out.now; taken_now = g.K.Sink.taken c.command.new.out; write_before = g.K.Sink.faults c.args.out.now; write_now = g.K.Sink.faults c.command.new.out }) c.args.words.now c.say.result c.in-Err.fault c.in-Err.ensures c.say.ensures.is status
+
+pub returns-in-Err-clause-early : goal.returns-in-Err-clause-early
+returns-in-Err-clause-early g c = λ status.
+    early_by (record { held = g.F.Files.held c.args.files.now; read_before = g.F.Files.faults c.args.files.now; read_now = g.F.Files.faults c.command.new.files; taken_before = g.K.Sink.taken c.args.out.now; taken_now = g.K.Sink.taken c.command.new.out; write_before = g.K.Sink.faults c.args.out.now; write_now = g.K.Sink.faults c.command.new.out }) c.args.words.now c.say.result c.in-Err.fault c.in-Err.ensures c.say.ensures.is status
+
+pub returns-in-Err-clause-kept : goal.returns-in-Err-clause-kept
+returns-in-Err-clause-kept g c = λ zero seven eight nine.
+    kept_by (record { held = g.F.Files.held c.args.files.now; read_before = g.F.Files.faults c.args.files.now; read_now = g.F.Files.faults c.command.new.files; taken_before = g.K.Sink.taken c.args.out.now; taken_now = g.K.Sink.taken c.command.new.out; write_before = g.K.Sink.faults c.args.out.now; write_now = g.K.Sink.faults c.command.new.out }) c.args.words.now c.say.result c.in-Err.fault c.in-Err.ensures c.say.ensures.is seven eight nine

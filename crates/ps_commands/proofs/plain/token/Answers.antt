@@ -1,4 +1,4 @@
-use Rattle.std.proofs.Common.{◌≤◌, ◌∙◌, Option, refl, subst, arith, List, ℕ, [], ◌∷◌}
+use Rattle.std.proofs.Common.{inl, Option, refl, subst, List, ℕ, [], ◌∷◌}
 use Rattle.ps_io.specs.Contents.{Contents, Gains, GainsFront}
 use Rattle.ps_sql_eval.specs.Evaluated.{asker_of}
 use Rattle.ps_commands.specs.Commands.{Signing, token, Outside, MeansToken}
@@ -30,7 +30,7 @@ returns-in-Err-load_asker g c = λ word other same.
     (record { command = token names; is = command; comes = (refl, found.0, found.1) }) c.in-Err-load_asker.ensures.loads
 
 pub returns-in-Err-Memory : goal.returns-in-Err-Memory
-returns-in-Err-Memory g c = λ word other same. (refl, (token (record { keys = c.args.keys.now; kid = c.args.kid.now; claims = c.args.claims.now }), words_token word c.args.keys.now c.args.kid.now c.args.claims.now other same))
+returns-in-Err-Memory g c = λ word other same. inl (refl, (token (record { keys = c.args.keys.now; kid = c.args.kid.now; claims = c.args.claims.now }), words_token word c.args.keys.now c.args.kid.now c.args.claims.now other same))
 
 pub returns-in-Ok-write : goal.returns-in-Ok-write
 returns-in-Ok-write g c = λ word other same.

@@ -37,5 +37,8 @@ returns-in-CannotRead g c = rw c.in-CannotRead.is (record {
 pub returns-in-CannotWrite : goal.returns-in-CannotWrite
 returns-in-CannotWrite g c = rw c.in-CannotWrite.is (record { is = refl; line = c.tell_line-in-CannotWrite.ensures })
 
+pub returns-in-Script : goal.returns-in-Script
+returns-in-Script g c = rw c.in-Script.is (record { is = refl; line = c.tell_script.ensures })
+
 pub returns-in-Memory : goal.returns-in-Memory
 returns-in-Memory g c = rw c.in-Memory.is (record { is = refl; line = c.tell_line-in-Memory.ensures })

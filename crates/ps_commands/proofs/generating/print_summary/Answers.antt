@@ -1,0 +1,25 @@
+use Rattle.std.proofs.Common.{◌≡◌, ◌∙◌, ap, sym, subst, refl, length, arith, List}
+use Rattle.ps_changes.specs.declared.changes.Transaction.{Transaction}
+use Rattle.ps_gen.specs.Made.{made_rules}
+use Rattle.ps_commands.specs.Generating.{CanBeFed, Summarizes, summary_under}
+use Rattle.ps_commands.proofs.Summaries.{ruled, not_ruled, made_can_be_fed}
+use Rattle.ps_commands.proofs.generating.print_summary.Goals as goal
+
+short : length made_rules ≡ 135
+short = refl
+
+pub read_rules_file-requires : goal.read_rules_file-requires
+read_rules_file-requires c =
+    let long : length c.as_slice.result.now ≡ 135 = ap length (c.as_slice.ensures.value ∙ c.in_ok-text.ensures) ∙ short in
+    omega (arith, long)
+
+pub returns-in-Err : goal.returns-in-Err
+returns-in-Err c = not_ruled c.args.count c.as_slice.result.now (c.as_slice.ensures.value ∙ c.in_ok-text.ensures) c.in-Err.fault c.in-Err.ensures
+
+pub summarize-requires : goal.summarize-requires
+summarize-requires c = subst (λ (ts : List Transaction). CanBeFed 0 ts) (sym c.in_ok-made.ensures) (made_can_be_fed c.args.count c.requires)
+
+pub returns : goal.returns
+returns c =
+    ruled c.args.count c.as_slice.result.now (c.as_slice.ensures.value ∙ c.in_ok-text.ensures) c.in-Ok.rules c.summarize.result c.in-Ok.ensures
+    (subst (λ (ts : List Transaction). Summarizes (summary_under c.in-Ok.rules ts) c.summarize.result) c.in_ok-made.ensures c.summarize.ensures)

@@ -1,0 +1,177 @@
+//! Made rules and transactions, written into a store, read by one stream and compacted.
+
+ghost use Rattle.std.specs.Prelude.{◌≡◌, ◌+◌, ◌^◌, ◌<◌, ◌≤◌, ◌++◌, List, [], IfOk, OnOk, decimal};
+ghost use Rattle.ps_changes.specs.declared.changes.Transaction.{Transaction as TransactionData};
+ghost use Rattle.ps_rules.specs.RuleSets.{RuleSet, AreRules};
+ghost use Rattle.ps_sql_eval.specs.Evaluated.{asker_of};
+ghost use Rattle.ps_store.specs.Laws.{HaveNumbers};
+ghost use Rattle.ps_commands.specs.Commands.{made_limit};
+ghost use Rattle.ps_commands.specs.Generating.{CanBeFed, CountsRows, Summarizes, admitted, all_after, all_before, generated, made_asker as made_asker_of, summary_after, summary_line, summary_under};
+ghost use Rattle.ps_commands.specs.ReadingChanges.{HasCommitted, Writes};
+
+use crate::change_files::write_transaction;
+use crate::checking::push_number;
+use crate::compacting::{Compacted, compact_all};
+use crate::faults::Fault;
+use crate::rules_faults::read_rules_file;
+use ps_changes::Transaction;
+use ps_gen::{make_input, make_rules};
+use ps_rules::Rules;
+use ps_sql_eval::Asker;
+use ps_store::{Limits, Store, TakeFault, Totals, have_numbers, ledgers_tell_histories};
+use ps_sync::synced_rows;
+use ps_values::{Items, Memory, Text};
+use std::alloc::Global;
+
+// The asker of the one stream.
+fn made_asker(alloc: Global) -> Result<Asker, Memory>
+    ensures { IfOk result (λ asker. asker_of asker ≡ made_asker_of) }
+{
+    Ok(Asker {
+        user: Text::from_str(alloc, "u1")?,
+        payload: Text::from_str(alloc, "{\"sub\":\"u1\"}")?,
+        parameters: Text::from_str(alloc, "{}")?,
+        client: None,
+    })
+}
+
+// Writes transactions into a new store of the rules, under the usual limits: each is fed, written in batches and committed before the next.
+// Fails with `PastLimit` by the first that passes a limit.
+fn write_all<'a>(alloc: Global, rules: Rules, made: Items<Transaction>) -> Result<Store, Fault<'a>>
+    requires { CanBeFed 0 made }
+    ensures { Writes rules (admitted rules.definitions [] made) result }
+{
+    have_numbers(&rules);
+    let mut store = Store::new(alloc, rules, Limits::usual())?;
+    'made: for transaction in made.into_vec() {
+        match write_transaction(alloc, &mut store, transaction) {
+            Ok(()) => (),
+            Err(fault) => return Err(fault),
+        }
+    }
+    Ok(store)
+}
+
+// The number of rows that a new client shows after one stream of the asker.
+fn count_rows<'a>(alloc: Global, store: &Store) -> Result<usize, Fault<'a>>
+    requires { (rules : RuleSet) × (transactions : List TransactionData) × HasCommitted rules transactions store.now × AreRules rules × HaveNumbers rules.definitions }
+    ensures { (rules : RuleSet) (transactions : List TransactionData) → HasCommitted rules transactions store.now → AreRules rules → HaveNumbers rules.definitions
+        → CountsRows rules transactions result }
+{
+    ledgers_tell_histories();
+    let asker = made_asker(alloc)?;
+    match synced_rows(alloc, store, asker) {
+        Ok(rows) => Ok(rows.len()),
+        Err(TakeFault::TooManyBuckets { count }) => Err(Fault::TooManyBuckets { count }),
+        Err(TakeFault::Memory) => Err(Fault::Memory),
+    }
+}
+
+// A sum, and one number more.
+fn plus(sum: u128, number: u64) -> u128
+    requires { sum + 2 ^ 64 ≤ 2 ^ 128 }
+    ensures value { result ≡ sum + number }
+    ensures within { result < sum + 2 ^ 64 }
+{
+    sum + u128::from(number)
+}
+
+// How many operations the logs had, and how many they have.
+fn add_up(reports: &[Compacted]) -> (u128, u128)
+    ensures before { result.0 ≡ all_before reports.now }
+    ensures after { result.1 ≡ all_after reports.now }
+{
+    let mut before = 0u128;
+    let mut after = 0u128;
+    'reports: for compacted in reports {
+        before = plus(before, compacted.report.before);
+        after = plus(after, compacted.report.after);
+    }
+    (before, after)
+}
+
+// Adds the decimal text of a great number.
+fn push_great(alloc: Global, out: &mut Vec<u8>, number: u128) -> Result<(), Memory>
+    ensures { OnOk result (out.new.items ≡ out.old.items ++ decimal number) }
+{
+    let digits = format!(in alloc; "{number}")?;
+    out.extend_from_slice(digits.as_str().as_bytes())?;
+    Ok(())
+}
+
+// Prints the summary: docs/FORMATS.md, "Made input".
+fn print_line(
+    alloc: Global,
+    totals: &Totals,
+    rows: usize,
+    reports: &[Compacted],
+) -> Result<Vec<u8>, Memory>
+    ensures { IfOk result (λ text. text.items ≡ summary_line totals.now rows reports.now) }
+{
+    let (before, after) = add_up(reports);
+    let mut out = Vec::new(alloc);
+    out.extend_from_slice(b"transactions ")?;
+    push_number(alloc, &mut out, totals.transactions)?;
+    out.extend_from_slice(b" changes ")?;
+    push_great(alloc, &mut out, totals.changes)?;
+    out.extend_from_slice(b" operations ")?;
+    push_number(alloc, &mut out, totals.operations)?;
+    out.extend_from_slice(b" buckets ")?;
+    push_number(alloc, &mut out, totals.buckets)?;
+    out.extend_from_slice(b" rows ")?;
+    push_number(alloc, &mut out, rows as u64)?;
+    out.extend_from_slice(b" before ")?;
+    push_great(alloc, &mut out, before)?;
+    out.extend_from_slice(b" after ")?;
+    push_great(alloc, &mut out, after)?;
+    out.push(b'\n')?;
+    Ok(out)
+}
+
+// The summary of a store that transactions were written into. Each of its buckets is compacted.
+fn summarize_store<'a>(alloc: Global, store: &mut Store) -> Result<Vec<u8>, Fault<'a>>
+    requires { (rules : RuleSet) × (transactions : List TransactionData) × HasCommitted rules transactions store.old × AreRules rules × HaveNumbers rules.definitions }
+    ensures { (rules : RuleSet) (transactions : List TransactionData) → HasCommitted rules transactions store.old → AreRules rules → HaveNumbers rules.definitions
+        → Summarizes (summary_after rules transactions) result }
+{
+    let totals = store.totals();
+    let rows = match count_rows(alloc, store) {
+        Ok(rows) => rows,
+        Err(fault) => return Err(fault),
+    };
+    let reports = compact_all(alloc, store)?;
+    Ok(print_line(alloc, &totals, rows, reports.as_slice())?)
+}
+
+// The summary of transactions under rules.
+fn summarize<'a>(
+    alloc: Global,
+    rules: Rules,
+    made: Items<Transaction>,
+) -> Result<Vec<u8>, Fault<'a>>
+    requires { CanBeFed 0 made }
+    ensures { Summarizes (summary_under rules made) result }
+{
+    have_numbers(&rules);
+    let mut store = match write_all(alloc, rules, made) {
+        Ok(store) => store,
+        Err(fault) => return Err(fault),
+    };
+    summarize_store(alloc, &mut store)
+}
+
+/// The summary of made rules and of so many made transactions: docs/FORMATS.md, "Made input".
+/// Fails with `Rules` where the made rules are refused, with `PastLimit` where a made change passes a limit, and with `TooManyBuckets` where
+/// the asker has more buckets than an asker may have.
+pub fn print_summary<'a>(alloc: Global, count: u32) -> Result<Vec<u8>, Fault<'a>>
+    requires { count ≤ made_limit }
+    ensures { Summarizes (generated count) result }
+{
+    let text = make_rules(alloc)?;
+    let rules = match read_rules_file(alloc, text.as_slice()) {
+        Ok(rules) => rules,
+        Err(fault) => return Err(fault),
+    };
+    let made = make_input(alloc, count)?;
+    summarize(alloc, rules, made)
+}

@@ -1,0 +1,99 @@
+//! The command `replay`.
+
+ghost use Rattle.std.specs.Prelude.{◌≡◌, ◌<◌, ◌^◌, ℕ, List, [], ◌∷◌, true, false, bytes_eq, codes, length};
+ghost use Rattle.ps_core.specs.Worlds.{AreLow};
+ghost use Rattle.ps_commands.specs.Commands.{Outcome};
+ghost use Rattle.ps_commands.specs.Replaying.{PlaysOut, stopped_by};
+
+use crate::faults::{Fault, ScriptCause};
+use crate::loading::{FILE_LIMIT, load, load_rules};
+use crate::reading_all::load_transactions;
+use ps_changes::Transaction;
+use ps_io::{Files, Sink};
+use ps_replay::{ReplayFault, replay};
+use ps_rules::Rules;
+use ps_script::ScriptFault;
+use ps_values::Text;
+use std::alloc::Global;
+
+// Why the line of that number ends a script.
+fn stopped<'a>(line: u64, fault: ScriptFault) -> Fault<'a>
+    ensures { result ≡ stopped_by line fault }
+{
+    match fault {
+        ScriptFault::BadEvent => Fault::Script {
+            line,
+            why: ScriptCause::BadEvent,
+        },
+        ScriptFault::UnknownClient => Fault::Script {
+            line,
+            why: ScriptCause::UnknownClient,
+        },
+        ScriptFault::WrongPhase => Fault::Script {
+            line,
+            why: ScriptCause::WrongPhase,
+        },
+        ScriptFault::Memory => Fault::Memory,
+    }
+}
+
+// Plays a script, printing the text of each event as it comes.
+fn play<'a, K: Sink>(
+    alloc: Global,
+    rules: Rules,
+    transactions: Vec<Transaction>,
+    script: &[u8],
+    out: &mut K,
+) -> Result<(), Fault<'a>>
+    requires low { AreLow transactions.items }
+    requires length { length script.now < 2 ^ 63 }
+    ensures { PlaysOut (record { rules = rules; transactions = transactions.items; script = script.now }) (record {
+      old = K.taken out.old;
+      new = K.taken out.new;
+      before = K.faults out.old;
+      now = K.faults out.new;
+    }) result }
+{
+    match replay(alloc, rules, transactions, script, out) {
+        Ok(()) => Ok(()),
+        Err(ReplayFault::Refused { line, fault }) => Err(stopped(line, fault)),
+        Err(ReplayFault::CannotWrite) => Err(Fault::CannotWrite),
+        Err(ReplayFault::Memory) => Err(Fault::Memory),
+    }
+}
+
+/// Reads rules, all change lines and a script, in this order, and plays the script: docs/FORMATS.md, "Scripts". The text of each event
+/// is printed as it comes, and stays where a later line is refused.
+pub fn replay_files<'a, F: Files, K: Sink>(
+    alloc: Global,
+    rules: &'a Text,
+    changes: &'a Text,
+    script: &'a Text,
+    files: &mut F,
+    out: &mut K,
+) -> Result<(), Fault<'a>>
+    ensures { (word : List ℕ) → bytes_eq word (codes "rows") ≡ false → bytes_eq word (codes "token") ≡ false → bytes_eq word (codes "replay") ≡ true → Outcome (record {
+      held = F.held files.old;
+      read_before = F.faults files.old;
+      read_now = F.faults files.new;
+      taken_before = K.taken out.old;
+      taken_now = K.taken out.new;
+      write_before = K.faults out.old;
+      write_now = K.faults out.new;
+    })
+        (word ∷ rules.now ∷ changes.now ∷ script.now ∷ []) result }
+{
+    let rules = match load_rules(alloc, files, rules) {
+        Ok(rules) => rules,
+        Err(fault) => return Err(fault),
+    };
+    let transactions = match load_transactions(alloc, files, changes) {
+        Ok(transactions) => transactions,
+        Err(fault) => return Err(fault),
+    };
+    let script = match load(alloc, files, script, FILE_LIMIT) {
+        Ok(script) => script,
+        Err(fault) => return Err(fault),
+    };
+    play(alloc, rules, transactions, script.as_slice(), out)
+}
