@@ -10,7 +10,8 @@ use Rattle.ps_changes.specs.Members.{Reads}
 use Rattle.ps_store.specs.Limits.{greatest}
 use Rattle.ps_commands.specs.declared.faults.Fault.{Fault}
 use Rattle.ps_commands.specs.declared.faults.Fault.TheVariants.{Usage, Rules, Change, PastLimit, TooManyBuckets, Claims, Keys, TooLong, CannotRead, CannotWrite, Script, Memory}
-use Rattle.ps_commands.specs.ChangeFiles.{is_blank, numbered, line_fault, all_from, all_transactions_of, ◌>>=◌}
+use Rattle.ps_script.specs.Lines.{is_blank}
+use Rattle.ps_commands.specs.ChangeFiles.{numbered, line_fault, all_from, all_transactions_of, ◌>>=◌}
 use Rattle.ps_commands.specs.ReadingAll.{HasRead, FindsTransactions, ReadsAll}
 use Rattle.ps_commands.specs.ReadingChanges.{ReadsRising, lines_left, bytes_left}
 use Rattle.ps_commands.proofs.Reaching.{SplitsLine, left_lines, fewer}

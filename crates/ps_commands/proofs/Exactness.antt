@@ -18,14 +18,14 @@ use Rattle.ps_commands.specs.ChangeFiles.{transactions_of, all_transactions_of}
 use Rattle.ps_store.specs.Laws.{last_position}
 use Rattle.ps_store.specs.Limits.{usual_limits}
 use Rattle.ps_commands.specs.Checking.{check_text}
-use Rattle.ps_commands.specs.Claims.{asker_of_claims}
+use Rattle.ps_claims.specs.Claims.{asker_of_claims}
 use Rattle.ps_commands.specs.Commands.{Names, Inputs, Scripting, Signing, Command, check, rows, replay, compact, token, generate, generate_lines, command_of, rules_limit, file_limit, HoldsWithin, ReadsRules, ReadsAsker, ReadsChanges, ReadsTransactions, ReadsGame, ReadsKey, key_of_file, token_text, Means, Prints, Role, for_rules, for_keys, for_claims, for_changes, for_script, limit_of, Reaches, ComesTo, RefusesRules, RefusesKeys, RefusesClaims, RefusesChanges, RefusesCompaction, RefusesFed, RefusesScript, RefusesMade, RefusesLines, PassesLimit, ExceedsBuckets, HasTooManyBuckets, ExceedsFile, ExceedsLimit, IsNext, IsCommand, PrintsFront, PrintsSome, Kept, Outside, Caused, status_of, Refusal, exceeds, refused, refusal_status, within_limit, or_refused, or_none, rules_meant, key_meant, asker_meant, transactions_meant, rows_meant, all_meant, script_meant, Meant, prints, plays, printing, meaning, IsPlayed, IsAnswer, IsAnswerAlone, IsExact, ◌>>=◌}
 use Rattle.ps_commands.specs.Dues.{due, own_buckets}
 use Rattle.ps_commands.specs.Compacting.{compact_text}
 use Rattle.ps_commands.specs.Generating.{generated}
 use Rattle.ps_commands.specs.Replaying.{Game}
 use Rattle.ps_commands.specs.RulesFaults.{rules_of_file}
-use Rattle.ps_commands.specs.Texts.{rows_text}
+use Rattle.ps_effects.specs.Texts.{rows_text}
 
 same_value : {A : Type 0} (o : Option A) (a b : A) → o ≡ Some a → o ≡ Some b → a ≡ b
 same_value o a b h g = let e : Some a ≡ Some b = sym h ∙ g in cc

@@ -10,6 +10,5 @@ pub mod Pending
 pub mod Reaching
 pub mod Replays
 pub mod RulesReading
-pub mod Splitting
 pub mod Summaries
 pub mod Telling

@@ -26,7 +26,8 @@ use Rattle.ps_commands.specs.declared.faults.Fault.TheVariants.{Usage, Rules, Ch
 use Rattle.ps_commands.specs.declared.faults.Limit.{Limit}
 use Rattle.ps_commands.specs.declared.faults.Limit.TheVariants.{Entries, Operations}
 use Rattle.ps_commands.specs.declared.faults.LineFault.TheVariants.{NotRising}
-use Rattle.ps_commands.specs.ChangeFiles.{lines_of, is_blank, rising, passed_by, first_passed, first_of, unless_passed, within_limits, accepted, transactions_from, transactions_of, ◌>>=◌}
+use Rattle.ps_script.specs.Lines.{lines_of, is_blank}
+use Rattle.ps_commands.specs.ChangeFiles.{rising, passed_by, first_passed, first_of, unless_passed, within_limits, accepted, transactions_from, transactions_of, ◌>>=◌}
 use Rattle.ps_commands.specs.ReadingChanges.{usual, IsPlain, IsPending, HasCommitted, HasWritten, WritesSome, WritesAll, TakesLine, Writes, ReadsRising, AreValid, lines_left, bytes_left}
 use Rattle.ps_commands.specs.Committing.{writes, committing, history_of}
 use Rattle.ps_commands.proofs.Committing.{writes_more, history_more}

@@ -25,13 +25,14 @@ use Rattle.ps_commands.specs.ChangeFiles.{transactions_of, all_transactions_of}
 use Rattle.ps_store.specs.Laws.{last_position}
 use Rattle.ps_store.specs.Limits.{usual_limits}
 use Rattle.ps_commands.specs.Checking.{check_text}
-use Rattle.ps_commands.specs.Claims.{asker_of_claims}
+use Rattle.ps_claims.specs.Claims.{asker_of_claims}
 use Rattle.ps_commands.specs.Compacting.{compact_text}
 use Rattle.ps_commands.specs.Dues.{due, own_buckets, rows_after}
 use Rattle.ps_commands.specs.Generating.{generated}
 use Rattle.ps_commands.specs.Replaying.{Game, GivesAll, GivesSome, GivesUntil}
 use Rattle.ps_commands.specs.RulesFaults.{rules_of_file, cause_text}
-use Rattle.ps_commands.specs.Texts.{rows_text, lines_text}
+use Rattle.ps_commands.specs.Texts.{lines_text}
+use Rattle.ps_effects.specs.Texts.{rows_text}
 
 -- ---- words
 

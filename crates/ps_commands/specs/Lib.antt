@@ -1,6 +1,5 @@
 pub mod ChangeFiles
 pub mod Checking
-pub mod Claims
 pub mod Commands
 pub mod Committing
 pub mod Compacting

@@ -18,11 +18,11 @@ use Rattle.ps_token.specs.declared.faults.SignFault.TheVariants as sign
 use Rattle.ps_commands.specs.ChangeFiles.{transactions_of}
 use Rattle.ps_store.specs.Laws.{last_position}
 use Rattle.ps_store.specs.Limits.{usual_limits}
-use Rattle.ps_commands.specs.Claims.{asker_of_claims}
+use Rattle.ps_claims.specs.Claims.{asker_of_claims}
 use Rattle.ps_commands.specs.Commands.{HoldsWithin, key_of_file}
 use Rattle.ps_commands.specs.Dues.{due, own_buckets}
 use Rattle.ps_commands.specs.RulesFaults.{rules_of_file}
-use Rattle.ps_commands.specs.Texts.{rows_text}
+use Rattle.ps_effects.specs.Texts.{rows_text}
 
 -- loading a file within a limit: what was found in its bytes, why its bytes are refused, that it is longer, or that the files failed
 abbrev pub Loads : {X : Type 0} → Option Contents → List ℕ → ℕ → ℕ → ℕ → (X → List ℕ → Type 0) → (Fault → List ℕ → Type 0) → Result X Fault → Type 0

@@ -1,5 +1,4 @@
-ghost use Rattle.std.specs.Prelude.{◌≡◌, ℕ, Err, List, Option, ◌==◌, ◌<◌, ◌≤◌, ◌+◌, ◌^◌, ◌∷◌, ◌++◌, [], length, IfOk, IfSome, OnOk, MatchOption};
-ghost use Rattle.std.specs.List.{position};
+ghost use Rattle.std.specs.Prelude.{◌≡◌, ℕ, Err, List, Option, ◌<◌, ◌≤◌, ◌+◌, ◌^◌, ◌∷◌, ◌++◌, [], length, IfOk, OnOk};
 ghost use Rattle.ps_changes.specs.declared.changes.Transaction.{Transaction as TransactionData};
 ghost use Rattle.ps_changes.specs.Lines.{line_of};
 ghost use Rattle.ps_rules.specs.RuleSets.{RuleSet};
@@ -8,12 +7,13 @@ ghost use Rattle.ps_store.specs.Ledgers.{timed_of};
 ghost use Rattle.ps_store.specs.Limits.{greatest};
 ghost use Rattle.ps_store.specs.Originals.{timed};
 ghost use Rattle.ps_commands.specs.declared.faults.Limit.{Limit as LimitData};
-ghost use Rattle.ps_commands.specs.ChangeFiles.{lines_of, is_blank as is_blank_line, rising, accepted, first_passed, transactions_of, within_limits};
+ghost use Rattle.ps_commands.specs.ChangeFiles.{rising, accepted, first_passed, transactions_of, within_limits};
 ghost use Rattle.ps_commands.specs.ReadingChanges.{ReadsRising, IsPending, HasCommitted, WritesSome, WritesAll, TakesLine, Writes};
 
 use crate::faults::{Fault, Limit, LineFault};
 use ps_changes::{ChangeFault, Transaction, read_line};
 use ps_rules::Rules;
+use ps_script::{is_blank, split_line};
 use ps_store::{
     FeedFault, Limits, NothingToCommit, Store, WriteFault, have_numbers, ledgers_tell_histories,
 };
@@ -22,33 +22,6 @@ use std::alloc::Global;
 
 // The most changes that are written at once.
 const BATCH: u32 = 1000;
-
-// The place of the first line feed.
-fn line_feed(bytes: &[u8]) -> Option<usize>
-    ensures value { result ≡ position (λ b. b == 10) bytes.now }
-    ensures within { IfSome result (λ place. place < length bytes.now) }
-{
-    bytes.iter().position(|byte| *byte == b'\n')
-}
-
-/// The first line, and the lines after it where a line feed ends it.
-pub fn split_line(bytes: &[u8]) -> (&[u8], Option<&[u8]>)
-    ensures { MatchOption result.1 (lines_of bytes.now ≡ result.0.now ∷ [])
-        (λ rest. (lines_of bytes.now ≡ result.0.now ∷ lines_of rest.now) × (length rest.now < length bytes.now)) }
-{
-    match line_feed(bytes) {
-        Some(end) => (&bytes[..end], Some(bytes.split_at(end + 1).1)),
-        None => (bytes, None),
-    }
-}
-
-/// Whether a line is of spaces, tabs and carriage returns alone.
-pub fn is_blank(line: &[u8]) -> bool
-    ensures { result ≡ is_blank_line line.now }
-{
-    line.iter()
-        .all(|byte| *byte == b' ' || *byte == b'\t' || *byte == b'\r')
-}
 
 /// Writes the changes of a change file, whose positions rise, into a new store of the rules, under the usual limits. Each line is fed,
 /// written in batches and committed before the next is read.

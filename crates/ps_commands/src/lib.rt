@@ -4,14 +4,12 @@
 mod answering;
 mod change_files;
 mod checking;
-mod claims;
 mod compacting;
 mod faults;
 mod generating;
 mod loading;
 mod making;
 mod plain;
-mod printing;
 mod reading_all;
 mod replaying;
 mod rules_faults;

@@ -1,16 +1,19 @@
 ghost use Rattle.std.specs.Prelude.{◌≡◌, ◌≤◌, ◌<◌, ◌^◌, length};
+ghost use Rattle.ps_commands.specs.ChangeFiles.{transactions_of};
+ghost use Rattle.ps_commands.specs.ReadingChanges.{Writes};
 ghost use Rattle.ps_commands.specs.Loading.{Loads, IsContent, RefusesNothing, FindsRules, IsRulesFault, FindsKey, IsKeysFault, FindsAsker, IsClaimsFault, FindsRows, RefusesRows, Prepares};
 
 use crate::answering::due_rows;
 use crate::change_files::write_changes;
-use crate::claims::read_claims;
 use crate::faults::Fault;
-use crate::printing::print_rows;
 use crate::rules_faults::read_rules_file;
 use crate::signing::choose_key;
+use ps_claims::read_claims;
+use ps_effects::print_rows;
 use ps_io::{FileFault, Files};
 use ps_rules::Rules;
 use ps_sql_eval::Asker;
+use ps_store::Store;
 use ps_token::Keys;
 use ps_values::Text;
 use std::alloc::Global;
@@ -86,17 +89,25 @@ pub fn load_asker<'a, F: Files>(
     }
 }
 
+// The store that a change file's bytes are written into, which are dropped then.
+fn write_file<'a>(alloc: Global, rules: Rules, changes: Vec<u8>) -> Result<Store, Fault<'a>>
+    requires { length changes.items < 2 ^ 63 }
+    ensures { Writes rules (transactions_of rules changes.items) result }
+{
+    write_changes(alloc, rules, changes.as_slice())
+}
+
 // The printed rows of a change file's bytes that are due to an asker.
 fn prepare<'a>(
     alloc: Global,
     rules: Rules,
     asker: Asker,
-    changes: &[u8],
+    changes: Vec<u8>,
 ) -> Result<Vec<u8>, Fault<'a>>
-    requires { length changes.now < 2 ^ 63 }
-    ensures { Prepares rules asker changes.now result }
+    requires { length changes.items < 2 ^ 63 }
+    ensures { Prepares rules asker changes.items result }
 {
-    let store = write_changes(alloc, rules, changes)?;
+    let store = write_file(alloc, rules, changes)?;
     let rows = match due_rows(alloc, &store, asker) {
         Ok(rows) => rows,
         Err(fault) => return Err(fault),
@@ -119,5 +130,5 @@ pub fn load_rows<'a, F: Files>(
     ensures faults { F.faults files.old ≤ F.faults files.new }
 {
     let bytes = load(alloc, files, name, FILE_LIMIT)?;
-    prepare(alloc, rules, asker, bytes.as_slice())
+    prepare(alloc, rules, asker, bytes)
 }

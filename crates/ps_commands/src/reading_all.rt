@@ -8,11 +8,11 @@ ghost use Rattle.ps_commands.specs.Loading.{Loads};
 ghost use Rattle.ps_commands.specs.ReadingAll.{FindsTransactions, IsTransactionsFault, ReadsAll};
 ghost use Rattle.ps_commands.specs.ReadingChanges.{ReadsRising};
 
-use crate::change_files::{is_blank, split_line};
 use crate::faults::{Fault, Limit, LineFault};
 use crate::loading::{FILE_LIMIT, load};
 use ps_changes::{ChangeFault, Transaction, read_line};
 use ps_io::Files;
+use ps_script::{is_blank, split_line};
 use ps_values::Text;
 use std::alloc::Global;
 

@@ -1,7 +1,7 @@
 //! The command `replay`.
 
 ghost use Rattle.std.specs.Prelude.{◌≡◌, ◌<◌, ◌^◌, ℕ, List, [], ◌∷◌, true, false, bytes_eq, codes, length};
-ghost use Rattle.ps_core.specs.Worlds.{AreLow};
+ghost use Rattle.ps_play.specs.Scripts.{AreLow};
 ghost use Rattle.ps_commands.specs.Commands.{Outcome};
 ghost use Rattle.ps_commands.specs.Replaying.{PlaysOut, stopped_by};
 

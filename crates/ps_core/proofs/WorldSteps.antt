@@ -32,7 +32,8 @@ use Rattle.ps_core.specs.Feeding.{FeedsAll, IsLeft}
 use Rattle.ps_core.specs.Parts.{Acts, Came, CameStill, HasTable, IsAt, Serves, event_of}
 use Rattle.ps_core.specs.Readers.{HasBegun, IsPut, Readers, reader_at}
 use Rattle.ps_core.specs.Steps.{Gave, Goes, Refused, Went}
-use Rattle.ps_core.specs.Worlds.{AreLow, IsWorld, OneStandsFor, ReaderStandsFor, WorldStandsFor}
+use Rattle.ps_play.specs.Scripts.{AreLow}
+use Rattle.ps_core.specs.Worlds.{IsWorld, OneStandsFor, ReaderStandsFor, WorldStandsFor}
 use Rattle.ps_core.proofs.Histories.{one_more}
 use Rattle.ps_core.proofs.Visited.{itself, same_names}
 use Rattle.ps_effects.specs.Texts.{IsPrintable}

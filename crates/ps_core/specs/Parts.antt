@@ -22,7 +22,8 @@ use Rattle.ps_core.specs.declared.readers.Reader.{Reader}
 use Rattle.ps_core.specs.declared.visits.Visit.{Visit}
 use Rattle.ps_core.specs.declared.visits.Visit.TheVariants.{Open, Turn, Take, Cut, Local, Upload, Number, Rows}
 use Rattle.ps_effects.specs.Texts.{IsPrintable}
-use Rattle.ps_core.specs.Worlds.{AreLow, ReaderStandsFor}
+use Rattle.ps_play.specs.Scripts.{AreLow}
+use Rattle.ps_core.specs.Worlds.{ReaderStandsFor}
 
 -- the store stands for the play's history, under valid rules
 pub record Serves (fixed : Fixed) (store : Store) (play : Play) : Type 0 where

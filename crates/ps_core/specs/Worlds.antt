@@ -1,12 +1,11 @@
 -- The world of a script stands for a play.
 use Rattle.std.specs.Prelude.{Vec}
 use Rattle.std.specs.declared.alloc.Global.{Global}
-use Rattle.std.specs.Prelude.{◌≡◌, ℕ, ◌≤◌, ◌⊎◌, All, true, false, List, [], ◌∷◌, length, map, Option, Some, None, Ok}
+use Rattle.std.specs.Prelude.{◌≡◌, ℕ, ◌≤◌, ◌⊎◌, true, false, List, [], ◌∷◌, length, map, Option, Some, None, Ok}
 use Rattle.std.specs.BTreeMap.{get}
 use Rattle.std.specs.Cmp.Lexicographic.{slice_cmp}
 use Rattle.std.specs.Ordering.{nat_cmp}
 use Rattle.ps_rules.specs.RuleSets.{AreRules}
-use Rattle.ps_changes.specs.declared.changes.Transaction.{Transaction}
 use Rattle.ps_lines.specs.Reading.{line_of}
 use Rattle.ps_lines.specs.Writing.{without_targets}
 use Rattle.ps_client.specs.States.{state}
@@ -14,7 +13,6 @@ use Rattle.ps_sql_eval.specs.declared.askers.Asker.{Asker}
 use Rattle.ps_store.specs.declared.events.Event.{Event}
 use Rattle.ps_store.specs.declared.fixed.Fixed.{Fixed}
 use Rattle.ps_store.specs.Laws.{HaveNumbers}
-use Rattle.ps_store.specs.Limits.{greatest}
 use Rattle.ps_store.specs.Stores.{StoreStandsFor}
 use Rattle.ps_session.specs.Kept.{state_of}
 use Rattle.ps_session.specs.Lives.{Link, Idle, Streaming}
@@ -23,6 +21,7 @@ use Rattle.ps_session.specs.Sessions.{SessionState}
 use Rattle.ps_session.specs.Ties.{HasTaken}
 use Rattle.ps_play.specs.Plays.{Play, course, place}
 use Rattle.ps_play.specs.Plays as plays
+use Rattle.ps_play.specs.Scripts.{AreLow}
 use Rattle.ps_core.specs.declared.readers.Reader.{Reader}
 use Rattle.ps_core.specs.declared.readers.Stream.{Stream}
 use Rattle.ps_core.specs.declared.worlds.World.{World}
@@ -65,10 +64,6 @@ OneStandsFor fixed history (Some own) None = ⊥
 OneStandsFor fixed history (Some own) (Some reader) = ReaderStandsFor fixed history own reader
 
 -- ---- a world
-
--- no position is past the greatest
-abbrev pub AreLow : List Transaction → Type 0
-AreLow transactions = All (λ (t : Transaction). t.position.0 ≤ greatest) transactions
 
 -- its store stands for the history, under valid rules; the transactions that are left are those of the play, and so are the clients
 pub record WorldStandsFor (fixed : Fixed) (world : World) (play : Play) : Type 0 where

@@ -9,7 +9,7 @@ ghost use Rattle.ps_play.specs.Plays.{Play};
 ghost use Rattle.ps_play.specs.StoreEvents.{feed_refusal};
 ghost use Rattle.ps_effects.specs.Texts.{IsPrintable};
 ghost use Rattle.ps_core.specs.Feeding.{Goes, IsLeft, FeedsAll};
-ghost use Rattle.ps_core.specs.Worlds.{AreLow};
+ghost use Rattle.ps_play.specs.Scripts.{AreLow};
 
 use ps_changes::Transaction;
 use ps_effects::Effect;

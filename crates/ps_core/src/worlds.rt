@@ -1,12 +1,14 @@
-ghost use Rattle.std.specs.Prelude.{IfOk};
+ghost use Rattle.std.specs.Prelude.{◌≡◌, true, Err, IfOk};
 ghost use Rattle.ps_core.specs.Readers.{HasBegun};
 ghost use Rattle.ps_store.specs.declared.fixed.Fixed.{Fixed as FixedSeen};
 ghost use Rattle.ps_store.specs.Limits.{usual_limits};
 ghost use Rattle.ps_play.specs.Plays.{Play, first_play};
 ghost use Rattle.ps_script.specs.declared.events.ScriptEvent.TheVariants as events;
+ghost use Rattle.ps_script.specs.declared.faults.ScriptFault.TheVariants as faults;
 ghost use Rattle.ps_core.specs.Parts.{HasTable, event_of};
 ghost use Rattle.ps_core.specs.Steps.{Goes, Steps, Went};
-ghost use Rattle.ps_core.specs.Worlds.{AreLow, IsWorld, WorldStandsFor};
+ghost use Rattle.ps_play.specs.Scripts.{AreLow};
+ghost use Rattle.ps_core.specs.Worlds.{IsWorld, WorldStandsFor};
 
 use crate::feeding::feed;
 use crate::readers::Reader;
@@ -205,6 +207,7 @@ impl World {
     pub fn step(&mut self, alloc: Global, event: &ScriptEvent) -> Result<Effect, ScriptFault>
         requires { IsWorld self.old }
         ensures world { IsWorld self.new }
+        ensures failed { self.old.failed ≡ true → result ≡ Err faults.Memory }
         ensures plays { (fixed : FixedSeen) (play : Play) → WorldStandsFor fixed self.old play → Steps fixed play event.now self.new result }
     {
         plays_stay_led();

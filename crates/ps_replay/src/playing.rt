@@ -6,7 +6,8 @@ ghost use Rattle.ps_store.specs.Limits.{usual_limits};
 ghost use Rattle.ps_script.specs.Lines.{is_skipped as is_skipped_line};
 ghost use Rattle.ps_play.specs.Plays.{Play, first_play};
 ghost use Rattle.ps_play.specs.Headline.{AreLed};
-ghost use Rattle.ps_core.specs.Worlds.{AreLow, WorldStandsFor};
+ghost use Rattle.ps_play.specs.Scripts.{AreLow};
+ghost use Rattle.ps_core.specs.Worlds.{WorldStandsFor};
 ghost use Rattle.ps_replay.specs.Replays.{Replays, SpellsLine, PrintsLine, items_of, refused_at};
 
 use crate::ReplayFault;

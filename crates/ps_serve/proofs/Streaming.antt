@@ -15,7 +15,8 @@ use Rattle.ps_store.specs.Ledgers.{ledger_of}
 use Rattle.ps_store.specs.Readings.{take_of, taken_names}
 use Rattle.ps_session.specs.declared.phases.Phase.{Phase}
 use Rattle.ps_session.specs.declared.phases.Phase.TheVariants.{Start, Download}
-use Rattle.ps_session.specs.Calls.{ReadsGiveSomething, TurnsKeepTaken}
+use Rattle.ps_session.specs.Calls.{TurnsKeepTaken}
+use Rattle.ps_session.specs.Downloads.{ReadsSendOn}
 use Rattle.ps_session.specs.Headline.{RunsGoOn, RunsClimbOn}
 use Rattle.ps_session.specs.Kept.{Kept, state_of}
 use Rattle.ps_session.specs.Runs.{IsToldIn, turn}
@@ -30,11 +31,11 @@ use Rattle.ps_serve.proofs.Running.{run_begins, run_on, taken_on, streamed_on, e
 
 -- ---- one turn more
 
-pub goes_on : ReadsGiveSomething → CoursesAreLawful → (fixed : Fixed) (store : Store) (history : List Event) (session now : Kept) → Serves fixed store history → IsHere fixed history session
+pub goes_on : ReadsSendOn → CoursesAreLawful → (fixed : Fixed) (store : Store) (history : List Event) (session now : Kept) → Serves fixed store history → IsHere fixed history session
     → (state_of session).phase ≡ Download → state_of now ≡ (turn_for fixed history session).session → GoesOn (state_of session) (state_of now)
-goes_on gives lawful fixed store history session now serves here phase now_is =
+goes_on falls lawful fixed store history session now serves here phase now_is =
     subst (λ (s : SessionState). GoesOn (state_of session) s) (sym now_is)
-    (turn_goes_on gives (course_for fixed history session) (length history) (state_of session) (lawful_of lawful fixed store history (asker_of session.asker) serves) here phase)
+    (turn_goes_on falls (course_for fixed history session) (length history) (state_of session) (lawful_of lawful fixed store history (asker_of session.asker) serves) here phase)
 
 module _ (fixed : Fixed) (history : List Event) (session : Kept) (own : Asker) (same : session.asker ≡ own) where
   abbrev own_course : Course

@@ -49,14 +49,14 @@ takes_are_turns course at n session = by session.phase refl
     by Done is taking = (refl, refl, λ known. known)
 
 -- a read is asked for in Download alone, of the bucket that is behind
-record IsReadOf (session : SessionState) (after upto : OpId) (name : List ℕ) (bucket : TakenBucket) : Type 0 where
-  phase : session.phase ≡ Download
-  behind_is : behind session ≡ Some bucket
-  name_is : bucket.name ≡ name
-  after_is : session.places name ≡ after.0
-  upto_is : session.last.last_op.0 ≡ upto.0
+pub record IsReadOf (session : SessionState) (after upto : OpId) (name : List ℕ) (bucket : TakenBucket) : Type 0 where
+  pub phase : session.phase ≡ Download
+  pub behind_is : behind session ≡ Some bucket
+  pub name_is : bucket.name ≡ name
+  pub after_is : session.places name ≡ after.0
+  pub upto_is : session.last.last_op.0 ≡ upto.0
 
-read_of_bucket : (session : SessionState) (place : ℕ) (after upto : OpId) (name : List ℕ) → next_action session ≡ Read place after upto
+pub read_of_bucket : (session : SessionState) (place : ℕ) (after upto : OpId) (name : List ℕ) → next_action session ≡ Read place after upto
     → option_map name_of (behind session) ≡ Some name → (bucket : TakenBucket) × IsReadOf session after upto name bucket
 read_of_bucket session place after upto name action named = by session.phase refl action
   where

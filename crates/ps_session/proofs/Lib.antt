@@ -10,4 +10,5 @@ pub mod Turns
 pub mod Runs
 pub mod Lives
 pub mod Calls
+pub mod Downloads
 pub mod Writable

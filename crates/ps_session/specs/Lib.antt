@@ -9,3 +9,4 @@ pub mod Lives
 pub mod Ties
 pub mod Led
 pub mod Calls
+pub mod Downloads

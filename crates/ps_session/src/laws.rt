@@ -3,6 +3,7 @@
 ghost use Rattle.ps_session.specs.Headline.{Headline, AtEachLine, IsHonestThroughout, VoidIsRetaken, RunsGoOn, RunsClimbOn, RunsAgree};
 ghost use Rattle.ps_session.specs.Lives.{LivesAreFine};
 ghost use Rattle.ps_session.specs.Led.{EmptyAreHonest, LeadsFirst, LeadsOn, LeadsLater, LeadsLocally, LeadsTaken, LedAreHonest};
+ghost use Rattle.ps_session.specs.Downloads.{ReadsSendOn};
 ghost use Rattle.ps_session.specs.Calls.{TakesAreTurns, ReadsAreTurns, FinishesAreTurns, BeginsUntaken, TurnsKeepTaken, ReadsGiveSomething, LinesAreWritable, RequestsAskOn, AnswersAreRight, AnswersLead};
 
 /// A law: whatever a store does between the turns of a session, a client that takes a front of the session's lines,
@@ -44,8 +45,9 @@ pub fn clients_are_led()
     ensures honest { LedAreHonest }
 {}
 
-/// A law: the calls of a session make its turns. What is read where a read is asked for has operations, or was passed by.
-/// Each line can be written, whatever the client asked for.
+/// A law: the calls of a session make its turns. What is read where a read is asked for has operations, or was passed by;
+/// where the store stands still, it leaves less of the checkpoint to be sent. Each line can be written, whatever the client
+/// asked for.
 pub fn calls_make_turns()
     ensures takes { TakesAreTurns }
     ensures reads { ReadsAreTurns }
@@ -53,6 +55,7 @@ pub fn calls_make_turns()
     ensures begins { BeginsUntaken }
     ensures keeps { TurnsKeepTaken }
     ensures something { ReadsGiveSomething }
+    ensures falls { ReadsSendOn }
     ensures writable { LinesAreWritable }
 {}
 

@@ -1,5 +1,4 @@
 pub mod Leading
-pub mod Falling
 pub mod Answering
 pub mod Passing
 pub mod Turns

@@ -15,6 +15,7 @@ use Rattle.ps_store.specs.Courses.{Course, course_of}
 use Rattle.ps_store.specs.CourseLaws.{CoursesAreLawful, EndsAreWhole}
 use Rattle.ps_session.specs.declared.actions.Action.{Action}
 use Rattle.ps_session.specs.declared.actions.Action.TheVariants.{Read}
+use Rattle.ps_session.specs.Downloads.{SendsOn, ReadsSendOn}
 use Rattle.ps_session.specs.Takes.{name_of}
 use Rattle.ps_session.specs.Sessions.{SessionState, IsReading, IsReadAt, next_action, behind, read}
 use Rattle.ps_session.specs.Runs.{IsToldIn, made_by, turn}
@@ -23,7 +24,6 @@ use Rattle.ps_session.specs.Calls.{ReadsAreTurns, ReadsGiveSomething, TurnsKeepT
 use Rattle.ps_session.specs.Ties.{Leads}
 use Rattle.ps_sync.specs.Turning.{Serves, IsLed, IsLedIn}
 use Rattle.ps_sync.proofs.Leading.{lawful_of, turn_leads, turn_taken}
-use Rattle.ps_sync.proofs.Falling.{GoesOn, read_goes_on}
 use Rattle.ps_sync.proofs.Turns.{read_turn}
 
 pub is_reading : (action : Action) (place : ℕ) (after upto : OpId) → action ≡ Read place after upto → IsReading action
@@ -70,7 +70,8 @@ module _ (reads : ReadsAreTurns) (whole : EndsAreWhole) (lawful : CoursesAreLawf
       subst (λ (s : SessionState). IsLed course n s new) (sym now_is)
       (record { leads = leads; taken = turn_taken keeps course n session client (read session batch) step.1 led })
 
-  pub read_goes : ReadsGiveSomething → (now : SessionState) → now ≡ (read session batch).session → GoesOn session now
-  read_goes gives now now_is =
-      subst (λ (s : SessionState). GoesOn session s) (sym now_is)
-      (read_goes_on course n place after upto name session batch (lawful_of lawful fixed store history asker serves) led.taken it.action it.named step.0 (read_something gives))
+  pub read_goes : ReadsSendOn → (now : SessionState) → now ≡ (read session batch).session → SendsOn session now
+  read_goes falls now now_is =
+      subst (λ (s : SessionState). SendsOn session s) (sym now_is)
+      (subst (λ (b : Batch). SendsOn session (read session b).session) (sym step.0)
+      (falls course n place after upto name session (lawful_of lawful fixed store history asker serves) led.taken it.action it.named))

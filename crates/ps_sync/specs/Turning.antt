@@ -1,5 +1,5 @@
 -- What a session and its client keep, turn by turn, over a store that stands still.
-use Rattle.std.specs.Prelude.{◌≡◌, ℕ, ◌+◌, ◌-◌, ◌≤◌, List, [], ◌∷◌, length, Result, Ok, Err}
+use Rattle.std.specs.Prelude.{◌≡◌, ℕ, ◌≤◌, List, [], length, Result, Ok, Err}
 use Rattle.ps_sql.specs.Meaning.{Asker}
 use Rattle.ps_rules.specs.RuleSets.{AreRules}
 use Rattle.ps_client_log.specs.declared.states.Target.TheVariants.{Free}
@@ -9,7 +9,6 @@ use Rattle.ps_client.specs.Clients.{PlainClient}
 use Rattle.ps_store.specs.declared.events.Event.{Event}
 use Rattle.ps_store.specs.declared.fixed.Fixed.{Fixed}
 use Rattle.ps_store.specs.declared.stores.Store.{Store}
-use Rattle.ps_store.specs.declared.readings.TakenBucket.{TakenBucket}
 use Rattle.ps_store.specs.declared.readings.TakeFault.{TakeFault}
 use Rattle.ps_store.specs.declared.readings.TakeFault.TheVariants.{TooManyBuckets, Memory}
 use Rattle.ps_store.specs.Laws.{HaveNumbers}
@@ -46,14 +45,6 @@ Begins fixed history asker session client (Ok done) =
     IsLedIn fixed history asker session client × (length (names_of (ledger_of fixed.rules history) asker) ≤ fixed.limits.buckets)
 Begins fixed history asker session client (Err (TooManyBuckets count)) = AreTooMany fixed.limits (ledger_of fixed.rules history) asker count
 Begins fixed history asker session client (Err Memory) = Unit {0}
-
--- how far the places of buckets are below their newest operations, in all
-abbrev pub left_of : List TakenBucket → (List ℕ → ℕ) → ℕ
-left_of [] places = 0
-left_of (bucket ∷ buckets) places = (bucket.newest.0 - places bucket.name) + left_of buckets places
-
-abbrev pub left : SessionState → ℕ
-left session = left_of session.last.buckets session.places
 
 -- a fault that is want of memory
 abbrev pub IsWant : ClientFault → Type 0

@@ -12,9 +12,10 @@ ghost use Rattle.ps_store.specs.CourseLaws.{IsLawful};
 ghost use Rattle.ps_session.specs.declared.actions.Action.TheVariants as actions;
 ghost use Rattle.ps_session.specs.declared.phases.Phase.TheVariants.{Start, Download};
 ghost use Rattle.ps_session.specs.Kept.{state_of};
+ghost use Rattle.ps_session.specs.Downloads.{left};
 ghost use Rattle.ps_session.specs.Sessions.{next_action};
 ghost use Rattle.ps_session.specs.Headline.{AreListed};
-ghost use Rattle.ps_sync.specs.Turning.{Serves, IsLed, IsLedIn, IsIdle, Begins, left};
+ghost use Rattle.ps_sync.specs.Turning.{Serves, IsLed, IsLedIn, IsIdle, Begins};
 
 use crate::handing::{hand, pass};
 use ps_client::Client;

@@ -1,6 +1,6 @@
 //! The world that scripts are played on.
 
-ghost use Rattle.ps_core.specs.Worlds.{AreLow};
+ghost use Rattle.ps_play.specs.Scripts.{AreLow};
 
 use ps_changes::Transaction;
 use ps_core::World;

@@ -1,5 +1,5 @@
 use Rattle.std.proofs.Common.{ap, ◌∙◌}
-use Rattle.ps_commands.specs.Texts.{rows_text}
+use Rattle.ps_effects.specs.Texts.{rows_text}
 use Rattle.ps_commands.proofs.Causes.{rows_refused}
 use Rattle.ps_commands.proofs.loading.prepare.Goals as goal
 
@@ -11,7 +11,7 @@ due_rows-requires c =
 pub returns-in-Err : goal.returns-in-Err
 returns-in-Err c =
     let s = c.in_ok-store.ensures in
-    rows_refused c.args.rules c.args.asker c.args.changes.now s.0 s.1 c.in-Err.fault (c.in-Err.ensures c.args.rules s.0 s.2)
+    rows_refused c.args.rules c.args.asker c.args.changes.items s.0 s.1 c.in-Err.fault (c.in-Err.ensures c.args.rules s.0 s.2)
 
 pub returns : goal.returns
 returns c =

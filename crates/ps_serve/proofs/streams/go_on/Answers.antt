@@ -27,7 +27,7 @@ turns-smaller g c =
     let r = c.requires.here in
     let here = here_for r.0 r.1 c.turns.session c.args.session.now.asker c.turns.invariant.asker (c.turns.invariant.here r.0 r.1 r.2 r.3) in
     let phase : (state_of c.turns.session).phase ≡ Download = downloading (state_of c.turns.session) c.turns.invariant.sending (λ over. c.in_default.not-Wait (c.next_action.ensures.wait.1 over)) in
-    (goes_on c.calls_make_turns.ensures.something c.courses_are_lawful.ensures r.0 c.args.store.now r.1 c.turns.session c.make_turn.new.session r.2 here phase (c.in-Ok.ensures.state r.0 r.1 r.2 here)).falls
+    (goes_on c.calls_make_turns.ensures.falls c.courses_are_lawful.ensures r.0 c.args.store.now r.1 c.turns.session c.make_turn.new.session r.2 here phase (c.in-Ok.ensures.state r.0 r.1 r.2 here)).falls
 
 pub turns-preserved : goal.turns-preserved
 turns-preserved g c =
@@ -37,7 +37,7 @@ turns-preserved g c =
     let phase : (state_of c.turns.session).phase ≡ Download = downloading (state_of c.turns.session) c.turns.invariant.sending (λ over. c.in_default.not-Wait (c.next_action.ensures.wait.1 over)) in
     let here = here_for r.0 r.1 c.turns.session own same (c.turns.invariant.here r.0 r.1 r.2 r.3) in
     record {
-      sending = (goes_on c.calls_make_turns.ensures.something c.courses_are_lawful.ensures r.0 c.args.store.now r.1 c.turns.session c.make_turn.new.session r.2 here phase (c.in-Ok.ensures.state r.0 r.1 r.2 here)).sending;
+      sending = (goes_on c.calls_make_turns.ensures.falls c.courses_are_lawful.ensures r.0 c.args.store.now r.1 c.turns.session c.make_turn.new.session r.2 here phase (c.in-Ok.ensures.state r.0 r.1 r.2 here)).sending;
       asker = c.make_turn.ensures.asker ∙ same;
       here = λ fixed history serves is_here.
           let taken = c.turns.invariant.here fixed history serves is_here in

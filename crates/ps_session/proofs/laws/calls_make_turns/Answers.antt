@@ -1,4 +1,5 @@
 use Rattle.ps_session.proofs.Calls.{takes_are_turns, reads_are_turns, finishes_are_turns, begins_untaken, turns_keep_taken, reads_give_something}
+use Rattle.ps_session.proofs.Downloads.{reads_send_on}
 use Rattle.ps_session.proofs.Writable.{lines_are_writable}
 use Rattle.ps_session.proofs.laws.calls_make_turns.Goals as goal
 
@@ -19,6 +20,9 @@ returns-clause-keeps c = turns_keep_taken
 
 pub returns-clause-something : goal.returns-clause-something
 returns-clause-something c = reads_give_something
+
+pub returns-clause-falls : goal.returns-clause-falls
+returns-clause-falls c = reads_send_on
 
 pub returns-clause-writable : goal.returns-clause-writable
 returns-clause-writable c = lines_are_writable

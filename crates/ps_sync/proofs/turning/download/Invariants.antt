@@ -5,7 +5,8 @@ use Rattle.ps_store.specs.declared.events.Event.{Event}
 use Rattle.ps_store.specs.declared.fixed.Fixed.{Fixed}
 use Rattle.ps_session.specs.declared.phases.Phase.TheVariants.{Download}
 use Rattle.ps_session.specs.Kept.{state_of}
-use Rattle.ps_sync.specs.Turning.{Serves, IsLedIn, IsIdle, left}
+use Rattle.ps_session.specs.Downloads.{left}
+use Rattle.ps_sync.specs.Turning.{Serves, IsLedIn, IsIdle}
 use Rattle.ps_sync.proofs.turning.download.Given as goal
 
 -- the checkpoint is being sent, and the client has all that was sent

@@ -48,11 +48,11 @@ returns-clause-phase c =
     let r = c.requires.led in
     (read_goes c.calls_make_turns.ensures.reads c.places_are_fronts.ensures.whole c.courses_are_lawful.ensures r.0 c.args.store.now r.1 r.2 (state_of c.args.session.now) (state c.args.client.now)
     c.args.place c.args.after c.args.upto c.bucket_at.result.now c.in_ok-batch.batch r.3 r.4
-    (record { action = c.requires.action; named = c.bucket_at.ensures; batch_is = c.in_ok-batch.ensures r.0 r.1 r.3.stands }) c.calls_make_turns.ensures.something (state_of c.read.new.self) c.in_ok-line.ensures.state).phase
+    (record { action = c.requires.action; named = c.bucket_at.ensures; batch_is = c.in_ok-batch.ensures r.0 r.1 r.3.stands }) c.calls_make_turns.ensures.falls (state_of c.read.new.self) c.in_ok-line.ensures.state).phase
 
 pub returns-clause-falls : goal.returns-clause-falls
 returns-clause-falls c =
     let r = c.requires.led in
     (read_goes c.calls_make_turns.ensures.reads c.places_are_fronts.ensures.whole c.courses_are_lawful.ensures r.0 c.args.store.now r.1 r.2 (state_of c.args.session.now) (state c.args.client.now)
     c.args.place c.args.after c.args.upto c.bucket_at.result.now c.in_ok-batch.batch r.3 r.4
-    (record { action = c.requires.action; named = c.bucket_at.ensures; batch_is = c.in_ok-batch.ensures r.0 r.1 r.3.stands }) c.calls_make_turns.ensures.something (state_of c.read.new.self) c.in_ok-line.ensures.state).falls
+    (record { action = c.requires.action; named = c.bucket_at.ensures; batch_is = c.in_ok-batch.ensures r.0 r.1 r.3.stands }) c.calls_make_turns.ensures.falls (state_of c.read.new.self) c.in_ok-line.ensures.state).falls

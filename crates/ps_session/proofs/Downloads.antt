@@ -1,6 +1,6 @@
--- What is left to read falls with each batch.
-use Rattle.std.proofs.Common.{◌≡◌, ◌≢◌, ℕ, ◌<◌, ◌≤◌, ◌⊎◌, inl, inr, Option, Some, None, IfSome, List, [], ◌∷◌, true, ltb, refl, sym, ap, subst, ◌∙◌, arith}
-use Rattle.std.specs.Prelude.{option_map, bytes_eq}
+-- What is left to send falls with each read, where the store stands still.
+use Rattle.std.proofs.Common.{◌≡◌, ◌≢◌, ℕ, ◌<◌, ◌≤◌, ◌⊎◌, inl, inr, Option, Some, None, IfSome, List, [], ◌∷◌, ltb, refl, sym, ap, subst, ◌∙◌, arith}
+use Rattle.std.specs.Prelude.{bytes_eq}
 use Rattle.std.proofs.lemmas.Bool.{cases_Bool, ltb-true}
 use Rattle.std.proofs.lemmas.Slice.Eq.{bytes_eq-Decides}
 use Rattle.ps_values.specs.declared.ids.OpId.{OpId}
@@ -10,15 +10,10 @@ use Rattle.ps_bucket_log.specs.Ops.{id_of, place_after}
 use Rattle.ps_bucket_log.specs.Logs.{IsRising}
 use Rattle.ps_store.specs.declared.readings.Taken.{Taken}
 use Rattle.ps_store.specs.declared.readings.TakenBucket.{TakenBucket}
-use Rattle.ps_store.specs.Courses.{Course}
-use Rattle.ps_store.specs.CourseLaws.{IsLawful}
-use Rattle.ps_session.specs.declared.actions.Action.TheVariants.{Read}
-use Rattle.ps_session.specs.declared.phases.Phase.{Phase}
-use Rattle.ps_session.specs.declared.phases.Phase.TheVariants.{Start, Download, Void, Done}
-use Rattle.ps_session.specs.Takes.{name_of}
-use Rattle.ps_session.specs.Sessions.{SessionState, first_behind, download_action, action_in, next_action, behind, read, read_in, read_of, phase_after, with_place}
-use Rattle.ps_session.specs.Ties.{HasTaken}
-use Rattle.ps_sync.specs.Turning.{left_of, left}
+use Rattle.ps_session.specs.declared.phases.Phase.TheVariants.{Start, Download}
+use Rattle.ps_session.specs.Downloads.{left_of, SendsOn, ReadsSendOn}
+use Rattle.ps_session.specs.Sessions.{SessionState, first_behind, behind, read_in, read_of, phase_after, with_place}
+use Rattle.ps_session.proofs.Calls.{read_of_bucket, reads_give_something}
 
 -- ---- sums
 
@@ -48,53 +43,16 @@ end_past : (low : ℕ) (ops : List Op) → IsRising low ops → ops ≢ [] → l
 end_past low [] rising some = absurd (some refl)
 end_past low (op ∷ ops) rising some = omega (arith, rising.0, end_not_below (id_of op) ops rising.1)
 
-same_name : (a b : List ℕ) → bytes_eq a b ≡ true → a ≡ b
-same_name a b = (bytes_eq-Decides a b).0
-
-itself : (a : List ℕ) → bytes_eq a a ≡ true
-itself a = (bytes_eq-Decides a a).1 refl
-
 grows : (name : List ℕ) (place : ℕ) (places : List ℕ → ℕ) → places name ≤ place → (other : List ℕ) → places other ≤ with_place name place places other
 grows name place places high other = elim (cases_Bool (bytes_eq name other)) [
-  | inl same ↦ rw same (subst (λ (n : List ℕ). places n ≤ place) (same_name name other same) high)
+  | inl same ↦ rw same (subst (λ (n : List ℕ). places n ≤ place) ((bytes_eq-Decides name other).0 same) high)
   | inr apart ↦ rw apart (omega arith)
 ]
 
 there : (name : List ℕ) (place : ℕ) (places : List ℕ → ℕ) → with_place name place places name ≡ place
-there name place places = rw (itself name) refl
+there name place places = rw ((bytes_eq-Decides name name).1 refl) refl
 
 -- ---- a read
-
-record IsReadOf (session : SessionState) (after upto : OpId) (name : List ℕ) (bucket : TakenBucket) : Type 0 where
-  phase : session.phase ≡ Download
-  behind_is : behind session ≡ Some bucket
-  name_is : bucket.name ≡ name
-  after_is : session.places name ≡ after.0
-  upto_is : session.last.last_op.0 ≡ upto.0
-
-read_of_bucket : (session : SessionState) (place : ℕ) (after upto : OpId) (name : List ℕ) → next_action session ≡ Read place after upto
-    → option_map name_of (behind session) ≡ Some name → (bucket : TakenBucket) × IsReadOf session after upto name bucket
-read_of_bucket session place after upto name action named = by session.phase refl action
-  where
-    at_bucket : (o : Option TakenBucket) → session.phase ≡ Download → behind session ≡ o → option_map name_of o ≡ Some name
-        → download_action o session ≡ Read place after upto → (bucket : TakenBucket) × IsReadOf session after upto name bucket
-    at_bucket None phase is there asked = cc
-    at_bucket (Some bucket) phase is there asked =
-        let same : bucket.name ≡ name = cc in
-        let after_is : session.places bucket.name ≡ after.0 = cc in
-        let upto_is : session.last.last_op.0 ≡ upto.0 = cc in
-        (bucket, record { phase = phase; behind_is = is; name_is = same; after_is = rw same at after_is; upto_is = upto_is })
-
-    by : (phase : Phase) → session.phase ≡ phase → action_in phase session ≡ Read place after upto → (bucket : TakenBucket) × IsReadOf session after upto name bucket
-    by Start is asked = cc
-    by Download is asked = at_bucket (behind session) is refl named asked
-    by Void is asked = cc
-    by Done is asked = cc
-
--- the download goes on, and less is left
-pub record GoesOn (before now : SessionState) : Type 0 where
-  pub phase : now.phase ≡ Download
-  pub falls : left now < left before
 
 phase_stays : (op : OpId) (target : Option OpId) → IfSome target (λ t. t.0 ≤ op.0) → phase_after op target ≡ Download
 phase_stays op None low = refl
@@ -104,7 +62,7 @@ phase_stays op (Some t) low = elim (cases_Bool (ltb op.0 t.0)) [
 ]
 
 sends : (session : SessionState) (bucket : TakenBucket) (batch : Batch) → behind session ≡ Some bucket → IsRising (session.places bucket.name) batch.ops → batch.ops ≢ []
-    → IfSome batch.target (λ t. t.0 ≤ session.last.last_op.0) → GoesOn session (read_in None session bucket.name batch).session
+    → IfSome batch.target (λ t. t.0 ≤ session.last.last_op.0) → SendsOn session (read_in None session bucket.name batch).session
 sends session bucket batch is rising some low =
     let place = place_after (session.places bucket.name) batch.ops in
     let past : session.places bucket.name < place = end_past (session.places bucket.name) batch.ops rising some in
@@ -117,28 +75,26 @@ sends session bucket batch is rising some low =
 
 by_passed : (passed : Option OpId) (session : SessionState) (bucket : TakenBucket) (batch : Batch) → batch.passed ≡ passed
     → IfSome passed (λ p. (session.last.last_op.0 < p.0) × (p.0 ≤ session.last.last_op.0))
-    → (batch.ops ≢ []) ⊎ (batch.passed ≢ None) → (batch.ops ≢ [] → GoesOn session (read_in None session bucket.name batch).session)
-    → GoesOn session (read_in passed session bucket.name batch).session
+    → (batch.ops ≢ []) ⊎ (batch.passed ≢ None) → (batch.ops ≢ [] → SendsOn session (read_in None session bucket.name batch).session)
+    → SendsOn session (read_in passed session bucket.name batch).session
 by_passed (Some p) session bucket batch is beyond some goes = absurd (omega (arith, beyond.0, beyond.1))
 by_passed None session bucket batch is beyond (inl some) goes = goes some
 by_passed None session bucket batch is beyond (inr passed) goes = absurd (passed is)
 
-pub read_goes_on : (course : Course) (n place : ℕ) (after upto : OpId) (name : List ℕ) (session : SessionState) (batch : Batch) → IsLawful course
-    → HasTaken course n session → next_action session ≡ Read place after upto → option_map name_of (behind session) ≡ Some name
-    → batch ≡ course.batch n name after.0 upto.0 → (batch.ops ≢ []) ⊎ (batch.passed ≢ None) → GoesOn session (read session batch).session
-read_goes_on course n place after upto name session batch lawful taken action named is some =
+pub reads_send_on : ReadsSendOn
+reads_send_on course n place after upto name session lawful taken action named =
     let found = read_of_bucket session place after upto name action named in
     let bucket = found.0 in
     let it = found.1 in
+    let batch : Batch = course.batch n name after.0 upto.0 in
     let last_is : session.last ≡ course.take n = taken (λ (start : session.phase ≡ Start). let no : Download ≡ Start = sym it.phase ∙ start in cc) in
     let op_is : session.last.last_op.0 ≡ course.op n = ap (λ (t : Taken). t.last_op.0) last_is ∙ lawful.takes.op n in
     let after_is : session.places bucket.name ≡ after.0 = ap session.places it.name_is ∙ it.after_is in
-    let target : IfSome batch.target (λ t. t.0 ≤ session.last.last_op.0) = rw (is, op_is) (lawful.climb.target n after.0 upto.0 name) in
+    let target : IfSome batch.target (λ t. t.0 ≤ session.last.last_op.0) = rw op_is (lawful.climb.target n after.0 upto.0 name) in
     let passed : IfSome batch.passed (λ p. (session.last.last_op.0 < p.0) × (p.0 ≤ session.last.last_op.0)) =
-    subst (λ (b : Batch). IfSome b.passed (λ p. (session.last.last_op.0 < p.0) × (p.0 ≤ session.last.last_op.0))) (sym is)
-    (subst (λ (top : ℕ). IfSome (course.batch n name after.0 upto.0).passed (λ p. (session.last.last_op.0 < p.0) × (p.0 ≤ top))) (sym op_is)
-    (subst (λ (high : ℕ). IfSome (course.batch n name after.0 upto.0).passed (λ p. (high < p.0) × (p.0 ≤ course.op n))) (sym it.upto_is)
-    (lawful.climb.passed n after.0 upto.0 name))) in
-    let rising : IsRising (session.places bucket.name) batch.ops = rw (is, after_is) (lawful.climb.rising n after.0 upto.0 name) in
+    subst (λ (top : ℕ). IfSome batch.passed (λ p. (session.last.last_op.0 < p.0) × (p.0 ≤ top))) (sym op_is)
+    (subst (λ (high : ℕ). IfSome batch.passed (λ p. (high < p.0) × (p.0 ≤ course.op n))) (sym it.upto_is) (lawful.climb.passed n after.0 upto.0 name)) in
+    let rising : IsRising (session.places bucket.name) batch.ops = rw after_is (lawful.climb.rising n after.0 upto.0 name) in
+    let some : (batch.ops ≢ []) ⊎ (batch.passed ≢ None) = reads_give_something course n n place after upto name session lawful taken (omega arith) action named in
     let goes = by_passed batch.passed session bucket batch refl passed some (λ here. sends session bucket batch it.behind_is rising here target) in
-    subst (λ (o : Option TakenBucket). GoesOn session (read_of o session batch).session) (sym it.behind_is) goes
+    subst (λ (o : Option TakenBucket). SendsOn session (read_of o session batch).session) (sym it.behind_is) goes
