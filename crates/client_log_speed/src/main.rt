@@ -16,40 +16,23 @@ use std::{env, io};
 
 const TITLE: &str = "a title of some fifty bytes, as a task may have one";
 
-// The data of a row of about 100 bytes.
-fn content_of(alloc: Global, row: u64) -> Result<Text, Memory> {
-    let content = format!(in alloc;
-        "{{\"id\":\"r{row}\",\"owner\":\"ann\",\"title\":\"{TITLE}\"}}"
-    )?;
-    Ok(Text::from_string(content))
-}
-
-fn id_text(alloc: Global, row: u64) -> Result<Text, Memory> {
-    let id = format!(in alloc; "r{row}")?;
-    Ok(Text::from_string(id))
-}
-
-fn subkey_of(alloc: Global, row: u64) -> Result<Text, Memory> {
-    let subkey = format!(in alloc; "1/items/r{row}")?;
-    Ok(Text::from_string(subkey))
-}
-
-fn key_of(alloc: Global, row: u64) -> Result<Key, Memory> {
-    Ok(Key {
-        kind: Text::from_str(alloc, "items")?,
-        id: id_text(alloc, row)?,
-        subkey: subkey_of(alloc, row)?,
-    })
-}
-
-// A PUT of a row.
+// A PUT of a row of about 100 bytes.
 fn put(alloc: Global, id: u64, row: u64) -> Result<Op, Memory>
     ensures { IfOk result (λ op. id_of op ≡ id) }
 {
+    let content = format!(in alloc;
+        "{{\"id\":\"r{row}\",\"owner\":\"ann\",\"title\":\"{TITLE}\"}}"
+    )?;
+    let name = format!(in alloc; "r{row}")?;
+    let subkey = format!(in alloc; "1/items/r{row}")?;
     Ok(Op::Put {
         id: OpId(id),
-        key: key_of(alloc, row)?,
-        content: content_of(alloc, row)?,
+        key: Key {
+            kind: Text::from_str(alloc, "items")?,
+            id: Text::from_string(name),
+            subkey: Text::from_string(subkey),
+        },
+        content: Text::from_string(content),
         sum: Sum(4294967295),
     })
 }
