@@ -13,7 +13,7 @@ mod streams;
 
 use ps_client::Client;
 use ps_client_log::{KeepFault, MemoryKeeper};
-use ps_values::{Items, Memory, Text};
+use ps_values::{Items, Text};
 use std::alloc::Global;
 use std::test::Fail;
 
@@ -37,34 +37,83 @@ fn numbers(alloc: Global, word: &str) -> Result<Items<u64>, Fail> {
     Ok(all)
 }
 
-fn own_id(alloc: Global) -> Result<Text, Memory> {
-    Text::from_str(alloc, "c")
+// Opens a client over a keeper. Where the keeper fails, it comes back; where memory does, nothing.
+fn open(
+    alloc: Global,
+    keeper: Option<MemoryKeeper>,
+) -> Result<Client<MemoryKeeper>, Option<MemoryKeeper>> {
+    let Ok(name) = Text::from_str(alloc, "c") else {
+        return Err(None);
+    };
+    match Client::open(alloc, keeper.ok_or(None)?, name) {
+        Ok(client) => Ok(client),
+        Err((keeper, KeepFault::Failed)) => Err(Some(keeper)),
+        Err((_keeper, KeepFault::Memory)) => Err(None),
+    }
+}
+
+fn reopened(
+    alloc: Global,
+    keeper: Option<MemoryKeeper>,
+) -> Result<Option<Client<MemoryKeeper>>, Fail> {
+    match open(alloc, keeper) {
+        Ok(client) => Ok(Some(client)),
+        Err(_) => Err("the keeper failed twice, or there is no memory".into()),
+    }
 }
 
 // Opens a client, with a second try.
 fn opened(
     alloc: Global,
-    keeper: MemoryKeeper,
+    keeper: Option<MemoryKeeper>,
     out: &mut String,
-) -> Result<Client<MemoryKeeper>, Fail> {
-    let keeper = match Client::open(alloc, keeper, own_id(alloc)?) {
+) -> Result<Option<Client<MemoryKeeper>>, Fail> {
+    match open(alloc, keeper) {
         Ok(client) => {
+            let client = Some(client);
             out.push_str("open")?;
-            return Ok(client);
+            Ok(client)
         }
-        Err((keeper, KeepFault::Failed)) => keeper,
-        Err((_keeper, KeepFault::Memory)) => return Err("no memory".into()),
-    };
-    out.push_str("keeper failed, open")?;
-    match Client::open(alloc, keeper, own_id(alloc)?) {
-        Ok(client) => Ok(client),
-        Err((_keeper, _fault)) => Err("the keeper failed twice".into()),
+        Err(keeper) => {
+            out.push_str("keeper failed, open")?;
+            reopened(alloc, keeper)
+        }
     }
 }
 
-fn begun(alloc: Global, calls: &str, out: &mut String) -> Result<Client<MemoryKeeper>, Fail> {
+fn begun(
+    alloc: Global,
+    calls: &str,
+    out: &mut String,
+) -> Result<Option<Client<MemoryKeeper>>, Fail> {
     let keeper = MemoryKeeper::new(alloc, numbers(alloc, calls)?);
-    opened(alloc, keeper, out)
+    opened(alloc, Some(keeper), out)
+}
+
+fn closed(client: Option<Client<MemoryKeeper>>) -> Option<MemoryKeeper> {
+    Some(client?.close())
+}
+
+// Puts a client over a new keeper in place of one.
+fn renew(
+    alloc: Global,
+    client: &mut Option<Client<MemoryKeeper>>,
+    calls: &str,
+    out: &mut String,
+) -> Result<(), Fail> {
+    *client = begun(alloc, calls, out)?;
+    Ok(())
+}
+
+// Puts a client over its keeper in place of one.
+fn open_again(
+    alloc: Global,
+    client: &mut Option<Client<MemoryKeeper>>,
+    out: &mut String,
+) -> Result<(), Fail> {
+    let keeper = closed(client.take());
+    *client = opened(alloc, keeper, out)?;
+    Ok(())
 }
 
 fn answer(
@@ -83,21 +132,45 @@ fn answer(
     Ok(out.push_str(line)?)
 }
 
-fn main(rt: HostRuntime) -> Result<(), Fail> {
-    let mut out = String::new(rt.alloc());
-    let mut client = begun(rt.alloc(), "-", &mut out)?;
+fn answer_open(
+    alloc: Global,
+    client: &mut Option<Client<MemoryKeeper>>,
+    line: &str,
+    out: &mut String,
+) -> Result<(), Fail> {
+    match client {
+        Some(client) => answer(alloc, client, line, out),
+        None => Err("no client is open".into()),
+    }
+}
+
+// Takes a step.
+fn step(
+    alloc: Global,
+    client: &mut Option<Client<MemoryKeeper>>,
+    line: &str,
+    out: &mut String,
+) -> Result<(), Fail> {
+    let (word, rest) = cut(line);
+    match word {
+        "keeper" => renew(alloc, client, rest, out),
+        "again" => open_again(alloc, client, out),
+        _ => answer_open(alloc, client, line, out),
+    }
+}
+
+fn answer_all(rt: &HostRuntime, client: &mut Option<Client<MemoryKeeper>>) -> Result<(), Fail> {
     'lines: for line in rt.lines(rt.alloc()) {
         let line = line?;
         let mut out = String::new(rt.alloc());
-        let (word, rest) = cut(line.as_str());
-        if word == "keeper" {
-            client = begun(rt.alloc(), rest, &mut out)?;
-        } else if word == "again" {
-            client = opened(rt.alloc(), client.close(), &mut out)?;
-        } else {
-            answer(rt.alloc(), &mut client, line.as_str(), &mut out)?;
-        }
+        step(rt.alloc(), client, line.as_str(), &mut out)?;
         println!(rt; "{}", out.as_str())?;
     }
     Ok(())
+}
+
+fn main(rt: HostRuntime) -> Result<(), Fail> {
+    let mut out = String::new(rt.alloc());
+    let mut client = begun(rt.alloc(), "-", &mut out)?;
+    answer_all(&rt, &mut client)
 }

@@ -69,20 +69,31 @@ fn take_rows(
     Some(())
 }
 
-// The position, the total and the number of listed rows after the work that the words ask for, if they are such words and there is memory.
+// The position, the total and the number of listed rows after the work that a word asks for, if it is such a word and there is memory.
+fn figures_after(
+    log: &mut ClientLog<SureKeeper>,
+    alloc: Global,
+    bucket: &Text,
+    work: &str,
+    count: u64,
+) -> Option<(u64, u32, usize)> {
+    take_rows(log, alloc, bucket, count)?;
+    let mut listed = 0;
+    match work {
+        "different" => {}
+        "again" => take_rows(log, alloc, bucket, count)?,
+        "rows" => listed = log.held_rows(alloc).ok()?.len(),
+        _ => return None,
+    }
+    Some((log.position(bucket).0, log.total(bucket).0, listed))
+}
+
+// The figures of a log that holds nothing before.
 fn figures_of(alloc: Global, work: &str, count: &str) -> Option<(u64, u32, usize)> {
     let count = count.parse::<u64>().ok()?;
     let bucket = Text::from_str(alloc, "mine[\"ann\"]").ok()?;
     let mut log = ClientLog::open(alloc, SureKeeper::new(alloc)).ok()?;
-    take_rows(&mut log, alloc, &bucket, count)?;
-    let mut listed = 0;
-    match work {
-        "different" => {}
-        "again" => take_rows(&mut log, alloc, &bucket, count)?,
-        "rows" => listed = log.held_rows(alloc).ok()?.len(),
-        _ => return None,
-    }
-    Some((log.position(&bucket).0, log.total(&bucket).0, listed))
+    figures_after(&mut log, alloc, &bucket, work, count)
 }
 
 fn main(rt: HostRuntime) -> io::Result<()> {
