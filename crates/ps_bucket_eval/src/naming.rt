@@ -16,7 +16,7 @@ pub fn bucket_name(alloc: Global, definition: &Text, values: &[Value]) -> Result
 {
     let array = array_of_values(alloc, values)?;
     let array = text_of_json(alloc, &array)?;
-    let mut name = definition.copy(alloc)?.into_string();
+    let mut name = definition.copy(alloc)?.into_string(alloc)?;
     name.push_str(array.as_str())?;
     Ok(Text::from_string(name))
 }

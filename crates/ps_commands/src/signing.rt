@@ -22,10 +22,10 @@ pub fn choose_key<'a>(alloc: Global, bytes: &[u8], kid: &Text) -> Result<Keys, F
 }
 
 // A text and a line feed.
-fn line_of(text: Text) -> Result<Text, Memory>
+fn line_of(alloc: Global, text: Text) -> Result<Text, Memory>
     ensures { IfOk result (λ line. line ≡ text ++ codes "\n") }
 {
-    let mut line = text.into_string();
+    let mut line = text.into_string(alloc)?;
     line.push_str("\n")?;
     Ok(Text::from_string(line))
 }
@@ -36,6 +36,6 @@ pub fn sign_line(alloc: Global, keys: &Keys, kid: &Text, payload: &Text) -> Resu
     ensures { SignsLine keys.now kid.now payload.now result }
 {
     let token = sign(alloc, keys, kid, payload)?;
-    let line = line_of(token)?;
+    let line = line_of(alloc, token)?;
     Ok(line)
 }

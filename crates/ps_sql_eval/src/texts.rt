@@ -29,10 +29,10 @@ pub(crate) fn cast(alloc: Global, of: Value) -> Result<Value, Memory>
 }
 
 /// One text behind another. Adds to the first, so that a chain of joins takes time linear in the text it gives.
-fn behind(front: Text, back: &Text) -> Result<Text, Memory>
+fn behind(alloc: Global, front: Text, back: &Text) -> Result<Text, Memory>
     ensures { IfOk result (λ both. both ≡ front ++ back.now) }
 {
-    let mut both = front.into_string();
+    let mut both = front.into_string(alloc)?;
     both.push_str(back.as_str())?;
     Ok(Text::from_string(both))
 }
@@ -47,7 +47,7 @@ pub(crate) fn join(alloc: Global, a: Value, b: Value) -> Result<Value, Memory>
     let Some(back) = text_of(alloc, b)? else {
         return Ok(Value::Null);
     };
-    Ok(Value::Text(behind(front, &back)?))
+    Ok(Value::Text(behind(alloc, front, &back)?))
 }
 
 /// `upper(of)`: ASCII letters in capitals.

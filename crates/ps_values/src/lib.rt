@@ -9,6 +9,7 @@ mod ids;
 mod laws;
 mod lists;
 mod numbers;
+mod short_texts;
 mod shortage;
 mod texts;
 mod values;

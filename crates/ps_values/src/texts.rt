@@ -5,26 +5,35 @@ ghost use Rattle.std.specs.Hash as fed;
 ghost use Rattle.std.specs.Cmp.{partial_equiv_from_equiv};
 ghost use Rattle.std.specs.Cmp.Lexicographic.{slice_cmp, nat_list_eq_equiv, nat_list_cmp_total, texts_ties, texts_po};
 ghost use Rattle.std.specs.Cmp.Rules.{hashing};
+ghost use Rattle.ps_values.specs.Kept.{bytes_kept};
 ghost use Rattle.ps_values.specs.Texts.{IsTextOf};
 
 use crate::Memory;
+use crate::short_texts::ShortText;
 use std::alloc::{AllocError, AllocFailed, Global};
 use std::cmp::Ordering;
 use std::hash::{Hash, Hasher};
 use std::marker::Model;
 
-/// UTF-8 text, which contracts see as the list of its bytes.
+/// UTF-8 text, which contracts see as the list of its bytes. A short one takes no memory.
 #[derive(Debug, Drop)]
 pub struct Text {
-    inner: String,
+    kept: Kept,
+}
+
+#[derive(Debug, Drop)]
+enum Kept {
+    Short(ShortText),
+    Long(String),
 }
 
 impl Model for Text {
-    ghost use Rattle.std.specs.Prelude.{List, ℕ, string_bytes};
+    ghost use Rattle.std.specs.Prelude.{List, ℕ};
+    ghost use Rattle.ps_values.specs.Kept.{bytes_kept};
 
     ghost Value = { List ℕ };
 
-    ghost view = { λ text. string_bytes text.inner };
+    ghost view = { λ text. bytes_kept text.kept };
 }
 
 /// Why bytes are no text.
@@ -46,6 +55,16 @@ impl From<AllocError> for TextFault {
     }
 }
 
+// A string slice, in the text itself where there is room for it.
+fn keep(alloc: Global, text: &str) -> Result<Kept, AllocError>
+    ensures { IfOk result (λ kept. bytes_kept kept ≡ text.now) }
+{
+    match ShortText::from_str(text) {
+        Some(short) => Ok(Kept::Short(short)),
+        None => Ok(Kept::Long(String::from_str(alloc, text)?)),
+    }
+}
+
 impl Text {
     /// The text of UTF-8 bytes. Fails with `NotUtf8` exactly where the bytes are not UTF-8.
     pub fn from_bytes(alloc: Global, bytes: &[u8]) -> Result<Text, TextFault>
@@ -53,7 +72,7 @@ impl Text {
     {
         match str::from_utf8(bytes) {
             Ok(text) => Ok(Text {
-                inner: String::from_str(alloc, text)?,
+                kept: keep(alloc, text)?,
             }),
             Err(_) => Err(TextFault::NotUtf8),
         }
@@ -64,7 +83,7 @@ impl Text {
         ensures { IfOk result (λ made. made ≡ text.now) }
     {
         Ok(Text {
-            inner: String::from_str(alloc, text)?,
+            kept: keep(alloc, text)?,
         })
     }
 
@@ -72,14 +91,21 @@ impl Text {
     pub fn from_string(text: String) -> Text
         ensures { result ≡ string_bytes text }
     {
-        Text { inner: text }
+        let kept = match ShortText::from_str(text.as_str()) {
+            Some(short) => Kept::Short(short),
+            None => Kept::Long(text),
+        };
+        Text { kept }
     }
 
-    /// Its string, to be added to. Takes no memory.
-    pub fn into_string(self) -> String
-        ensures { string_bytes result ≡ self }
+    /// Its string, to be added to. A long text takes no memory.
+    pub fn into_string(self, alloc: Global) -> Result<String, Memory>
+        ensures { IfOk result (λ made. string_bytes made ≡ self) }
     {
-        self.inner
+        match self.kept {
+            Kept::Short(short) => Ok(String::from_str(alloc, short.as_str())?),
+            Kept::Long(long) => Ok(long),
+        }
     }
 
     /// Its bytes, which are UTF-8.
@@ -87,21 +113,28 @@ impl Text {
         ensures value { result.now ≡ self.now }
         ensures utf8 { IsUtf8 self.now }
     {
-        self.inner.as_str().as_bytes()
+        self.as_str().as_bytes()
     }
 
     /// The text as a string slice.
     pub fn as_str(&self) -> &str
         ensures value { result.now ≡ self.now }
     {
-        self.inner.as_str()
+        match &self.kept {
+            Kept::Short(short) => short.as_str(),
+            Kept::Long(long) => long.as_str(),
+        }
     }
 
     /// An equal text.
     pub fn copy(&self, alloc: Global) -> Result<Text, Memory>
         ensures { IfOk result (λ copy. copy ≡ self.now) }
     {
-        Text::from_str(alloc, self.as_str())
+        let kept = match &self.kept {
+            Kept::Short(short) => Kept::Short(short.copy()),
+            Kept::Long(long) => Kept::Long(String::from_str(alloc, long.as_str())?),
+        };
+        Ok(Text { kept })
     }
 
     /// Whether two texts have the same bytes.

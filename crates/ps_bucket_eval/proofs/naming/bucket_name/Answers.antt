@@ -8,7 +8,7 @@ pub returns : goal.returns
 returns c =
     let definition = c.args.definition.now in
     let array = c.in_ok-array-2.array in
-    let front : string_bytes c.into_string-name.result ≡ definition = c.into_string-name.ensures ∙ c.in_ok-copy.ensures in
+    let front : string_bytes c.in_ok-name.name ≡ definition = c.in_ok-name.ensures ∙ c.in_ok-copy.ensures in
     let whole : c.from_string.result ≡ definition ++ array =
     c.from_string.ensures ∙ c.in_ok-push_str.ensures.bytes
     ∙ ap (λ (bytes : List ℕ). bytes ++ c.as_str.result.now) front ∙ ap (λ (bytes : List ℕ). definition ++ bytes) c.as_str.ensures.value in
