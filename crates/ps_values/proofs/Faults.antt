@@ -1,13 +1,12 @@
 -- JSON item by item and member by member.
 use Rattle.std.proofs.Common.{◌≡◌, ℕ, Bool, true, false, List, [], ◌∷◌, ◌++◌, Option, Some, None, refl, sym, ap, ◌∙◌, cond, ◌^◌, string_bytes, string_cmp, map, drop, get_or, length, ◌+◌, ◌<◌}
-use Rattle.std.specs.Prelude.{nat_lt}
+use Rattle.std.specs.Prelude.{nat_lt, ◌||◌}
 use Rattle.std.specs.Option.{option_or}
 use Rattle.serde_json.specs.Data.{Num, unsigned, negative, float, Data, null, boolean, number, string, array, object, Items, no_items, item, Members, no_members, member, put}
 use Rattle.serde_json.specs.Written.{has_float, items_have_float, members_have_float, compact_text}
 use Rattle.ps_values.specs.declared.conversions.ValueFault.{ValueFault}
 use Rattle.ps_values.specs.declared.values.Value.TheVariants.{Text}
 use Rattle.ps_values.specs.Conversions.{number_fault, value_of, first_fault, numbers_of, numbers_of_items, numbers_of_members, plain_number, plain_of, plain_items, plain_members}
-use Rattle.ps_values.proofs.Floats.{neither}
 use Rattle.std.proofs.lemmas.List.{drop_more}
 use Rattle.std.specs.List.Sorted.{IsStrictlySortedBy}
 use Rattle.std.specs.Map.{keys_of}
@@ -17,6 +16,11 @@ use Rattle.std.specs.Cmp.Lexicographic.{slice_cmp}
 use Rattle.serde_json.specs.View.{view, items_of, items_view, members_view}
 use Rattle.serde_json.specs.declared.value.Value.{Value as Json}
 use Rattle.serde_json.proofs.Views.{Entry, put_last}
+
+-- nothing is a float where neither of two is
+neither : (a b : Bool) → a ≡ false → b ≡ false → (a || b) ≡ false
+neither false b ha hb = hb
+neither true b ha hb = ha
 
 either : {X : Type 0} (p q r : Option X) → option_or p (option_or q r) ≡ option_or (option_or p q) r
 either None q r = refl

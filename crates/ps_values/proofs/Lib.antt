@@ -1,6 +1,7 @@
 pub mod Decimals
 pub mod Faults
-pub mod Floats
 pub mod Objects
 pub mod Orders
 pub mod Plainness
+pub mod Rising
+pub mod Written

@@ -1,15 +1,14 @@
 -- Bytes that hold JSON, and the members of an object as columns go in.
-use Rattle.std.proofs.Common.{◌≡◌, ℕ, suc, ◌+◌, ◌<◌, Bool, true, false, List, ◌∷◌, Some, None, String, string_bytes, string_cmp, length, get_or, drop, cond, refl, sym, ap, ◌∙◌, add-one, rules}
+use Rattle.std.proofs.Common.{◌≡◌, ℕ, suc, ◌+◌, ◌<◌, Bool, true, false, List, ◌∷◌, Some, None, String, string_bytes, string_cmp, length, get_or, drop, cond, refl, sym, ap, ◌∙◌, add-one}
 use Rattle.std.proofs.Math.Seq.{drop-cons}
 use Rattle.std.specs.Str.{is_utf8, IsUtf8}
 use Rattle.std.proofs.lemmas.Str.{IsUtf8-from_is_utf8, is_utf8-from_IsUtf8}
 use Rattle.std.specs.BTreeMap.{insert_entry}
 use Rattle.std.specs.declared.alloc.Global.{Global}
-use Rattle.serde_json.specs.Data.{Data, Members, put, string}
+use Rattle.serde_json.specs.Data.{Data, Members, put}
 use Rattle.serde_json.specs.Read.{read}
 use Rattle.serde_json.specs.View.{view, members_view}
-use Rattle.serde_json.specs.declared.value.Value.{Value as Json, the_lemmas}
-use Rattle.serde_json.specs.declared.value.Value.TheVariants.{String as StringOf}
+use Rattle.serde_json.specs.declared.value.Value.{Value as Json}
 use Rattle.serde_json.proofs.Views.{members_view-insert_entry}
 use Rattle.ps_values.specs.declared.columns.Column.{Column}
 use Rattle.ps_values.specs.Documents.{json_of, data_of, with_columns}
@@ -33,6 +32,3 @@ pub column_more : (ms : Members) (columns : List Column) (i : ℕ) (column : Col
     → with_columns (put column.name (data_of column.value) ms) (drop (i + 1) columns) ≡ with_columns ms (drop i columns)
 column_more ms columns i column h is =
     rw add-one (sym (ap (with_columns ms) (drop-cons columns i column h) ∙ ap (λ c. with_columns ms (c ∷ drop (suc i) columns)) (sym is)))
-
-pub view-String : (s : String Global) → view (StringOf s) ≡ string (string_bytes s)
-view-String s = search (rules, the_lemmas)

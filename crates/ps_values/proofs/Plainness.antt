@@ -1,8 +1,7 @@
 -- Plain JSON stays as it is, and nests as deep as before.
-use Rattle.std.proofs.Common.{◌≡◌, ℕ, suc, max, Bool, true, false, refl, sym, ap, ◌∙◌, cond, ◌^◌}
+use Rattle.std.proofs.Common.{◌≡◌, ℕ, suc, Bool, true, false, refl, sym, ap, ◌∙◌, cond, ◌^◌}
 use Rattle.std.specs.Prelude.{nat_lt}
 use Rattle.serde_json.specs.Data.{Num, unsigned, negative, float, Data, null, boolean, number, string, array, object, Items, no_items, item, Members, no_members, member, depth, items_depth, members_depth}
-use Rattle.serde_json.specs.View.{view}
 use Rattle.serde_json.specs.Written.{has_float}
 use Rattle.ps_values.specs.Conversions.{plain_number, plain_of, plain_items, plain_members}
 use Rattle.ps_values.proofs.Faults.{plain_floatless}

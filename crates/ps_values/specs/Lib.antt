@@ -6,3 +6,4 @@ pub mod Laws
 pub mod Numbers
 pub mod Texts
 pub mod Values
+pub mod Writing

@@ -1,10 +1,12 @@
 ghost use Rattle.std.specs.Prelude.{◌≡◌, IfOk, OnOk, option_map, false, string_bytes};
-ghost use Rattle.serde_json.specs.Data.{string, object as object_data, put};
+ghost use Rattle.serde_json.specs.Data.{put};
 ghost use Rattle.serde_json.specs.View.{view, members_view};
-ghost use Rattle.serde_json.specs.Written.{has_float, members_have_float, compact_text};
-ghost use Rattle.ps_values.specs.Documents.{json_of, data_of, with_columns, members_of, document_of, quoted_of};
+ghost use Rattle.serde_json.specs.Written.{has_float, compact_text};
+ghost use Rattle.ps_values.specs.Documents.{json_of, data_of, members_of, document_of, quoted_of};
 
+use crate::writing::{room, text_written, write_members};
 use crate::{Column, Memory, Text, Value};
+use json::Writer;
 use serde_json::Map;
 use std::alloc::Global;
 
@@ -32,12 +34,14 @@ pub fn text_of_json(alloc: Global, json: &serde_json::Value) -> Result<Text, Mem
 }
 
 /// The JSON text of a text, in its quotes and escapes.
-#[tactic(auto, unfolding(crate::specs::Documents::quoted_of))]
 pub fn quoted(alloc: Global, text: &Text) -> Result<Text, Memory>
     ensures { IfOk result (λ written. written ≡ quoted_of text.now) }
 {
-    let text = String::from_str(alloc, text.as_str())?;
-    text_of_json(alloc, &serde_json::Value::String(text))
+    // room for the quotes too, where nothing is escaped
+    let bytes = Vec::with_capacity(alloc, text.bytes().len().saturating_add(3))?;
+    let mut writer = Writer::new(bytes);
+    writer.string(text.as_str())?;
+    Ok(text_written(writer))
 }
 
 /// A value as JSON: null, a number or a string.
@@ -70,12 +74,10 @@ pub fn object_of_columns(
 pub fn document(alloc: Global, id: &Text, columns: &[Column]) -> Result<Text, Memory>
     ensures { IfOk result (λ text. text ≡ document_of id.now columns.now) }
 {
-    let mut object = object_of_columns(alloc, columns)?;
-    let name = String::from_str(alloc, "id")?;
-    let id = String::from_str(alloc, id.as_str())?;
-    put_member(&mut object, name, serde_json::Value::String(id))?;
-    let text = text_of_object(alloc, object)?;
-    Ok(text)
+    let mut writer = Writer::new(Vec::with_capacity(alloc, room(id, columns))?);
+    writer.begin_object()?;
+    write_members(alloc, &mut writer, id, columns)?;
+    Ok(text_written(writer))
 }
 
 // Puts a value into an object, in the place of a member of that name.
@@ -89,13 +91,4 @@ pub(crate) fn put_member(
 {
     object.insert(name, value)?;
     Ok(())
-}
-
-// The compact text of an object that holds no float.
-fn text_of_object(alloc: Global, object: Map<String, serde_json::Value>) -> Result<Text, Memory>
-    ensures { IfOk result (λ text. members_have_float (members_view object.entries) ≡ false
-        → text ≡ compact_text (object_data (members_view object.entries))) }
-{
-    let json = serde_json::Value::Object(object);
-    text_of_json(alloc, &json)
 }

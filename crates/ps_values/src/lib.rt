@@ -13,6 +13,7 @@ mod short_texts;
 mod shortage;
 mod texts;
 mod values;
+mod writing;
 
 pub use boxes::Boxed;
 pub use columns::Column;
@@ -28,3 +29,4 @@ pub use numbers::{GREATEST, decimal, read_decimal};
 pub use shortage::Memory;
 pub use texts::{Text, TextFault};
 pub use values::{Truth, Value, compare, equal_sql, truth_of};
+pub use writing::{text_written, write_value};

@@ -1,15 +1,14 @@
-use Rattle.std.proofs.Common.{◌≡◌, ◌∙◌, refl, codes, string_bytes}
-use Rattle.serde_json.specs.Data.{string, put}
-use Rattle.serde_json.specs.View.{members_view}
+use Rattle.std.proofs.Common.{◌≡◌, [], ◌∷◌, ◌++◌, false, ap, ◌∙◌, rules}
+use Rattle.json.specs.Token.{begin_object}
+use Rattle.json.specs.Print.{print}
 use Rattle.ps_values.specs.Documents.{members_of}
-use Rattle.ps_values.proofs.Objects.{view-String}
-use Rattle.ps_values.proofs.Floats.{document_from}
+use Rattle.ps_values.specs.Writing.{members_tokens, with_id}
+use Rattle.ps_values.proofs.Written.{document_written}
 use Rattle.ps_values.proofs.documents.document.Goals as goal
 
 pub returns : goal.returns
 returns c =
-    let id : string_bytes c.in_ok-id.id ≡ c.args.id.now = c.in_ok-id.ensures.ok ∙ c.as_str.ensures.value in
-    let name : string_bytes c.in_ok-name.name ≡ codes "id" = c.in_ok-name.ensures.ok in
-    let members : members_view c.put_member.new.object.entries ≡ put (codes "id") (string c.args.id.now) (members_of c.args.columns.now) =
-    rw (c.in_ok-put_member.ensures, name, view-String, id, c.in_ok-object.ensures) refl in
-    document_from c.args.id.now c.args.columns.now _ c.in_ok-text.text members c.in_ok-text.ensures
+    let writer = c.write_members.new.writer in
+    let before : writer.before ≡ [] = search rules in
+    let written : writer.tokens ≡ (begin_object ∷ []) ++ members_tokens (with_id false c.args.id.now (members_of c.args.columns.now)) = search rules in
+    c.text_written.ensures ∙ ap (λ front. front ++ print writer.tokens) before ∙ document_written c.args.id.now c.args.columns.now writer.tokens written
