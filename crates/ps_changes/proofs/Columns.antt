@@ -1,5 +1,5 @@
 -- The columns of members that lie in order.
-use Rattle.std.proofs.Common.{◌≡◌, ℕ, Bool, true, false, List, [], ◌∷◌, ◌++◌, Result, Ok, Err, String, string_bytes, string_cmp, Ordering, Less, refl, sym, ap, ◌∙◌, append_assoc, cond, subst}
+use Rattle.std.proofs.Common.{◌≡◌, ℕ, Bool, true, false, List, [], ◌∷◌, ◌++◌, Result, Ok, Err, Bor, Ordering, Less, refl, sym, ap, ◌∙◌, append_assoc, cond, subst}
 use Rattle.std.specs.Prelude.{not, ◌&&◌}
 use Rattle.std.specs.Ordering.{nat_cmp, is_lt}
 use Rattle.std.specs.Cmp.Lexicographic.{slice_cmp}
@@ -7,15 +7,19 @@ use Rattle.std.specs.List.{AllByRecursion}
 use Rattle.std.specs.List.Sorted.{IsStrictlySortedBy}
 use Rattle.std.specs.Map.{keys_of}
 use Rattle.std.specs.declared.alloc.Global.{Global}
+use Rattle.json.specs.declared.value.Value.{Value as Borrowed}
 use Rattle.serde_json.specs.Data.{Data, Members, member}
-use Rattle.serde_json.specs.View.{view, members_view}
-use Rattle.serde_json.specs.declared.value.Value.{Value as Json}
 use Rattle.ps_values.specs.declared.columns.Column.{Column}
 use Rattle.ps_values.specs.declared.values.Value.{Value}
 use Rattle.ps_changes.specs.Rows.{is_id, rises_from, is_row}
 use Rattle.ps_changes.specs.Types.{ChangeFault}
 use Rattle.ps_changes.specs.Members.{◌>>=◌}
 use Rattle.ps_changes.specs.Lines.{value_in, column_of, columns_of}
+use Rattle.ps_changes.specs.Borrowed.{seen, entries_seen}
+
+-- a name and a value, which are borrowed
+abbrev pub Entry : Type 0
+Entry = Bor (List ℕ) × Bor (Borrowed Global)
 
 -- a front of a front
 fronts : (cs added : List Column) (r : Result (List Column) ChangeFault) → ((r >>= λ columns. Ok (added ++ columns)) >>= λ rest. Ok (cs ++ rest)) ≡ (r >>= λ rest. Ok ((cs ++ added) ++ rest))
@@ -43,22 +47,22 @@ above_id : (b r : Bool) (o : Ordering) → o ≡ Less → b ≡ false → r ≡ 
 above_id b r o l h g = rw (l, h, g) refl
 
 -- the names of columns whose members lie above a name, and in order, rise from it
-rises : (name : List ℕ) (es : List (String Global × Json)) (cs : List Column) → AllByRecursion (λ k. slice_cmp nat_cmp name (string_bytes k) ≡ Less) (keys_of es)
-    → IsStrictlySortedBy string_cmp (keys_of es) → columns_of (members_view es) ≡ Ok cs → rises_from name cs ≡ true
+rises : (name : List ℕ) (es : List Entry) (cs : List Column) → AllByRecursion (λ k. slice_cmp nat_cmp name k.now ≡ Less) (keys_of es)
+    → IsStrictlySortedBy (λ x y. slice_cmp nat_cmp x.now y.now) (keys_of es) → columns_of (entries_seen es) ≡ Ok cs → rises_from name cs ≡ true
 unfolding IsStrictlySortedBy
 rises name [] cs above sorted h = let e : [] ≡ cs = cc in subst (λ xs. rises_from name xs ≡ true) e refl
 rises name (e ∷ es) cs above sorted h =
-    by_cases (string_bytes e.0) (is_id (string_bytes e.0)) (value_in (view e.1)) (columns_of (members_view es)) cs h
+    by_cases e.0.now (is_id e.0.now) (value_in (seen e.1.now)) (columns_of (entries_seen es)) cs h
     (λ id rest. rises name es cs above.1 sorted.1 rest)
     (λ value rest other read left is. subst (λ xs. rises_from name xs ≡ true) (sym is)
-    (above_id (is_id (string_bytes e.0)) (rises_from (string_bytes e.0) rest) (slice_cmp nat_cmp name (string_bytes e.0)) above.0 other (rises (string_bytes e.0) es rest sorted.0 sorted.1 left)))
+    (above_id (is_id e.0.now) (rises_from e.0.now rest) (slice_cmp nat_cmp name e.0.now) above.0 other (rises e.0.now es rest sorted.0 sorted.1 left)))
 
 -- columns of members in order are a row
-pub in_order : (es : List (String Global × Json)) (cs : List Column) → IsStrictlySortedBy string_cmp (keys_of es) → columns_of (members_view es) ≡ Ok cs → is_row cs ≡ true
+pub in_order : (es : List Entry) (cs : List Column) → IsStrictlySortedBy (λ x y. slice_cmp nat_cmp x.now y.now) (keys_of es) → columns_of (entries_seen es) ≡ Ok cs → is_row cs ≡ true
 unfolding IsStrictlySortedBy
 in_order [] cs sorted h = let e : [] ≡ cs = cc in subst (λ xs. is_row xs ≡ true) e refl
 in_order (e ∷ es) cs sorted h =
-    by_cases (string_bytes e.0) (is_id (string_bytes e.0)) (value_in (view e.1)) (columns_of (members_view es)) cs h
+    by_cases e.0.now (is_id e.0.now) (value_in (seen e.1.now)) (columns_of (entries_seen es)) cs h
     (λ id rest. in_order es cs sorted.1 rest)
     (λ value rest other read left is. subst (λ xs. is_row xs ≡ true) (sym is)
-    (rw (other, rises (string_bytes e.0) es rest sorted.0 sorted.1 left) refl))
+    (rw (other, rises e.0.now es rest sorted.0 sorted.1 left) refl))

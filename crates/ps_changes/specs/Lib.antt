@@ -2,6 +2,7 @@ pub mod Types
 pub mod Rows
 pub mod Source
 pub mod Members
+pub mod Borrowed
 pub mod Shapes
 pub mod Lines
 pub mod Grammar

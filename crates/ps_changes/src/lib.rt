@@ -1,6 +1,7 @@
 //! Row changes: the source's transactions, and the lines that they are read from.
 #![tactic(auto)]
 
+mod borrowed;
 mod changes;
 mod faults;
 mod lines;

@@ -1,15 +1,16 @@
 ghost use Rattle.std.specs.Prelude.{List, IfOk, Ok};
-ghost use Rattle.serde_json.specs.View.{view};
 ghost use Rattle.ps_changes.specs.Types.{Transaction as TransactionData, Change as ChangeData};
 ghost use Rattle.ps_changes.specs.Members.{Reads, seen_by};
+ghost use Rattle.ps_changes.specs.Borrowed.{seen};
 ghost use Rattle.ps_changes.specs.Lines.{RefusesLong, json_within, line_of, body_of, lone_change_of};
 ghost use Rattle.ps_changes.specs.Grammar.{IsLine, IsBody, IsLoneChange};
 
+use crate::borrowed::read_borrowed;
 use crate::readers::{read_list, read_object, read_transaction};
 use crate::shapes::{has_changes, is_change, is_transaction};
 use crate::{Change, ChangeFault, Transaction};
-use ps_values::{Items, decimals_read_back, read_json};
-use serde_json::Value as Json;
+use json::{Scratch, Value as Borrowed};
+use ps_values::{Items, decimals_read_back};
 use std::alloc::Global;
 
 // The greatest number of bytes of a line.
@@ -67,18 +68,19 @@ pub fn read_change(alloc: Global, bytes: &[u8]) -> Result<Change, ChangeFault>
 }
 
 // The JSON of bytes that are no more than a line may have.
-fn json_of_line(alloc: Global, bytes: &[u8]) -> Result<Json, ChangeFault>
-    ensures exact { Reads (seen_by view result) (json_within bytes.now) }
+fn json_of_line<'a>(
+    alloc: Global,
+    bytes: &'a [u8],
+    room: &'a mut Scratch,
+) -> Result<Borrowed<'a>, ChangeFault>
+    ensures exact { Reads (seen_by seen result) (json_within bytes.now) }
     ensures long { RefusesLong bytes.now result }
 {
     if bytes.len() > LONGEST {
         let length = bytes.len() as u64;
         return Err(ChangeFault::LineTooLong { length });
     }
-    match read_json(alloc, bytes)? {
-        Some(json) => Ok(json),
-        None => Err(ChangeFault::BadJson),
-    }
+    read_borrowed(alloc, bytes, room)
 }
 
 #[tactic(auto, unfolding(crate::specs::Lines::line_of))]
@@ -86,7 +88,8 @@ fn line(alloc: Global, bytes: &[u8]) -> Result<Transaction, ChangeFault>
     ensures exact { Reads result (line_of bytes.now) }
     ensures long { RefusesLong bytes.now result }
 {
-    let json = json_of_line(alloc, bytes)?;
+    let mut room = Scratch::new(alloc);
+    let json = json_of_line(alloc, bytes, &mut room)?;
     if !is_transaction(&json) {
         return Err(ChangeFault::BadShape);
     }
@@ -98,7 +101,8 @@ fn body(alloc: Global, bytes: &[u8]) -> Result<Items<Change>, ChangeFault>
     ensures exact { Reads result (body_of bytes.now) }
     ensures long { RefusesLong bytes.now result }
 {
-    let json = json_of_line(alloc, bytes)?;
+    let mut room = Scratch::new(alloc);
+    let json = json_of_line(alloc, bytes, &mut room)?;
     if !has_changes(&json) {
         return Err(ChangeFault::BadShape);
     }
@@ -110,7 +114,8 @@ fn lone_change(alloc: Global, bytes: &[u8]) -> Result<Change, ChangeFault>
     ensures exact { Reads result (lone_change_of bytes.now) }
     ensures long { RefusesLong bytes.now result }
 {
-    let json = json_of_line(alloc, bytes)?;
+    let mut room = Scratch::new(alloc);
+    let json = json_of_line(alloc, bytes, &mut room)?;
     if !is_change(&json) {
         return Err(ChangeFault::BadShape);
     }

@@ -1,17 +1,20 @@
 //! JSON as changes and transactions.
 
 ghost use Rattle.std.specs.Prelude.{◌≡◌, codes, string_bytes};
-ghost use Rattle.serde_json.specs.View.{view, items_view, members_view};
+ghost use Rattle.json.specs.Value.{items_view, members_view};
+ghost use Rattle.serde_json.specs.Data.{number, no_members};
 ghost use Rattle.ps_changes.specs.Members.{Reads, Adds};
+ghost use Rattle.ps_changes.specs.Borrowed.{number_in as number_data, seen, items_in, members_in};
 ghost use Rattle.ps_changes.specs.Lines.{text_at, value_in, column_of, columns_of, row_in, row_of, change_of, changes_of, changes_in, position_of, transaction_of};
 
+use crate::borrowed::{as_list, as_members, as_text, in_order, member, number_in, owned};
 use crate::{Change, ChangeFault, Row, Transaction};
+use json::Value as Borrowed;
 use ps_values::{Column, Items, Position, Text, Value, ValueFault, read_decimal, value_of_json};
-use serde_json::{Map, Value as Json};
 use std::alloc::Global;
 
-pub fn read_transaction(alloc: Global, json: &Json) -> Result<Transaction, ChangeFault>
-    ensures { Reads result (transaction_of (view json.now)) }
+pub fn read_transaction(alloc: Global, json: &Borrowed<'_>) -> Result<Transaction, ChangeFault>
+    ensures { Reads result (transaction_of (seen json.now)) }
 {
     let text = read_text(alloc, json, "pos")?;
     let position = read_position(&text)?;
@@ -28,34 +31,34 @@ fn read_position(text: &Text) -> Result<Position, ChangeFault>
     }
 }
 
-pub fn read_list(alloc: Global, json: &Json) -> Result<Items<Change>, ChangeFault>
-    ensures { Reads result (changes_in (view json.now)) }
+pub fn read_list(alloc: Global, json: &Borrowed<'_>) -> Result<Items<Change>, ChangeFault>
+    ensures { Reads result (changes_in (seen json.now)) }
 {
-    match json.get("changes").and_then(Json::as_array) {
+    match member(json, "changes").and_then(as_list) {
         Some(list) => read_items(alloc, list.as_slice()),
         None => Err(ChangeFault::BadShape),
     }
 }
 
-fn read_items(alloc: Global, list: &[Json]) -> Result<Items<Change>, ChangeFault>
-    ensures { Reads result (changes_of (items_view list.now)) }
+fn read_items(alloc: Global, list: &[Borrowed<'_>]) -> Result<Items<Change>, ChangeFault>
+    ensures { Reads result (changes_of (items_in (items_view list.now))) }
 {
-    let mut changes = Items::new(alloc);
+    let mut changes = Vec::with_capacity(alloc, list.len())?;
     'changes: for json in list {
         changes.push(read_object(alloc, json)?)?;
     }
-    Ok(changes)
+    Ok(Items::from_vec(changes))
 }
 
-pub fn read_object(alloc: Global, json: &Json) -> Result<Change, ChangeFault>
-    ensures { Reads result (change_of (view json.now)) }
+pub fn read_object(alloc: Global, json: &Borrowed<'_>) -> Result<Change, ChangeFault>
+    ensures { Reads result (change_of (seen json.now)) }
 {
     let table = read_text(alloc, json, "table")?;
     if table.bytes().is_empty() {
         return Err(ChangeFault::BadShape);
     }
     let id = read_text(alloc, json, "id")?;
-    let Some(op) = json.get("op").and_then(Json::as_str) else {
+    let Some(op) = member(json, "op").and_then(as_text) else {
         return Err(ChangeFault::BadShape);
     };
     let row = read_row(alloc, op, json)?;
@@ -63,8 +66,8 @@ pub fn read_object(alloc: Global, json: &Json) -> Result<Change, ChangeFault>
 }
 
 // The row of a change: a PUT has one, a DELETE has none.
-fn read_row(alloc: Global, op: &str, json: &Json) -> Result<Option<Row>, ChangeFault>
-    ensures { Reads result (row_of op.now (view json.now)) }
+fn read_row(alloc: Global, op: &str, json: &Borrowed<'_>) -> Result<Option<Row>, ChangeFault>
+    ensures { Reads result (row_of op.now (seen json.now)) }
 {
     if op == "PUT" {
         return read_row_in(alloc, json);
@@ -75,42 +78,46 @@ fn read_row(alloc: Global, op: &str, json: &Json) -> Result<Option<Row>, ChangeF
     Err(ChangeFault::BadShape)
 }
 
-fn read_row_in(alloc: Global, json: &Json) -> Result<Option<Row>, ChangeFault>
-    ensures { Reads result (row_in (view json.now)) }
+fn read_row_in(alloc: Global, json: &Borrowed<'_>) -> Result<Option<Row>, ChangeFault>
+    ensures { Reads result (row_in (seen json.now)) }
 {
-    match json.get("row").and_then(Json::as_object) {
-        Some(object) => Ok(Some(read_columns(alloc, object)?)),
+    match member(json, "row").and_then(as_members) {
+        Some(members) => Ok(Some(read_columns(alloc, members)?)),
         None => Err(ChangeFault::BadShape),
     }
 }
 
-fn read_text(alloc: Global, json: &Json, name: &str) -> Result<Text, ChangeFault>
-    ensures { Reads result (text_at name.now (view json.now)) }
+fn read_text(alloc: Global, json: &Borrowed<'_>, name: &str) -> Result<Text, ChangeFault>
+    ensures { Reads result (text_at name.now (seen json.now)) }
 {
-    match json.get(name).and_then(Json::as_str) {
+    match member(json, name).and_then(as_text) {
         Some(text) => Ok(Text::from_str(alloc, text)?),
         None => Err(ChangeFault::BadShape),
     }
 }
 
-fn read_columns(alloc: Global, object: &Map<String, Json>) -> Result<Row, ChangeFault>
-    ensures { Reads result (columns_of (members_view object.now.entries)) }
+fn read_columns<'v, 'a>(
+    alloc: Global,
+    members: &'v Vec<(&'a str, Borrowed<'a>)>,
+) -> Result<Row, ChangeFault>
+    ensures { Reads result (columns_of (members_in (members_view members.now.items) no_members)) }
 {
-    let mut columns = Items::new(alloc);
-    'members: for (name, json) in object.iter() {
-        push_column(alloc, &mut columns, name.as_str(), json)?;
+    let ordered = in_order(alloc, members)?;
+    let mut columns = Vec::with_capacity(alloc, ordered.len())?;
+    'members: for (name, json) in ordered.iter() {
+        push_column(alloc, &mut columns, name, json)?;
     }
-    Ok(Row::from_columns(columns))
+    Ok(Row::from_columns(Items::from_vec(columns)))
 }
 
 // Adds the column that a member is.
 fn push_column(
     alloc: Global,
-    columns: &mut Items<Column>,
+    columns: &mut Vec<Column>,
     name: &str,
-    json: &Json,
+    json: &Borrowed<'_>,
 ) -> Result<(), ChangeFault>
-    ensures { Adds columns.old columns.new result (column_of name.now (view json.now)) }
+    ensures { Adds columns.old.items columns.new.items result (column_of name.now (seen json.now)) }
 {
     if name == "id" {
         return Ok(());
@@ -121,10 +128,33 @@ fn push_column(
     Ok(())
 }
 
-fn read_value(alloc: Global, json: &Json) -> Result<Value, ChangeFault>
-    ensures { Reads result (value_in (view json.now)) }
+fn read_value(alloc: Global, json: &Borrowed<'_>) -> Result<Value, ChangeFault>
+    ensures { Reads result (value_in (seen json.now)) }
 {
-    match value_of_json(alloc, json) {
+    match json {
+        Borrowed::Null => Ok(Value::Null),
+        Borrowed::Bool(truth) => Ok(Value::Int(i64::from(*truth))),
+        Borrowed::Number(text) => read_number(text),
+        Borrowed::String(text) => Ok(Value::Text(Text::from_str(alloc, text)?)),
+        Borrowed::Array(_) | Borrowed::Object(_) => read_nested(alloc, json),
+    }
+}
+
+fn read_number(text: &str) -> Result<Value, ChangeFault>
+    ensures { Reads result (value_in (number (number_data text.now))) }
+{
+    match number_in(text).as_i64() {
+        Some(number) => Ok(Value::Int(number)),
+        None => Err(ChangeFault::BadValue),
+    }
+}
+
+// An array or an object, which is the text of its compact JSON.
+fn read_nested(alloc: Global, json: &Borrowed<'_>) -> Result<Value, ChangeFault>
+    ensures { Reads result (value_in (seen json.now)) }
+{
+    let json = owned(alloc, json)?;
+    match value_of_json(alloc, &json) {
         Ok(value) => Ok(value),
         Err(ValueFault::NotWhole) => Err(ChangeFault::BadValue),
         Err(ValueFault::TooBig) => Err(ChangeFault::BadValue),

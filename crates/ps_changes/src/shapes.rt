@@ -1,35 +1,37 @@
 //! The shapes of changes and transactions: which members are there, and of which kind.
 
 ghost use Rattle.std.specs.Prelude.{◌≡◌, Some};
-ghost use Rattle.serde_json.specs.View.{view, items_view};
+ghost use Rattle.json.specs.Value.{items_view};
+ghost use Rattle.ps_changes.specs.Borrowed.{seen, items_in};
 ghost use Rattle.ps_changes.specs.Shapes.{has_text as text_is_there, has_object as object_is_there, has_filled_text as filled_text_is_there, is_op as is_op_shape, is_change as is_change_shape, are_changes as are_changes_shape, has_changes as changes_are_there, is_transaction as is_transaction_shape};
 
-use serde_json::Value as Json;
+use crate::borrowed::{as_list, as_members, as_text, member};
+use json::Value as Borrowed;
 
-fn has_text(json: &Json, name: &str) -> bool
-    ensures { result ≡ text_is_there name.now (view json.now) }
+fn has_text(json: &Borrowed<'_>, name: &str) -> bool
+    ensures { result ≡ text_is_there name.now (seen json.now) }
 {
-    json.get(name).and_then(Json::as_str).is_some()
+    member(json, name).and_then(as_text).is_some()
 }
 
-fn has_object(json: &Json, name: &str) -> bool
-    ensures { result ≡ object_is_there name.now (view json.now) }
+fn has_object(json: &Borrowed<'_>, name: &str) -> bool
+    ensures { result ≡ object_is_there name.now (seen json.now) }
 {
-    json.get(name).and_then(Json::as_object).is_some()
+    member(json, name).and_then(as_members).is_some()
 }
 
-fn has_filled_text(json: &Json, name: &str) -> bool
-    ensures { result ≡ filled_text_is_there name.now (view json.now) }
+fn has_filled_text(json: &Borrowed<'_>, name: &str) -> bool
+    ensures { result ≡ filled_text_is_there name.now (seen json.now) }
 {
-    match json.get(name).and_then(Json::as_str) {
+    match member(json, name).and_then(as_text) {
         Some(text) => !text.is_empty(),
         None => false,
     }
 }
 
 // Whether a change has what its operation needs besides.
-fn is_op(op: &str, json: &Json) -> bool
-    ensures { result ≡ is_op_shape (Some op.now) (view json.now) }
+fn is_op(op: &str, json: &Borrowed<'_>) -> bool
+    ensures { result ≡ is_op_shape (Some op.now) (seen json.now) }
 {
     if op == "PUT" {
         return has_object(json, "row");
@@ -37,21 +39,21 @@ fn is_op(op: &str, json: &Json) -> bool
     op == "DELETE"
 }
 
-pub fn is_change(json: &Json) -> bool
-    ensures { result ≡ is_change_shape (view json.now) }
+pub fn is_change(json: &Borrowed<'_>) -> bool
+    ensures { result ≡ is_change_shape (seen json.now) }
 {
     let named = has_filled_text(json, "table") && has_text(json, "id");
     if !named {
         return false;
     }
-    match json.get("op").and_then(Json::as_str) {
+    match member(json, "op").and_then(as_text) {
         Some(op) => is_op(op, json),
         None => false,
     }
 }
 
-fn are_changes(list: &[Json]) -> bool
-    ensures { result ≡ are_changes_shape (items_view list.now) }
+fn are_changes(list: &[Borrowed<'_>]) -> bool
+    ensures { result ≡ are_changes_shape (items_in (items_view list.now)) }
 {
     'changes: for json in list {
         if !is_change(json) {
@@ -61,17 +63,17 @@ fn are_changes(list: &[Json]) -> bool
     true
 }
 
-pub fn has_changes(json: &Json) -> bool
-    ensures { result ≡ changes_are_there (view json.now) }
+pub fn has_changes(json: &Borrowed<'_>) -> bool
+    ensures { result ≡ changes_are_there (seen json.now) }
 {
-    match json.get("changes").and_then(Json::as_array) {
+    match member(json, "changes").and_then(as_list) {
         Some(list) => are_changes(list.as_slice()),
         None => false,
     }
 }
 
-pub fn is_transaction(json: &Json) -> bool
-    ensures { result ≡ is_transaction_shape (view json.now) }
+pub fn is_transaction(json: &Borrowed<'_>) -> bool
+    ensures { result ≡ is_transaction_shape (seen json.now) }
 {
     has_text(json, "pos") && has_changes(json)
 }

@@ -1,8 +1,9 @@
-use Rattle.std.proofs.Common.{◌≡◌, ◌++◌, ap, ◌∙◌, string_bytes, Ok}
+use Rattle.std.proofs.Common.{◌≡◌, ◌++◌, ap, ◌∙◌, Ok}
 use Rattle.std.proofs.lemmas.List.{append-nil}
-use Rattle.serde_json.specs.View.{view, members_view}
 use Rattle.ps_changes.specs.Members.{◌>>=◌}
-use Rattle.ps_changes.specs.Lines.{columns_of, column_of}
+use Rattle.ps_changes.specs.Borrowed.{seen, entries_seen}
+use Rattle.ps_changes.specs.Rows.{is_row}
+use Rattle.ps_changes.specs.Lines.{columns_of}
 use Rattle.ps_changes.proofs.Columns.{member_more, in_order}
 use Rattle.ps_changes.proofs.readers.read_columns.Goals as goal
 
@@ -10,11 +11,10 @@ pub members-preserved : goal.members-preserved
 members-preserved c =
     let steps = c.in-Some.ensures.steps in
     let added = c.in_ok-push_column.ensures in
-    let is : column_of (string_bytes c.in-Some.name.now) (view c.in-Some.json.now) ≡ Ok added.0 = rw c.as_str.ensures.value at added.1 in
-    let left = c.members.invariant.2 ∙ ap (λ es. columns_of (members_view es) >>= λ rest. Ok (c.members.columns ++ rest)) steps in
-    (tt, tt, member_more _ c.members.columns _ added.0 (string_bytes c.in-Some.name.now) (view c.in-Some.json.now) (members_view c.next.new.self) left is added.2)
+    let left = c.members.invariant.2 ∙ ap (λ es. columns_of (entries_seen es) >>= λ rest. Ok (c.members.columns.items ++ rest)) steps in
+    (tt, tt, member_more _ c.members.columns.items _ added.0 c.in-Some.name.now.now (seen c.in-Some.json.now.now) (entries_seen c.next.new.self) left added.1 added.2)
 
 pub from_columns-requires : goal.from_columns-requires
 from_columns-requires c =
-    let all = c.members.invariant.2 ∙ ap (λ es. columns_of (members_view es) >>= λ rest. Ok (c.members.columns ++ rest)) c.in-None.ensures.steps.0 in
-    in_order c.args.object.now.entries c.members.columns c.iter-name-items.ensures.ordered (all ∙ ap Ok (append-nil c.members.columns))
+    let all = c.members.invariant.2 ∙ ap (λ es. columns_of (entries_seen es) >>= λ rest. Ok (c.members.columns.items ++ rest)) c.in-None.ensures.steps.0 in
+    ap is_row c.from_vec.ensures ∙ in_order c.in_ok-ordered.ordered.entries c.members.columns.items c.iter-name-items.ensures.ordered (ap columns_of c.in_ok-ordered.ensures ∙ all ∙ ap Ok (append-nil c.members.columns.items))
