@@ -1,5 +1,5 @@
 -- Borrowed JSON is read as the same text is without borrowing.
-use Rattle.std.proofs.Common.{◌≡◌, ℕ, Bool, true, false, List, [], ◌∷◌, ◌++◌, ◌+◌, ◌<◌, length, get_or, drop, take, Option, Some, None, option_map, option_and_then, is_some, unwrap_or, map, cond, bytes_eq, nat_cmp, Ordering, Less, Equal, Greater, Bor, true≢false, refl, sym, ap, ◌∙◌, subst}
+use Rattle.std.proofs.Common.{◌≡◌, ℕ, Bool, true, false, List, [], ◌∷◌, Option, Some, None, option_map, option_and_then, is_some, unwrap_or, map, cond, bytes_eq, nat_cmp, Ordering, Less, Equal, Greater, Bor, true≢false, refl, sym, ap, ◌∙◌, subst}
 use Rattle.std.specs.Prelude.{◌&&◌}
 use Rattle.std.specs.Ordering.{match_ordering}
 use Rattle.std.specs.BTreeMap.{insert_entry}
@@ -17,13 +17,13 @@ use Rattle.json.specs.Find as json_find
 use Rattle.json.specs.Find.{later_or}
 use Rattle.json.specs.Value.{value_view, items_view}
 use Rattle.json.specs.declared.value.Value.{Value as Borrowed}
-use Rattle.serde_json.specs.Data.{Num, unsigned, Data, null, boolean, number, string, array, object, Items, no_items, item, Members, no_members, member, put}
-use Rattle.serde_json.specs.Find.{get, get_member, as_str, as_array, as_object}
+use Rattle.serde_json.specs.Data.{Num, unsigned, Data, number, array, object, Items, item, Members, no_members, put}
+use Rattle.serde_json.specs.Find.{get, get_member}
 use Rattle.serde_json.specs.Read.{number_of, of_json, of_items, of_members, max_depth, read}
 use Rattle.serde_json.specs.View.{items_of}
 use Rattle.serde_json.proofs.Views.{get_member-put, get_member-put_other}
 use Rattle.ps_values.specs.Documents.{json_of}
-use Rattle.ps_changes.specs.Borrowed.{number_in, fits, items_fit, members_fit, data_in, items_in, members_in, seen, entries_seen}
+use Rattle.ps_changes.specs.Borrowed.{fits, items_fit, members_fit, data_in, items_in, members_in, seen, entries_seen}
 
 -- ---- the data of a text
 

@@ -1,6 +1,5 @@
 //! JSON as changes and transactions.
 
-ghost use Rattle.std.specs.Prelude.{◌≡◌, codes, string_bytes};
 ghost use Rattle.json.specs.Value.{items_view, members_view};
 ghost use Rattle.serde_json.specs.Data.{number, no_members};
 ghost use Rattle.ps_changes.specs.Members.{Reads, Adds};

@@ -1,5 +1,5 @@
 use Rattle.std.proofs.Common.{◌≡◌, drop, take, map}
-use Rattle.json.specs.Value.{items_view, members_view}
+use Rattle.json.specs.Value.{members_view}
 use Rattle.serde_json.specs.Data.{no_members}
 use Rattle.serde_json.specs.View.{view, members_view as owned_view}
 use Rattle.ps_changes.specs.Borrowed.{seen, members_in}

@@ -1,7 +1,6 @@
-use Rattle.std.proofs.Common.{◌≡◌, ◌+◌, ◌∷◌, drop, sym, ap, ap₂, ◌∙◌, arith}
+use Rattle.std.proofs.Common.{◌≡◌, ◌+◌, ◌∷◌, drop, sym, ap, ◌∙◌, arith}
 use Rattle.std.proofs.lemmas.List.{drop_more}
 use Rattle.json.specs.Value.{members_view}
-use Rattle.serde_json.specs.Data.{no_members}
 use Rattle.ps_changes.specs.Borrowed.{members_in, entries_seen}
 use Rattle.ps_changes.proofs.Borrowing.{entries_more}
 use Rattle.ps_changes.proofs.borrowed.in_order.Goals as goal

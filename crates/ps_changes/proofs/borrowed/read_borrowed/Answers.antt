@@ -1,4 +1,4 @@
-use Rattle.std.proofs.Common.{◌≡◌, [], ◌∷◌, Some, None, cond, sym, ap, ◌∙◌}
+use Rattle.std.proofs.Common.{Some, None, cond, sym, ap, ◌∙◌}
 use Rattle.json.specs.Json.{value}
 use Rattle.json.specs.Lex.{tokens}
 use Rattle.json.specs.Value.{value_view}
