@@ -1,6 +1,6 @@
 -- What can be made leaves what is sound.
 use Rattle.std.proofs.Common.{◌≡◌, ◌≢◌, ℕ, ◌≤◌, Bool, true, false, cond, List, [], ◌∷◌, Option, Some, None, sym, ap, subst, ◌∙◌, arith}
-use Rattle.std.specs.Prelude.{fold, bytes_eq, IfSome, unwrap_or, ◌++◌}
+use Rattle.std.specs.Prelude.{fold, map, bytes_eq, IfSome, unwrap_or, ◌++◌}
 use Rattle.std.specs.Option.{option_map}
 use Rattle.std.proofs.lemmas.List.{append-nil}
 use Rattle.std.proofs.lemmas.List.Elements.{All-push, All-drop}
@@ -15,12 +15,14 @@ use Rattle.ps_bucket_log.specs.Buckets.{Bucket, after, fresh, held_after, bucket
 use Rattle.ps_bucket_log.specs.Logs.{IsRising}
 use Rattle.ps_client_log.specs.declared.edits.Edit.{Edit}
 use Rattle.ps_client_log.specs.declared.edits.Edit.TheVariants.{Take, Delete, Push, Pop, Aim, Show}
-use Rattle.std.specs.List.{IsDistinct}
+use Rattle.std.specs.List.{All, IsDistinct}
 use Rattle.ps_client_log.specs.declared.holdings.Holdings.{Holdings}
+use Rattle.ps_client_log.specs.declared.states.State.{State}
+use Rattle.ps_client_log.specs.declared.states.BucketState.{BucketState}
 use Rattle.ps_client_log.specs.Rooms.{kept_by}
 use Rattle.ps_client_log.specs.Logs.{IsHeld}
-use Rattle.ps_client_log.specs.Kept.{Kept, bucket_at, nothing_kept}
-use Rattle.ps_client_log.specs.Soundness.{greatest, same_row, IsSound, IsSoundBucket}
+use Rattle.ps_client_log.specs.Kept.{Kept, bucket_at, kept_of, nothing_kept}
+use Rattle.ps_client_log.specs.Soundness.{greatest, same_row, IsSound, IsSoundBucket, IsSoundState}
 use Rattle.ps_client_log.specs.Edits.{CanTake, CanMake, CanMakeAll, with_bucket, with_taken, with_edit, with_edits}
 use Rattle.ps_client_log.specs.Keeping.{Tells}
 
@@ -130,11 +132,22 @@ pub image_taken : (name : List ℕ) (ops before : List Op) (old new : Kept) → 
 image_taken name ops before old new is image = ap (λ kept. bucket_at kept name) is ∙ with_taken-image name ops before old image
 
 -- nothing is sound
+pub nothing_sound : IsSound nothing_kept
+nothing_sound = record { buckets = λ name. tt; queue = λ k d within. absurd (omega arith); target = tt }
+
 pub nothing_held : (holdings : Holdings) → kept_by holdings ≡ nothing_kept → holdings.shown ≡ [] → IsHeld holdings
 unfolding IsDistinct
-nothing_held holdings kept shown =
-    let sound : IsSound nothing_kept = record { buckets = λ name. tt; queue = λ k d within. absurd (omega arith); target = tt } in
-    record {
-      sound = subst IsSound (sym kept) sound;
-      shown = subst (IsDistinct same_row) (sym shown) tt;
-    }
+nothing_held holdings kept shown = record {
+  sound = subst IsSound (sym kept) nothing_sound;
+  shown = subst (IsDistinct same_row) (sym shown) tt;
+}
+
+-- a state that lists nothing is sound
+pub nothing_listed : (state : State) → kept_of state ≡ nothing_kept → state.buckets ≡ [] → state.shown ≡ [] → IsSoundState state
+unfolding IsDistinct
+nothing_listed state kept buckets shown = record {
+  kept = subst IsSound (sym kept) nothing_sound;
+  names = subst (λ (all : List BucketState). IsDistinct bytes_eq (map (λ bucket. bucket.name) all)) (sym buckets) tt;
+  keys = subst (All (λ (bucket : BucketState). IsDistinct same_key (map (λ held. held.key) bucket.held))) (sym buckets) (λ k d within. absurd (omega arith));
+  shown = subst (IsDistinct same_row) (sym shown) tt;
+}

@@ -7,7 +7,7 @@ ghost use Rattle.std.specs.Ordering.{nat_cmp};
 ghost use Rattle.ps_changes.specs.Source.{Key as Object};
 ghost use Rattle.ps_bucket_log.specs.declared.ops.Op.{Op as Operation};
 ghost use Rattle.ps_bucket_log.specs.Buckets.{bucket_of};
-ghost use Rattle.ps_client_log.specs.Kept.{bucket_at, shown_in};
+ghost use Rattle.ps_client_log.specs.Kept.{bucket_at, nothing_kept, shown_in};
 ghost use Rattle.ps_client_log.specs.Soundness.{IsSound, same_row};
 ghost use Rattle.ps_client_log.specs.Edits.{CanTake, CanMakeAll, with_bucket, with_taken, with_edits};
 ghost use Rattle.ps_client_log.specs.Keeping.{RoseAt, RoseWhereFailed, Tells};
@@ -65,6 +65,19 @@ impl<K: Keeper> ClientLog<K> {
                 Err(Memory) => Err((keeper, KeepFault::Memory)),
             },
             Err(fault) => Err((keeper, fault)),
+        }
+    }
+
+    /// Holds nothing, and takes no memory for it. The keeper does not tell what it keeps, and nothing is loaded.
+    pub fn begin(alloc: Global, keeper: K) -> ClientLog<K>
+        requires { K.held keeper ≡ None }
+        ensures kept { kept result ≡ nothing_kept }
+        ensures sound { IsSound (kept result) }
+        ensures keeper { keeper_of result ≡ keeper }
+    {
+        ClientLog {
+            keeper,
+            holdings: Holdings::new(alloc),
         }
     }
 

@@ -16,6 +16,7 @@ mod rows;
 mod saving;
 mod slots;
 mod states;
+mod volatile;
 
 pub use client_logs::ClientLog;
 pub use edits::Edit;
@@ -25,3 +26,4 @@ pub use laws::edits_leave_what_is_sound;
 pub use memory::{MemoryKeeper, SureKeeper};
 pub use ps_changes::Shown;
 pub use states::{BucketState, Held, State, Target};
+pub use volatile::VolatileKeeper;
