@@ -1,7 +1,7 @@
 -- The copies that are seen are those that are held.
 use Rattle.std.proofs.Common.{◌≡◌, ℕ, Bool, true, false, cond, ◌&&◌, ◌||◌, List, [], ◌∷◌, ◌++◌, map, Option, Some, None, Ordering, Less, Equal, Greater, refl, sym, ap, subst, ◌∙◌}
 use Rattle.std.specs.Prelude.{IfSome, IsSome, is_some, bytes_eq, option_map, option_and_then, unwrap_or}
-use Rattle.std.specs.BTreeMap.{BTreeMap, get, is_at}
+use Rattle.std.specs.BTreeMap.{BTreeMap, is_at}
 use Rattle.std.specs.BTreeSet.{BTreeSet, contains}
 use Rattle.std.specs.Cmp.{IsEquivalence}
 use Rattle.std.specs.Cmp.Lexicographic.{slice_cmp, nat_list_eq_equiv, texts_ties}
@@ -30,7 +30,8 @@ use Rattle.ps_client_log.specs.Kept.{Kept, bucket_at}
 use Rattle.ps_client_log.specs.Rooms.{kept_by}
 use Rattle.ps_client_log.specs.Rows.{HeldCopy, Holds, object_of, place_of, IsLatestContent, by_object, AreInOrder, row_at}
 use Rattle.ps_client_log.specs.Soundness.{same_row}
-use Rattle.ps_client_log.specs.Seeing.{copy_of, copies_in, copies_at, copies_of, HoldsKeysOnce, note_of, all_seen, is_there}
+use Rattle.ps_client_log.specs.Seeing.{copy_of, copies_in, copies_at, copies_of, HoldsKeysOnce, Note, note_of, all_seen, is_there}
+use Rattle.ps_client_log.specs.Lending.{LentObject, object_at, lent_cmp, note_at, noted, row_noted}
 use Rattle.ps_client_log.proofs.Keys.{key_eq-same, key_eq-same_key, same_key-true}
 use Rattle.ps_client_log.proofs.Latest.{Reaches, reaches_each, kept_all}
 
@@ -161,13 +162,13 @@ module _ (holdings : Holdings) (distinct : IsDistinct bytes_eq (keys_of holdings
   abbrev kept : Kept
   kept = kept_by holdings
 
-  abbrev noted : Object → Option Latest
-  noted object = all_seen object None (copies_of holdings.buckets.slots.entries)
+  abbrev note : Object → Option Note
+  note object = all_seen object None (copies_of holdings.buckets.slots.entries)
 
   all_held : AllByRecursion (Holds kept) (copies_of holdings.buckets.slots.entries)
   all_held = held_of holdings holdings.buckets.slots.entries (found_each nat_list_eq_equiv holdings.buckets.slots.entries distinct) once
 
-  abbrev IsNoteOf : Object → Latest → Type 0
+  abbrev IsNoteOf : Object → Note → Type 0
   IsNoteOf object latest = (copy : HeldCopy) × Holds kept copy × (object_of copy ≡ object) × (note_of copy ≡ latest)
 
   same_object : (a b : Object) → eq_by_cmp key_cmp a b ≡ true → a ≡ b
@@ -178,7 +179,7 @@ module _ (holdings : Holdings) (distinct : IsDistinct bytes_eq (keys_of holdings
       equal Equal h = refl
       equal Greater h = cc
 
-  noted_held : (object : Object) → IfSome (noted object) (IsNoteOf object)
+  noted_held : (object : Object) → IfSome (note object) (IsNoteOf object)
   noted_held object = kept_all object (IsNoteOf object) None (copies_of holdings.buckets.slots.entries) tt
       (weaker_all (Holds kept) (λ copy. eq_by_cmp key_cmp (object_of copy) object ≡ true → IsNoteOf object (note_of copy))
       (λ copy held same. (copy, held, same_object (object_of copy) object same, refl)) (copies_of holdings.buckets.slots.entries) all_held)
@@ -186,56 +187,55 @@ module _ (holdings : Holdings) (distinct : IsDistinct bytes_eq (keys_of holdings
   tests_same : (a b : Object) → a ≡ b → eq_by_cmp key_cmp a b ≡ true
   tests_same a b is = ap is_eq (ap (key_cmp a) (sym is) ∙ tied_itself keys_total a)
 
-  pub noted_reaches : (object : Object) (copy : HeldCopy) → Holds kept copy → object_of copy ≡ object → Reaches (noted object) (place_of copy)
+  pub noted_reaches : (object : Object) (copy : HeldCopy) → Holds kept copy → object_of copy ≡ object → Reaches (note object) (place_of copy)
   noted_reaches object copy held is =
-      in_copies (λ one. eq_by_cmp key_cmp (object_of one) object ≡ true → Reaches (noted object) (place_of one)) holdings
+      in_copies (λ one. eq_by_cmp key_cmp (object_of one) object ≡ true → Reaches (note object) (place_of one)) holdings
       (reaches_each object None (copies_of holdings.buckets.slots.entries)) copy held (tests_same (object_of copy) object is)
 
-  pub noted_latest : (object : Object) → IfSome (option_map (λ (l : Latest). l.content) (noted object)) (IsLatestContent kept object)
-  noted_latest object = by (noted object) (noted_held object) (noted_reaches object)
+  pub noted_latest : (object : Object) → IfSome (option_map (λ (l : Note). l.content) (note object)) (IsLatestContent kept object)
+  noted_latest object = by (note object) (noted_held object) (noted_reaches object)
     where
-      by : (o : Option Latest) → IfSome o (IsNoteOf object) → ((copy : HeldCopy) → Holds kept copy → object_of copy ≡ object → Reaches o (place_of copy))
-          → IfSome (option_map (λ (l : Latest). l.content) o) (IsLatestContent kept object)
+      by : (o : Option Note) → IfSome o (IsNoteOf object) → ((copy : HeldCopy) → Holds kept copy → object_of copy ≡ object → Reaches o (place_of copy))
+          → IfSome (option_map (λ (l : Note). l.content) o) (IsLatestContent kept object)
       by None note reaches = tt
       by (Some latest) note reaches = (
         note.0,
         record {
           held = note.1;
-          latest = λ other held same. subst (λ (l : Latest). Reaches (Some l) (place_of other)) (sym note.3) (reaches other held (same ∙ note.2));
+          latest = λ other held same. subst (λ (l : Note). Reaches (Some l) (place_of other)) (sym note.3) (reaches other held (same ∙ note.2));
         },
         note.2,
-        ap (λ (l : Latest). l.content) note.3,
+        ap (λ (l : Note). l.content) note.3,
       )
 
-  pub noted_all : (copy : HeldCopy) → Holds kept copy → IsSome (option_map (λ (l : Latest). l.content) (noted (object_of copy)))
-  noted_all copy held = by (noted (object_of copy)) (noted_reaches (object_of copy) copy held refl)
+  pub noted_all : (copy : HeldCopy) → Holds kept copy → IsSome (option_map (λ (l : Note). l.content) (note (object_of copy)))
+  noted_all copy held = by (note (object_of copy)) (noted_reaches (object_of copy) copy held refl)
     where
-      by : (o : Option Latest) → Reaches o (place_of copy) → IsSome (option_map (λ (l : Latest). l.content) o)
+      by : (o : Option Note) → Reaches o (place_of copy) → IsSome (option_map (λ (l : Note). l.content) o)
       by None reaches = absurd reaches
       by (Some latest) reaches = refl
 
 -- ---- rows of entries
 
-abbrev pub row_of : Object × Latest → Object × List ℕ
-row_of pair = (pair.0, pair.1.content)
-
-pub find_rows : (object : Object) (es : List (Object × Latest)) → find key_cmp object (map row_of es) ≡ option_map (λ (l : Latest). l.content) (lookup (is_at (key_cmp object)) es)
+pub find_rows : (object : Object) (es : List (LentObject × Latest))
+    → find key_cmp object (map row_noted es) ≡ option_map (λ (l : Note). l.content) (option_map note_at (lookup (is_at (λ lent. key_cmp object (object_at lent))) es))
 find_rows object [] = refl
-find_rows object (e ∷ es) = by (eq_by_cmp key_cmp object e.0) (find_rows object es)
+find_rows object (e ∷ es) = by (eq_by_cmp key_cmp object (object_at e.0)) (lookup (is_at (λ lent. key_cmp object (object_at lent))) es) (find_rows object es)
   where
-    by : (b : Bool) → find key_cmp object (map row_of es) ≡ option_map (λ (l : Latest). l.content) (lookup (is_at (key_cmp object)) es)
-        → cond b (Some e.1.content) (find key_cmp object (map row_of es)) ≡ option_map (λ (l : Latest). l.content) (cond b (Some e.1) (lookup (is_at (key_cmp object)) es))
-    by true behind = refl
-    by false behind = behind
+    by : (b : Bool) (found : Option Latest) → find key_cmp object (map row_noted es) ≡ option_map (λ (l : Note). l.content) (option_map note_at found)
+        → cond b (Some (note_at e.1).content) (find key_cmp object (map row_noted es)) ≡ option_map (λ (l : Note). l.content) (option_map note_at (cond b (Some e.1) found))
+    by true found behind = refl
+    by false found behind = behind
 
-below_rows : (object : Object) (es : List (Object × Latest)) → AllByRecursion (λ k. key_cmp object k ≡ Less) (keys_of es) → below_all key_cmp object (map row_of es) ≡ true
+below_rows : (object : LentObject) (es : List (LentObject × Latest)) → AllByRecursion (λ k. lent_cmp object k ≡ Less) (keys_of es)
+    → below_all key_cmp (object_at object) (map row_noted es) ≡ true
 below_rows object [] below = refl
-below_rows object (e ∷ es) below = ap (λ o. is_lt o && below_all key_cmp object (map row_of es)) below.0 ∙ below_rows object es below.1
+below_rows object (e ∷ es) below = ap (λ o. is_lt o && below_all key_cmp (object_at object) (map row_noted es)) below.0 ∙ below_rows object es below.1
 
-pub sorted_rows : (es : List (Object × Latest)) → IsStrictlySortedBy key_cmp (keys_of es) → is_sorted key_cmp (map row_of es) ≡ true
+pub sorted_rows : (es : List (LentObject × Latest)) → IsStrictlySortedBy lent_cmp (keys_of es) → is_sorted key_cmp (map row_noted es) ≡ true
 unfolding IsStrictlySortedBy
 sorted_rows [] sorted = refl
-sorted_rows (e ∷ es) sorted = ap (λ b. b && is_sorted key_cmp (map row_of es)) (below_rows e.0 es sorted.0) ∙ sorted_rows es sorted.1
+sorted_rows (e ∷ es) sorted = ap (λ b. b && is_sorted key_cmp (map row_noted es)) (below_rows e.0 es sorted.0) ∙ sorted_rows es sorted.1
 
 -- ---- names
 
@@ -285,18 +285,18 @@ any_name name (one ∷ names) = λ i. texts_ties name one i || any_name name nam
 -- ---- the rows that are listed
 
 module _ (holdings : Holdings) (distinct : IsDistinct bytes_eq (keys_of holdings.buckets.slots.entries)) (once : AllByRecursion HoldsKeysOnce holdings.buckets.slots.entries)
-    (latest : BTreeMap Object Latest) (seen_all : (object : Object) → get key_cmp latest object ≡ all_seen object None (copies_of holdings.buckets.slots.entries))
-    (rows : List Shown) (listed : by_object rows ≡ map row_of latest.entries) where
-  row_noted : (object : Object) → row_at object rows ≡ option_map (λ (l : Latest). l.content) (all_seen object None (copies_of holdings.buckets.slots.entries))
-  row_noted object = ap (find key_cmp object) listed ∙ find_rows object latest.entries ∙ ap (option_map (λ (l : Latest). l.content)) (seen_all object)
+    (latest : BTreeMap LentObject Latest) (seen_all : (object : Object) → noted latest object ≡ all_seen object None (copies_of holdings.buckets.slots.entries))
+    (rows : List Shown) (listed : by_object rows ≡ map row_noted latest.entries) where
+  row_found : (object : Object) → row_at object rows ≡ option_map (λ (l : Note). l.content) (all_seen object None (copies_of holdings.buckets.slots.entries))
+  row_found object = ap (find key_cmp object) listed ∙ find_rows object latest.entries ∙ ap (option_map (λ (l : Note). l.content)) (seen_all object)
 
   pub rows_latest : (object : Object) → IfSome (row_at object rows) (IsLatestContent (kept_by holdings) object)
-  rows_latest object = subst (λ (o : Option (List ℕ)). IfSome o (IsLatestContent (kept_by holdings) object)) (sym (row_noted object)) (noted_latest holdings distinct once object)
+  rows_latest object = subst (λ (o : Option (List ℕ)). IfSome o (IsLatestContent (kept_by holdings) object)) (sym (row_found object)) (noted_latest holdings distinct once object)
 
   pub rows_all : (copy : HeldCopy) → Holds (kept_by holdings) copy → IsSome (row_at (object_of copy) rows)
-  rows_all copy held = subst (λ (o : Option (List ℕ)). IsSome o) (sym (row_noted (object_of copy))) (noted_all holdings distinct once copy held)
+  rows_all copy held = subst (λ (o : Option (List ℕ)). IsSome o) (sym (row_found (object_of copy))) (noted_all holdings distinct once copy held)
 
-pub rows_in_order : (es : List (Object × Latest)) (rows : List Shown) → by_object rows ≡ map row_of es → IsStrictlySortedBy key_cmp (keys_of es) → AreInOrder rows
+pub rows_in_order : (es : List (LentObject × Latest)) (rows : List Shown) → by_object rows ≡ map row_noted es → IsStrictlySortedBy lent_cmp (keys_of es) → AreInOrder rows
 rows_in_order es rows listed sorted = ap (is_sorted key_cmp) listed ∙ sorted_rows es sorted
 
 -- of rows that rise, none has the kind and the id of another

@@ -10,9 +10,8 @@ use Rattle.std.proofs.lemmas.Cmp.{upto, tied_itself, then_total, on_total, nat_c
 use Rattle.std.proofs.lemmas.List.Sums.{fold-append}
 use Rattle.ps_changes.specs.Source.{Key as Object, key_cmp}
 use Rattle.ps_changes.proofs.Sources.{keys_exact}
-use Rattle.ps_client_log.specs.declared.rows.Latest.{Latest}
 use Rattle.ps_client_log.specs.Rows.{HeldCopy, Place, object_of, place_of, place_cmp}
-use Rattle.ps_client_log.specs.Seeing.{note_of, noted_place, is_past, seen, all_seen}
+use Rattle.ps_client_log.specs.Seeing.{Note, note_of, noted_place, is_past, seen, all_seen}
 
 -- ---- the order of places
 
@@ -46,7 +45,7 @@ equal Greater h = cc
 
 -- ---- what is noted is no earlier than any copy that was seen
 
-abbrev pub Reaches : Option Latest → Place → Type 0
+abbrev pub Reaches : Option Note → Place → Type 0
 Reaches None place = ⊥
 Reaches (Some known) place = is_le (place_cmp place (noted_place known)) ≡ true
 
@@ -54,7 +53,7 @@ module _ (object : Object) where
   reaches_itself : (copy : HeldCopy) → Reaches (Some (note_of copy)) (place_of copy)
   reaches_itself copy = ap is_le (tied_itself place_total (place_of copy))
 
-  reaches_on : (known : Option Latest) (copy : HeldCopy) (place : Place) → Reaches known place → Reaches (seen object known copy) place
+  reaches_on : (known : Option Note) (copy : HeldCopy) (place : Place) → Reaches known place → Reaches (seen object known copy) place
   reaches_on None copy place h = absurd h
   reaches_on (Some known) copy place h = by (eq_by_cmp key_cmp (object_of copy) object) (is_lt (place_cmp (noted_place known) (place_of copy))) refl
     where
@@ -63,11 +62,11 @@ module _ (object : Object) where
       by true false past = h
       by false b past = h
 
-  reaches_all : (known : Option Latest) (copies : List HeldCopy) (place : Place) → Reaches known place → Reaches (all_seen object known copies) place
+  reaches_all : (known : Option Note) (copies : List HeldCopy) (place : Place) → Reaches known place → Reaches (all_seen object known copies) place
   reaches_all known [] place h = h
   reaches_all known (copy ∷ copies) place h = reaches_all (seen object known copy) copies place (reaches_on known copy place h)
 
-  reaches_new : (known : Option Latest) (copy : HeldCopy) → eq_by_cmp key_cmp (object_of copy) object ≡ true → Reaches (seen object known copy) (place_of copy)
+  reaches_new : (known : Option Note) (copy : HeldCopy) → eq_by_cmp key_cmp (object_of copy) object ≡ true → Reaches (seen object known copy) (place_of copy)
   reaches_new None copy same = rw same (reaches_itself copy)
   reaches_new (Some known) copy same = rw same (by (is_lt (place_cmp (noted_place known) (place_of copy))) refl)
     where
@@ -75,7 +74,7 @@ module _ (object : Object) where
       by true past = reaches_itself copy
       by false past = ap is_le (place_total.antisymm (place_of copy) (noted_place known)) ∙ back_upto _ past
 
-  pub reaches_each : (known : Option Latest) (copies : List HeldCopy)
+  pub reaches_each : (known : Option Note) (copies : List HeldCopy)
       → AllByRecursion (λ copy. eq_by_cmp key_cmp (object_of copy) object ≡ true → Reaches (all_seen object known copies) (place_of copy)) copies
   reaches_each known [] = tt
   reaches_each known (copy ∷ copies) =
@@ -83,8 +82,8 @@ module _ (object : Object) where
 
 -- ---- and is one of them
 
-module _ (object : Object) (P : Latest → Type 0) where
-  kept_on : (known : Option Latest) (copy : HeldCopy) → IfSome known P → (eq_by_cmp key_cmp (object_of copy) object ≡ true → P (note_of copy)) → IfSome (seen object known copy) P
+module _ (object : Object) (P : Note → Type 0) where
+  kept_on : (known : Option Note) (copy : HeldCopy) → IfSome known P → (eq_by_cmp key_cmp (object_of copy) object ≡ true → P (note_of copy)) → IfSome (seen object known copy) P
   kept_on known copy before now = by (eq_by_cmp key_cmp (object_of copy) object) (is_past known (place_of copy)) refl
     where
       by : (a b : Bool) → eq_by_cmp key_cmp (object_of copy) object ≡ a → IfSome (cond (a && b) (Some (note_of copy)) known) P
@@ -92,7 +91,7 @@ module _ (object : Object) (P : Latest → Type 0) where
       by true false same = before
       by false b same = before
 
-  pub kept_all : (known : Option Latest) (copies : List HeldCopy) → IfSome known P
+  pub kept_all : (known : Option Note) (copies : List HeldCopy) → IfSome known P
       → AllByRecursion (λ copy. eq_by_cmp key_cmp (object_of copy) object ≡ true → P (note_of copy)) copies → IfSome (all_seen object known copies) P
   kept_all known [] before all = before
   kept_all known (copy ∷ copies) before all = kept_all (seen object known copy) copies (kept_on known copy before all.0) all.1
@@ -100,7 +99,7 @@ module _ (object : Object) (P : Latest → Type 0) where
 -- ---- one copy is seen
 
 -- it is put in its place where it is past what is noted of its object
-pub seen_new : (get_old get_new : Object → Option Latest) (copy : HeldCopy) (own : Object) → own ≡ object_of copy → is_past (get_old own) (place_of copy) ≡ true
+pub seen_new : (get_old get_new : Object → Option Note) (copy : HeldCopy) (own : Object) → own ≡ object_of copy → is_past (get_old own) (place_of copy) ≡ true
     → ((q : Object) → get_new q ≡ cond (is_at (key_cmp own) q) (Some (note_of copy)) (get_old q))
     → (q : Object) → get_new q ≡ seen q (get_old q) copy
 seen_new get_old get_new copy own is past updates q = updates q ∙ by (eq_by_cmp key_cmp own q) refl
@@ -117,7 +116,7 @@ seen_new get_old get_new copy own is past updates q = updates q ∙ by (eq_by_cm
         ∙ sym (ap (λ b. cond (b && is_past (get_old q) (place_of copy)) (Some (note_of copy)) (get_old q)) tested)
 
 -- and changes nothing where it is not
-pub seen_old : (get_old : Object → Option Latest) (copy : HeldCopy) (own : Object) → own ≡ object_of copy → is_past (get_old own) (place_of copy) ≡ false
+pub seen_old : (get_old : Object → Option Note) (copy : HeldCopy) (own : Object) → own ≡ object_of copy → is_past (get_old own) (place_of copy) ≡ false
     → (q : Object) → get_old q ≡ seen q (get_old q) copy
 seen_old get_old copy own is past q = by (eq_by_cmp key_cmp own q) refl
   where
@@ -131,5 +130,5 @@ seen_old get_old copy own is past q = by (eq_by_cmp key_cmp own q) refl
         sym (ap (λ b. cond (b && is_past (get_old q) (place_of copy)) (Some (note_of copy)) (get_old q)) tested)
 
 -- copies of two lists are seen one list after the other
-pub all_seen-append : (object : Object) (known : Option Latest) (xs ys : List HeldCopy) → all_seen object known (xs ++ ys) ≡ all_seen object (all_seen object known xs) ys
+pub all_seen-append : (object : Object) (known : Option Note) (xs ys : List HeldCopy) → all_seen object known (xs ++ ys) ≡ all_seen object (all_seen object known xs) ys
 all_seen-append object known xs ys = fold-append (seen object) known xs ys

@@ -6,4 +6,5 @@ pub mod Telling
 pub mod Listings
 pub mod Sound
 pub mod Latest
+pub mod Lent
 pub mod Copies

@@ -8,6 +8,7 @@ pub mod Saving
 pub mod Logs
 pub mod Rows
 pub mod Seeing
+pub mod Lending
 pub mod Types
 pub mod Laws
 pub mod Queues

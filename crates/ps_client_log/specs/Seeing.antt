@@ -7,7 +7,6 @@ use Rattle.ps_bucket_log.specs.declared.ops.Key.{Key}
 use Rattle.ps_changes.specs.Source.{Key as Object, key_cmp}
 use Rattle.ps_client_log.specs.declared.images.Entry.{Entry}
 use Rattle.ps_client_log.specs.declared.slots.Slot.{Slot}
-use Rattle.ps_client_log.specs.declared.rows.Latest.{Latest}
 use Rattle.ps_client_log.specs.Images.{key_eq, put_at}
 use Rattle.ps_client_log.specs.Rows.{HeldCopy, Place, object_of, place_of, place_cmp, content_of}
 
@@ -29,24 +28,30 @@ copies_of (pair ∷ slots) = copies_at pair.0 pair.1 ++ copies_of slots
 abbrev pub HoldsKeysOnce : List ℕ × Slot → Type 0
 HoldsKeysOnce pair = IsTrue pair.1.there → IsDistinct key_eq (keys_of pair.1.image.held.entries)
 
--- what is noted of a copy, and its place
-abbrev pub note_of : HeldCopy → Latest
-note_of copy = record { id = record { 0 = (place_of copy).0 }; bucket = copy.bucket; subkey = copy.key.subkey; content = content_of copy.put }
+-- what is noted of a copy: where it stands among the copies of its object, and its data
+pub record Note : Type 0 where
+  pub id : ℕ
+  pub bucket : List ℕ
+  pub subkey : List ℕ
+  pub content : List ℕ
 
-abbrev pub noted_place : Latest → Place
-noted_place latest = (latest.id.0, latest.bucket, latest.subkey)
+abbrev pub note_of : HeldCopy → Note
+note_of copy = record { id = (place_of copy).0; bucket = copy.bucket; subkey = copy.key.subkey; content = content_of copy.put }
+
+abbrev pub noted_place : Note → Place
+noted_place note = (note.id, note.bucket, note.subkey)
 
 -- whether a place is past that of what is noted, if anything is
-abbrev pub is_past : Option Latest → Place → Bool
+abbrev pub is_past : Option Note → Place → Bool
 is_past None place = true
 is_past (Some known) place = is_lt (place_cmp (noted_place known) place)
 
 -- what is noted of an object once a copy was seen
-abbrev pub seen : Object → Option Latest → HeldCopy → Option Latest
+abbrev pub seen : Object → Option Note → HeldCopy → Option Note
 seen object known copy = if eq_by_cmp key_cmp (object_of copy) object && is_past known (place_of copy) then Some (note_of copy) else known
 
 -- and once several were
-abbrev pub all_seen : Object → Option Latest → List HeldCopy → Option Latest
+abbrev pub all_seen : Object → Option Note → List HeldCopy → Option Note
 all_seen object known copies = fold (seen object) known copies
 
 -- a bucket of that name is there

@@ -1,19 +1,20 @@
 //! The rows that buckets hold: for each object the data of its latest copy. And the names of the buckets.
 
 ghost use Rattle.std.specs.Prelude.{◌≡◌, ℕ, ◌&&◌, ◌||◌, List, map, IfOk, OnOk, IfSome, IsSome, None, is_some, bytes_eq};
-ghost use Rattle.std.specs.BTreeMap.{get, IsOrdered};
+ghost use Rattle.std.specs.BTreeMap.{IsOrdered};
 ghost use Rattle.std.specs.BTreeSet.{contains};
 ghost use Rattle.std.specs.Cmp.Lexicographic.{slice_cmp};
 ghost use Rattle.std.specs.List.{IsDistinct, AllByRecursion, list_any};
 ghost use Rattle.std.specs.List.Sorted.{IsStrictlySortedBy};
 ghost use Rattle.std.specs.Map.{keys_of};
 ghost use Rattle.std.specs.Ordering.{nat_cmp, is_lt};
-ghost use Rattle.ps_changes.specs.Source.{Key as Object, key_cmp};
+ghost use Rattle.ps_changes.specs.Source.{Key as Object};
 ghost use Rattle.ps_client_log.specs.Images.{key_eq};
 ghost use Rattle.ps_client_log.specs.Rooms.{kept_by};
 ghost use Rattle.ps_client_log.specs.Rows.{HeldCopy, Holds, object_of, place_cmp, IsLatestContent, by_object, AreInOrder, row_at};
 ghost use Rattle.ps_client_log.specs.Soundness.{same_row};
 ghost use Rattle.ps_client_log.specs.Seeing.{copy_of, copies_in, copies_at, copies_of, HoldsKeysOnce, noted_place, is_past, seen, all_seen, is_there};
+ghost use Rattle.ps_client_log.specs.Lending.{object_at, lent_cmp, note_at, noted, row_from, row_noted};
 
 use crate::Shown;
 use crate::buckets::Buckets;
@@ -26,34 +27,33 @@ use ps_values::{Memory, OpId, Text};
 use std::alloc::Global;
 use std::collections::{BTreeMap, BTreeSet};
 
-// What is noted of the latest copy of an object that was seen: where it stands among the copies, and its data.
+// The latest copy of an object that was seen, where the bucket holds it.
 #[derive(Debug, Drop)]
-pub struct Latest {
-    pub id: OpId,
-    pub bucket: Text,
-    pub subkey: Text,
-    pub content: Text,
+pub struct Latest<'a> {
+    pub bucket: &'a Text,
+    pub subkey: &'a Text,
+    pub entry: &'a Entry,
 }
 
-impl Latest {
+impl Latest<'_> {
     // Whether a copy stands past it.
     fn is_before(&self, id: OpId, bucket: &Text, subkey: &Text) -> bool
-        ensures { result ≡ is_lt (place_cmp (noted_place self.now) (id.0, bucket.now, subkey.now)) }
+        ensures { result ≡ is_lt (place_cmp (noted_place (note_at self.now)) (id.0, bucket.now, subkey.now)) }
     {
         let names = self.bucket.cmp(bucket).then(self.subkey.cmp(subkey));
-        self.id.0.cmp(&id.0).then(names).is_lt()
+        self.entry.id.0.cmp(&id.0).then(names).is_lt()
     }
 }
 
 // Whether a copy of an object stands past what is noted of it.
-fn is_news(
-    rows: &BTreeMap<(Text, Text), Latest>,
-    object: &(Text, Text),
+fn is_news<'a>(
+    rows: &BTreeMap<(&'a Text, &'a Text), Latest<'a>>,
+    object: &(&'a Text, &'a Text),
     id: OpId,
     bucket: &Text,
     subkey: &Text,
 ) -> bool
-    ensures { result ≡ is_past (get key_cmp rows.now object.now) (id.0, bucket.now, subkey.now) }
+    ensures { result ≡ is_past (noted rows.now (object_at object.now)) (id.0, bucket.now, subkey.now) }
 {
     match rows.get(object) {
         Some(known) => known.is_before(id, bucket, subkey),
@@ -62,91 +62,96 @@ fn is_news(
 }
 
 // Sees a copy: it is noted where none of its object is, or an earlier one.
-#[tactic(auto, using(crate::proofs::Latest::seen_new, crate::proofs::Latest::seen_old))]
-fn see(
-    rows: &mut BTreeMap<(Text, Text), Latest>,
-    alloc: Global,
-    bucket: &Text,
-    key: &Key,
-    entry: &Entry,
+fn see<'a>(
+    rows: &mut BTreeMap<(&'a Text, &'a Text), Latest<'a>>,
+    bucket: &'a Text,
+    key: &'a Key,
+    entry: &'a Entry,
 ) -> Result<(), Memory>
-    ensures { OnOk result ((object : Object) → get key_cmp rows.new object
-        ≡ seen object (get key_cmp rows.old object) (copy_of bucket.now (key.now, entry.now))) }
+    ensures { OnOk result ((object : Object) → noted rows.new object ≡ seen object (noted rows.old object) (copy_of bucket.now (key.now, entry.now))) }
 {
-    let object = (key.kind.copy(alloc)?, key.id.copy(alloc)?);
-    if !is_news(rows, &object, entry.id, bucket, &key.subkey) {
+    let object = (&key.kind, &key.id);
+    let subkey = &key.subkey;
+    if !is_news(rows, &object, entry.id, bucket, subkey) {
         return Ok(());
     }
     let latest = Latest {
-        id: entry.id,
-        bucket: bucket.copy(alloc)?,
-        subkey: key.subkey.copy(alloc)?,
-        content: entry.content.copy(alloc)?,
+        bucket,
+        subkey,
+        entry,
     };
     rows.insert(object, latest)?;
     Ok(())
 }
 
 // Sees the copies of a bucket.
-fn see_held(
-    rows: &mut BTreeMap<(Text, Text), Latest>,
-    alloc: Global,
-    bucket: &Text,
-    held: &IndexMap<Key, Entry>,
+fn see_held<'a>(
+    rows: &mut BTreeMap<(&'a Text, &'a Text), Latest<'a>>,
+    bucket: &'a Text,
+    held: &'a IndexMap<Key, Entry>,
 ) -> Result<(), Memory>
-    ensures rows { OnOk result ((object : Object) → get key_cmp rows.new object
-        ≡ all_seen object (get key_cmp rows.old object) (copies_in bucket.now held.now.entries)) }
+    ensures rows { OnOk result ((object : Object) → noted rows.new object ≡ all_seen object (noted rows.old object) (copies_in bucket.now held.now.entries)) }
     ensures once { IsDistinct key_eq (keys_of held.now.entries) }
 {
     'copies: for (key, entry) in held.iter() {
-        see(rows, alloc, bucket, key, entry)?;
+        see(rows, bucket, key, entry)?;
     }
     Ok(())
 }
 
 // Sees the copies of a bucket, where it is there.
-fn see_slot(
-    rows: &mut BTreeMap<(Text, Text), Latest>,
-    alloc: Global,
-    bucket: &Text,
-    slot: &Slot,
+fn see_slot<'a>(
+    rows: &mut BTreeMap<(&'a Text, &'a Text), Latest<'a>>,
+    bucket: &'a Text,
+    slot: &'a Slot,
 ) -> Result<(), Memory>
-    ensures rows { OnOk result ((object : Object) → get key_cmp rows.new object
-        ≡ all_seen object (get key_cmp rows.old object) (copies_at bucket.now slot.now)) }
+    ensures rows { OnOk result ((object : Object) → noted rows.new object ≡ all_seen object (noted rows.old object) (copies_at bucket.now slot.now)) }
     ensures once { HoldsKeysOnce (bucket.now, slot.now) }
 {
     if slot.there {
-        return see_held(rows, alloc, bucket, &slot.image.held);
+        return see_held(rows, bucket, &slot.image.held);
     }
     Ok(())
 }
 
-// The latest copy of each object that some bucket holds.
-fn latest_copies(alloc: Global, buckets: &Buckets) -> Result<BTreeMap<(Text, Text), Latest>, Memory>
-    ensures rows { IfOk result (λ rows. (object : Object) → get key_cmp rows object ≡ all_seen object None (copies_of buckets.now.slots.entries)) }
+// The latest copy of each object that some bucket holds, of which nothing is copied.
+fn latest_copies<'a>(
+    alloc: Global,
+    buckets: &'a Buckets,
+) -> Result<BTreeMap<(&'a Text, &'a Text), Latest<'a>>, Memory>
+    ensures rows { IfOk result (λ rows. (object : Object) → noted rows object ≡ all_seen object None (copies_of buckets.now.slots.entries)) }
     ensures once { OnOk result (AllByRecursion HoldsKeysOnce buckets.now.slots.entries) }
     ensures names { IsDistinct bytes_eq (keys_of buckets.now.slots.entries) }
 {
     let mut rows = BTreeMap::new(alloc);
     'slots: for (name, slot) in buckets.slots.iter() {
-        see_slot(&mut rows, alloc, name, slot)?;
+        see_slot(&mut rows, name, slot)?;
     }
     Ok(rows)
 }
 
-// The rows of copies, in order.
-fn rows_of(alloc: Global, latest: BTreeMap<(Text, Text), Latest>) -> Result<Vec<Shown>, Memory>
-    ensures rows { IfOk result (λ rows. by_object rows.items ≡ map (λ pair. (pair.0, pair.1.content)) latest.entries) }
-    ensures ordered { IsOrdered key_cmp latest }
+// A row of copies of its parts.
+fn row_of_parts(alloc: Global, kind: &Text, id: &Text, content: &Text) -> Result<Shown, Memory>
+    ensures { IfOk result (λ row. row ≡ row_from (kind.now, id.now) content.now) }
 {
-    let _count = latest.len();
-    let mut rows = Vec::new(alloc);
+    Ok(Shown {
+        kind: kind.copy(alloc)?,
+        id: id.copy(alloc)?,
+        content: content.copy(alloc)?,
+    })
+}
+
+// The rows of copies, in order.
+fn rows_of<'a>(
+    alloc: Global,
+    latest: BTreeMap<(&'a Text, &'a Text), Latest<'a>>,
+) -> Result<Vec<Shown>, Memory>
+    ensures rows { IfOk result (λ rows. by_object rows.items ≡ map row_noted latest.entry.entries) }
+    ensures ordered { IsOrdered lent_cmp latest.entry }
+{
+    let mut rows = Vec::with_capacity(alloc, latest.len())?;
     'rows: for ((kind, id), copy) in latest {
-        rows.push(Shown {
-            kind,
-            id,
-            content: copy.content,
-        })?;
+        rows.push(row_of_parts(alloc, kind, id, &copy.entry.content)?)?;
     }
     Ok(rows)
 }

@@ -1,7 +1,6 @@
 use Rattle.std.proofs.Common.{◌≡◌, ◌∷◌, sym, ap, subst, ◌∙◌, rules}
-use Rattle.std.specs.BTreeMap.{get}
 use Rattle.std.specs.List.{AllByRecursion}
-use Rattle.ps_changes.specs.Source.{key_cmp}
+use Rattle.ps_client_log.specs.Lending.{noted}
 use Rattle.ps_client_log.specs.Seeing.{copies_at, copies_of, HoldsKeysOnce, all_seen}
 use Rattle.ps_client_log.proofs.Latest.{all_seen-append}
 use Rattle.ps_client_log.proofs.rows.latest_copies.Goals as goal
@@ -14,8 +13,8 @@ slots-preserved c =
     let is : c.slots.name-iterator ≡ (name, slot) ∷ rest = search rules in (
       λ object.
           ap (λ known. all_seen object known (copies_of rest)) (c.in_ok-see_slot.ensures.rows object)
-          ∙ sym (all_seen-append object (get key_cmp c.slots.rows object) (copies_at name slot) (copies_of rest))
-          ∙ ap (λ left. all_seen object (get key_cmp c.slots.rows object) (copies_of left)) (sym is)
+          ∙ sym (all_seen-append object (noted c.slots.rows object) (copies_at name slot) (copies_of rest))
+          ∙ ap (λ left. all_seen object (noted c.slots.rows object) (copies_of left)) (sym is)
           ∙ c.slots.invariant.0 object,
       λ once. c.slots.invariant.1 (subst (AllByRecursion HoldsKeysOnce) (sym is) (c.in_ok-see_slot.ensures.once, once)),
     )
