@@ -44,11 +44,11 @@ pub enum Edit {
 fn ops_copied(alloc: Global, ops: &[Op]) -> Result<Items<Op>, Memory>
     ensures { IfOk result (λ copy. copy ≡ ops.now) }
 {
-    let mut copy = Items::new(alloc);
+    let mut copy = Vec::with_capacity(alloc, ops.len())?;
     'ops: for op in ops {
         copy.push(op.copy(alloc)?)?;
     }
-    Ok(copy)
+    Ok(Items::from_vec(copy))
 }
 
 // An equal row.
@@ -66,11 +66,11 @@ fn row_copied(alloc: Global, row: &Shown) -> Result<Shown, Memory>
 pub(crate) fn rows_copied(alloc: Global, rows: &[Shown]) -> Result<Items<Shown>, Memory>
     ensures { IfOk result (λ copy. copy ≡ rows.now) }
 {
-    let mut copy = Items::new(alloc);
+    let mut copy = Vec::with_capacity(alloc, rows.len())?;
     'rows: for row in rows {
         copy.push(row_copied(alloc, row)?)?;
     }
-    Ok(copy)
+    Ok(Items::from_vec(copy))
 }
 
 impl Edit {
@@ -102,7 +102,7 @@ impl Edit {
 pub(crate) fn edits_copied(alloc: Global, edits: &[Edit]) -> Result<Vec<Edit>, Memory>
     ensures { IfOk result (λ copy. copy.items ≡ edits.now) }
 {
-    let mut copy = Vec::new(alloc);
+    let mut copy = Vec::with_capacity(alloc, edits.len())?;
     'edits: for edit in edits {
         copy.push(edit.copy(alloc)?)?;
     }
