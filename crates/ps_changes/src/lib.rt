@@ -13,7 +13,7 @@ mod writers;
 
 pub use changes::{Change, Transaction};
 pub use faults::ChangeFault;
-pub use lines::{read_change, read_changes, read_line};
+pub use lines::{LineReader, read_change, read_changes, read_line};
 pub use ps_values::Column;
 pub use rows::Row;
 pub use shown::Shown;

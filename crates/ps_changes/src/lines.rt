@@ -16,11 +16,41 @@ use std::alloc::Global;
 // The greatest number of bytes of a line.
 const LONGEST: usize = 16777216;
 
+/// Reads change lines one after another, in room that is kept from line to line.
+#[derive(Drop)]
+pub struct LineReader {
+    room: Scratch,
+}
+
+impl LineReader {
+    /// A reader that has read nothing yet.
+    pub fn new(alloc: Global) -> LineReader {
+        LineReader {
+            room: Scratch::new(alloc),
+        }
+    }
+
+    /// Reads the next line, as `read_line` does.
+    #[tactic(auto, using(crate::proofs::Laws::found_line, crate::proofs::Laws::only_line))]
+    pub fn read_line(&mut self, alloc: Global, bytes: &[u8]) -> Result<Transaction, ChangeFault>
+        // What is read is spelled so.
+        ensures found { IfOk result (λ read. IsLine bytes.now read) }
+        // What is spelled so is read, unless memory runs out.
+        ensures only { (meant : TransactionData) → IsLine bytes.now meant → Reads result (Ok meant) }
+        // Which fault is the first.
+        ensures exact { Reads result (line_of bytes.now) }
+        // A line that is too long is refused before any memory is asked for.
+        ensures long { RefusesLong bytes.now result }
+    {
+        decimals_read_back();
+        line(alloc, bytes, &mut self.room)
+    }
+}
+
 /// Reads a change line, which is one transaction: docs/FORMATS.md, "Change lines". A value that is an array or an object is the text
 /// of its compact JSON.
 /// Fails by the first that applies: `LineTooLong`, `BadJson`, `BadShape`, `BadPosition`, `BadValue`. The whole line's shape is judged
 /// before its position, and that before its values.
-#[tactic(auto, using(crate::proofs::Laws::found_line, crate::proofs::Laws::only_line))]
 pub fn read_line(alloc: Global, bytes: &[u8]) -> Result<Transaction, ChangeFault>
     // What is read is spelled so.
     ensures found { IfOk result (λ read. IsLine bytes.now read) }
@@ -31,8 +61,7 @@ pub fn read_line(alloc: Global, bytes: &[u8]) -> Result<Transaction, ChangeFault
     // A line that is too long is refused before any memory is asked for.
     ensures long { RefusesLong bytes.now result }
 {
-    decimals_read_back();
-    line(alloc, bytes)
+    LineReader::new(alloc).read_line(alloc, bytes)
 }
 
 /// Reads the body of an upload, an object with the list `changes`: docs/FORMATS.md, "Change lines".
@@ -84,12 +113,11 @@ fn json_of_line<'a>(
 }
 
 #[tactic(auto, unfolding(crate::specs::Lines::line_of))]
-fn line(alloc: Global, bytes: &[u8]) -> Result<Transaction, ChangeFault>
+fn line(alloc: Global, bytes: &[u8], room: &mut Scratch) -> Result<Transaction, ChangeFault>
     ensures exact { Reads result (line_of bytes.now) }
     ensures long { RefusesLong bytes.now result }
 {
-    let mut room = Scratch::new(alloc);
-    let json = json_of_line(alloc, bytes, &mut room)?;
+    let json = json_of_line(alloc, bytes, room)?;
     if !is_transaction(&json) {
         return Err(ChangeFault::BadShape);
     }

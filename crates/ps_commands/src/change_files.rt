@@ -11,7 +11,7 @@ ghost use Rattle.ps_commands.specs.ChangeFiles.{rising, accepted, first_passed, 
 ghost use Rattle.ps_commands.specs.ReadingChanges.{ReadsRising, IsPending, HasCommitted, WritesSome, WritesAll, TakesLine, Writes};
 
 use crate::faults::{Fault, Limit, LineFault};
-use ps_changes::{ChangeFault, Transaction, read_line};
+use ps_changes::{ChangeFault, LineReader, Transaction};
 use ps_rules::Rules;
 use ps_script::{is_blank, split_line};
 use ps_store::{
@@ -33,6 +33,7 @@ pub fn write_changes<'a>(alloc: Global, rules: Rules, changes: &[u8]) -> Result<
 {
     have_numbers(&rules);
     let mut store = Store::new(alloc, rules, Limits::usual())?;
+    let mut reader = LineReader::new(alloc);
     let mut number = 0u64;
     let mut rest = Some(changes);
     'lines: while let Some(bytes) = rest {
@@ -42,7 +43,7 @@ pub fn write_changes<'a>(alloc: Global, rules: Rules, changes: &[u8]) -> Result<
         if is_blank(line) {
             continue;
         }
-        match write_line(alloc, &mut store, line, number) {
+        match write_line(alloc, &mut reader, &mut store, line, number) {
             Ok(()) => (),
             Err(fault) => return Err(fault),
         }
@@ -53,6 +54,7 @@ pub fn write_changes<'a>(alloc: Global, rules: Rules, changes: &[u8]) -> Result<
 // Writes the transaction of a line and commits it.
 fn write_line<'a>(
     alloc: Global,
+    reader: &mut LineReader,
     store: &mut Store,
     line: &[u8],
     number: u64,
@@ -62,7 +64,7 @@ fn write_line<'a>(
         → TakesLine rules done (accepted rules.definitions done number line.now) store.new result }
 {
     let last = store.head();
-    let transaction = match read_rising(alloc, line, number, last.0) {
+    let transaction = match read_rising(alloc, reader, line, number, last.0) {
         Ok(transaction) => transaction,
         Err(fault) => return Err(fault),
     };
@@ -158,6 +160,7 @@ fn commit(store: &mut Store)
 // The transaction of a line, where its position is past the last one.
 fn read_rising<'a>(
     alloc: Global,
+    reader: &mut LineReader,
     line: &[u8],
     number: u64,
     last: u64,
@@ -165,7 +168,7 @@ fn read_rising<'a>(
     ensures read { ReadsRising result (rising number last (line_of line.now)) }
     ensures position { IfOk result (λ transaction. transaction.position.0 ≤ greatest) }
 {
-    match read_line(alloc, line) {
+    match reader.read_line(alloc, line) {
         Ok(transaction) => {
             let given = transaction.position.0;
             if last < given {
