@@ -8,3 +8,4 @@ pub mod Only
 pub mod Parameters
 pub mod RoundTrips
 pub mod Texts
+pub mod Tokens

@@ -1,15 +1,18 @@
 -- What is written of a line is read as that line, without targets.
-use Rattle.std.proofs.Common.{◌≡◌, ◌≢◌, ℕ, ◌<◌, ◌≤◌, ◌^◌, Bool, true, List, [], ◌∷◌, ◌++◌, Some, None, Ok, length, map, fold, ◌-◌, eq-eqb, leb, ltb, refl, ap, ◌∙◌, arith}
+use Rattle.std.proofs.Common.{◌≡◌, ◌≢◌, ℕ, ◌<◌, ◌≤◌, ◌^◌, Bool, true, List, [], ◌∷◌, ◌++◌, Some, None, Ok, length, map, fold, ◌-◌, eq-eqb, leb, ltb, slice_index_or, refl, ap, ◌∙◌, arith}
 use Rattle.std.specs.Fmt.{decimal}
 use Rattle.std.specs.List.{All}
 use Rattle.std.specs.Str.{IsUtf8}
 use Rattle.std.proofs.lemmas.Str.{is_utf8-from_IsUtf8}
 use Rattle.std.proofs.lemmas.List.{length-append}
 use Rattle.std.proofs.Math.Seq.{get_or-append_seam, take-append_seam}
-use Rattle.serde_json.specs.Read.{read, max_depth}
+use Rattle.json.specs.Lex.{tokens}
+use Rattle.serde_json.specs.Read.{of_items}
+use Rattle.serde_json.specs.Written.{items_outline}
+use Rattle.serde_json.proofs.Numbers.{number_of-decimal}
 use Rattle.std.proofs.lemmas.List.Elements.{All-nil, All-cons, All-head, All-tail}
 use Rattle.std.proofs.lemmas.Bool.Decides.{nat_tests}
-use Rattle.serde_json.specs.Data.{Data as Json, string, unsigned, depth}
+use Rattle.serde_json.specs.Data.{Data as Json, string, unsigned}
 use Rattle.serde_json.specs.Find.{as_i64}
 use Rattle.serde_json.specs.View.{items_of}
 use Rattle.ps_values.specs.Numbers.{decimal_of, greatest}
@@ -19,12 +22,14 @@ use Rattle.ps_bucket_log.specs.Ops.{id_of, checksum, newest}
 use Rattle.ps_bucket_log.specs.Logs.{IsRising}
 use Rattle.ps_values.specs.Laws.{ReadsWhatIsWritten}
 use Rattle.ps_lines.proofs.Texts.{line_shallow}
+use Rattle.ps_lines.proofs.Tokens.{IsReadOfItsTokens, items_read, read_of_tokens}
+use Rattle.ps_lines.specs.Tokens.{tokens_of}
 use Rattle.ps_lines.specs.declared.faults.LineFault.TheVariants.{BadNumber}
 use Rattle.ps_lines.specs.Types.{Entry, Line, Checkpoint, Diff, Data, Complete, Expires, Unknown}
 use Rattle.ps_lines.specs.Members.{or_fault, within, sum_of, ◌>>=◌}
 use Rattle.ps_lines.specs.Shapes.{all_items, is_entry, is_op, is_text}
 use Rattle.ps_lines.specs.Reading.{entry_of, entries_of, texts_of, op_of, ops_of, rises_from, leads, line_of_json, without_feed, line_of}
-use Rattle.ps_lines.specs.Writing.{entry_json, op_json, line_json, op_without_target, without_targets, IsWritable, SumsFit}
+use Rattle.ps_lines.specs.Writing.{entry_json, op_json, line_json, op_without_target, without_targets, IsWritable, SumsFit, CountsFit}
 
 -- decimals are read as they are written
 abbrev pub ReadsBack : Type 0
@@ -158,6 +163,41 @@ line_back back (Complete last_op) w fits = rw (back last_op.0 w) refl
 line_back back (Expires seconds) w fits = refl
 line_back back Unknown w fits = absurd w
 
+-- ---- the JSON of a line is read of its tokens
+
+entry_read : (entry : Entry) → entry.sum.0 < 2 ^ 32 → entry.count < 2 ^ 64 → entry.priority ≤ 3 → IsReadOfItsTokens (entry_json entry)
+unfolding entry_json
+entry_read entry small counted urgent =
+    rw (number_of-decimal entry.sum.0 (omega (arith, small)), number_of-decimal entry.count counted, number_of-decimal entry.priority (omega (arith, urgent))) refl
+
+entries_read : (entries : List Entry) → All (λ entry. entry.sum.0 < 2 ^ 32) entries → All (λ entry. entry.count < 2 ^ 64) entries → All (λ entry. entry.priority ≤ 3) entries
+    → of_items (items_outline (items_of (map entry_json entries))) ≡ Some (items_of (map entry_json entries))
+entries_read entries small counted urgent =
+    items_read entry_json entries (λ i d within. entry_read (slice_index_or entries i d) (small i d within) (counted i d within) (urgent i d within))
+
+texts_read : (texts : List (List ℕ)) → of_items (items_outline (items_of (map string texts))) ≡ Some (items_of (map string texts))
+texts_read texts = items_read string texts (λ i d within. refl)
+
+op_read : (op : Op) → checksum op < 2 ^ 32 → IsReadOfItsTokens (op_json op)
+unfolding op_json
+op_read (Put id key content sum) small = rw (number_of-decimal sum.0 (omega (arith, small))) refl
+op_read (Remove id key sum) small = rw (number_of-decimal sum.0 (omega (arith, small))) refl
+op_read (Move id sum target) small = rw (number_of-decimal sum.0 (omega (arith, small))) refl
+op_read (Clear id sum target) small = rw (number_of-decimal sum.0 (omega (arith, small))) refl
+
+ops_read : (ops : List Op) → All (λ op. checksum op < 2 ^ 32) ops → of_items (items_outline (items_of (map op_json ops))) ≡ Some (items_of (map op_json ops))
+ops_read ops small = items_read op_json ops (λ i d within. op_read (slice_index_or ops i d) (small i d within))
+
+line_read : (line : Line) → IsWritable line → SumsFit line → CountsFit line → IsReadOfItsTokens (line_json line)
+line_read (Checkpoint last_op None buckets) w sums counts = rw (entries_read buckets sums counts w.2) refl
+line_read (Checkpoint last_op (Some n) buckets) w sums counts = rw (entries_read buckets sums counts w.2) refl
+line_read (Diff last_op None removed updated) w sums counts = rw (texts_read removed, entries_read updated sums counts w.2) refl
+line_read (Diff last_op (Some n) removed updated) w sums counts = rw (texts_read removed, entries_read updated sums counts w.2) refl
+line_read (Data bucket after has_more ops next) w sums counts = rw (ops_read ops sums) refl
+line_read (Complete last_op) w sums counts = refl
+line_read (Expires seconds) w sums counts = rw (number_of-decimal seconds counts) refl
+line_read Unknown w sums counts = absurd w
+
 -- ---- the bytes of a line
 
 feed_off : (bytes : List ℕ) → without_feed (bytes ++ 10 ∷ []) ≡ bytes
@@ -165,9 +205,9 @@ feed_off bytes =
     let long : length (bytes ++ 10 ∷ []) - 1 ≡ length bytes = omega (arith, length-append bytes (10 ∷ [])) in
     rw (long, get_or-append_seam bytes 10 [] 0, take-append_seam bytes (10 ∷ [])) refl
 
-pub read_again : ReadsWhatIsWritten → (line : Line) (d : Json) (bytes all : List ℕ) → IsWritable line → SumsFit line → d ≡ line_json line
-    → all ≡ bytes ++ 10 ∷ [] → IsUtf8 bytes → (depth d ≤ max_depth → read bytes ≡ Some d) → line_of all ≡ Ok (without_targets line)
+pub read_again : ReadsWhatIsWritten → (line : Line) (bytes all : List ℕ) → IsWritable line → SumsFit line → CountsFit line → all ≡ bytes ++ 10 ∷ []
+    → tokens bytes ≡ tokens_of (line_json line) → IsUtf8 bytes → line_of all ≡ Ok (without_targets line)
 unfolding line_of
-read_again law line d bytes all w fits e whole utf8 h =
-    let shallow : depth d ≤ max_depth = rw e (line_shallow line) in
-    rw (whole, feed_off bytes, is_utf8-from_IsUtf8 bytes utf8, h shallow, e) (line_back (reads_back law) line w fits)
+read_again law line bytes all w sums counts whole same utf8 =
+    let text_read = read_of_tokens (line_json line) bytes same (line_shallow line) (line_read line w sums counts) in
+    rw (whole, feed_off bytes, is_utf8-from_IsUtf8 bytes utf8, text_read) (line_back (reads_back law) line w sums)

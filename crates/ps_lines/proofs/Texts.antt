@@ -1,11 +1,15 @@
--- Lines as JSON hold no float, and nest little.
-use Rattle.std.proofs.Common.{◌≡◌, ℕ, false, List, [], ◌∷◌, ◌++◌, Some, None, map, refl, ap, ◌∙◌, ◌≤◌, arith}
+-- The text of a line, and how deep its JSON nests.
+use Rattle.std.proofs.Common.{◌≡◌, ℕ, false, List, [], ◌∷◌, ◌++◌, Some, None, map, refl, ap, ◌≤◌, arith}
+use Rattle.json.specs.Print.{print}
+use Rattle.json.specs.Token.{Token}
 use Rattle.serde_json.specs.Read.{max_depth}
 use Rattle.serde_json.specs.Data.{Data as Json, string, depth, items_depth}
 use Rattle.serde_json.specs.View.{items_of}
-use Rattle.serde_json.specs.Written.{has_float, items_have_float, compact_text}
+use Rattle.serde_json.specs.Written.{has_float, items_have_float}
+use Rattle.serde_json.proofs.Texts.{print-outline}
 use Rattle.ps_bucket_log.specs.declared.ops.Op.{Op}
 use Rattle.ps_bucket_log.specs.declared.ops.Op.TheVariants.{Put, Remove, Move, Clear}
+use Rattle.ps_lines.specs.Tokens.{tokens_of}
 use Rattle.ps_lines.specs.Types.{Entry, Line, Checkpoint, Diff, Data, Complete, Expires, Unknown}
 use Rattle.ps_lines.specs.Writing.{entry_json, op_json, line_json, text_of}
 
@@ -13,31 +17,10 @@ pub items_plain : {A : Type 0} (f : A → Json) → ((x : A) → has_float (f x)
 items_plain f h [] = refl
 items_plain f h (x ∷ xs) = rw (h x) (items_plain f h xs)
 
-entry_plain : (entry : Entry) → has_float (entry_json entry) ≡ false
-unfolding entry_json
-entry_plain entry = refl
-
-op_plain : (op : Op) → has_float (op_json op) ≡ false
-unfolding op_json
-op_plain (Put id key content sum) = refl
-op_plain (Remove id key sum) = refl
-op_plain (Move id sum target) = refl
-op_plain (Clear id sum target) = refl
-
-line_plain : (line : Line) → has_float (line_json line) ≡ false
-line_plain (Checkpoint last_op None buckets) = rw (items_plain entry_json entry_plain buckets) refl
-line_plain (Checkpoint last_op (Some n) buckets) = rw (items_plain entry_json entry_plain buckets) refl
-line_plain (Diff last_op None removed updated) = rw (items_plain string (λ t. refl) removed, items_plain entry_json entry_plain updated) refl
-line_plain (Diff last_op (Some n) removed updated) = rw (items_plain string (λ t. refl) removed, items_plain entry_json entry_plain updated) refl
-line_plain (Data bucket after has_more ops next) = rw (items_plain op_json op_plain ops) refl
-line_plain (Complete last_op) = refl
-line_plain (Expires seconds) = refl
-line_plain Unknown = refl
-
--- what is written for a line that was made into JSON
-pub written : (line : Line) (d : Json) (bytes : List ℕ) → d ≡ line_json line → (has_float d ≡ false → bytes ≡ compact_text d) → bytes ++ 10 ∷ [] ≡ text_of line
+-- what is printed for the tokens of a line's JSON
+pub printed : (line : Line) (bytes front : List ℕ) (ts : List Token) → bytes ≡ front ++ print ts → front ≡ [] → ts ≡ tokens_of (line_json line) → bytes ++ 10 ∷ [] ≡ text_of line
 unfolding text_of
-written line d bytes e h = ap (λ front. front ++ 10 ∷ []) (h (ap has_float e ∙ line_plain line) ∙ ap compact_text e)
+printed line bytes front ts e none is = rw (e, none, is) (ap (λ text. text ++ 10 ∷ []) (print-outline (line_json line)))
 
 -- ---- how deep they nest
 

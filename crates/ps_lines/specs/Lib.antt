@@ -3,6 +3,7 @@ pub mod Members
 pub mod Shapes
 pub mod Reading
 pub mod Writing
+pub mod Tokens
 pub mod BodyShapes
 pub mod Bodies
 pub mod BodyTexts

@@ -138,6 +138,15 @@ SumsFit (Complete last_op) = Unit {0}
 SumsFit (Expires seconds) = Unit {0}
 SumsFit Unknown = Unit {0}
 
+-- counts and times are numbers of 64 bits
+abbrev pub CountsFit : Line → Type 0
+CountsFit (Checkpoint last_op upload buckets) = All (λ entry. entry.count < 2 ^ 64) buckets
+CountsFit (Diff last_op upload removed updated) = All (λ entry. entry.count < 2 ^ 64) updated
+CountsFit (Data bucket after has_more ops next) = Unit {0}
+CountsFit (Complete last_op) = Unit {0}
+CountsFit (Expires seconds) = seconds < 2 ^ 64
+CountsFit Unknown = Unit {0}
+
 -- a MOVE has its own id as target, a CLEAR none
 abbrev pub op_without_target : Op → Op
 op_without_target (Put id key content sum) = Put id key content sum

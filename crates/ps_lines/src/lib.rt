@@ -7,6 +7,7 @@ mod body_shapes;
 mod body_writers;
 mod faults;
 mod lines;
+mod member_writers;
 mod members;
 mod objects;
 mod readers;

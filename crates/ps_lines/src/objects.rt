@@ -1,7 +1,7 @@
 //! JSON objects, built member by member.
 
 ghost use Rattle.std.specs.Prelude.{◌≡◌, IfOk, OnOk, decimal, string_bytes};
-ghost use Rattle.serde_json.specs.Data.{number, string, object, no_members, put, unsigned};
+ghost use Rattle.serde_json.specs.Data.{string, object, no_members, put};
 ghost use Rattle.serde_json.specs.View.{view, members_view};
 
 use ps_values::Memory;
@@ -37,12 +37,6 @@ impl Object {
     {
         let text = Json::String(String::from_str(alloc, text)?);
         self.with(alloc, name, text)
-    }
-
-    pub fn with_number(self, alloc: Global, name: &str, n: u64) -> Result<Object, Memory>
-        ensures { IfOk result (λ made. members_view made.members.entries ≡ put name.now (number (unsigned n)) (members_view self.members.entries)) }
-    {
-        self.with(alloc, name, Json::from(n))
     }
 
     // With a number as its decimal text.

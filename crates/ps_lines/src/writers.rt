@@ -1,16 +1,18 @@
-ghost use Rattle.std.specs.Prelude.{◌≡◌, ◌<◌, ◌^◌, ◌∷◌, [], All, IfOk, Ok};
-ghost use Rattle.serde_json.specs.View.{view};
-ghost use Rattle.serde_json.specs.Data.{string};
+ghost use Rattle.std.specs.Prelude.{◌≡◌, ◌<◌, ◌^◌, All, IfOk, OnOk, Ok};
 ghost use Rattle.ps_bucket_log.specs.Ops.{checksum};
 ghost use Rattle.ps_lines.specs.Reading.{line_of};
-ghost use Rattle.ps_lines.specs.Writing.{object_of, list_json, entry_json as json_of_entry, op_json as json_of_op, put_json as json_of_put, remove_json as json_of_remove, bare_json as json_of_bare, checkpoint_json as json_of_checkpoint, diff_json as json_of_diff, data_json as json_of_data, line_json as json_of_line, text_of, IsWritable, SumsFit, without_targets};
+ghost use Rattle.ps_lines.specs.Tokens.{tokens_of, member_tokens, Adds};
+ghost use Rattle.ps_lines.specs.Writing.{list_json, entry_json, op_json, put_json, remove_json, bare_json, checkpoint_json, diff_json, data_json, complete_json, line_json, text_of, IsWritable, SumsFit, CountsFit, without_targets};
 
-use crate::objects::Object;
+use crate::member_writers::{
+    begin_member, write_decimal, write_flag, write_number, write_priority, write_sum, write_text,
+    write_texts, write_upload, write_word,
+};
 use crate::{Entry, Line};
+use json::Writer;
 use ps_bucket_log::{Key, Op};
 use ps_checksum::Sum;
 use ps_values::{Memory, OpId, Text, decimals_read_back};
-use serde_json::Value as Json;
 use std::alloc::Global;
 
 /// The bytes of a line, compact, with its closing line feed: docs/FORMATS.md, "Stream lines". Targets are
@@ -21,16 +23,19 @@ pub fn write_line(alloc: Global, line: &Line) -> Result<Vec<u8>, Memory>
     ensures read_again { IfOk result (λ bytes. line_of bytes.items ≡ Ok (without_targets line.now)) }
 {
     decimals_read_back();
-    let json = line_json(alloc, line)?;
-    let mut bytes = json.to_vec(alloc)?;
+    let mut writer = Writer::new(Vec::with_capacity(alloc, 256)?);
+    write_json(&mut writer, line)?;
+    let mut bytes = writer.into_inner();
     bytes.push(b'\n')?;
     Ok(bytes)
 }
 
-fn line_json(alloc: Global, line: &Line) -> Result<Json, Memory>
+// A line is an object with a single member.
+fn write_json(writer: &mut Writer, line: &Line) -> Result<(), Memory>
     requires { IsWritable line.now }
-    ensures value { IfOk result (λ json. view json ≡ json_of_line line.now) }
-    ensures fits { IfOk result (λ _. SumsFit line.now) }
+    ensures value { OnOk result (Adds writer.old writer.new (tokens_of (line_json line.now))) }
+    ensures sums { OnOk result (SumsFit line.now) }
+    ensures counts { OnOk result (CountsFit line.now) }
 {
     match line {
         Line::Checkpoint {
@@ -38,8 +43,10 @@ fn line_json(alloc: Global, line: &Line) -> Result<Json, Memory>
             number,
             buckets,
         } => {
-            let json = checkpoint_json(alloc, *last_op, *number, buckets.as_slice())?;
-            tagged(alloc, "checkpoint", json)
+            begin_member(writer, "checkpoint")?;
+            write_checkpoint(writer, *last_op, *number, buckets.as_slice())?;
+            writer.end_object()?;
+            Ok(())
         }
         Line::Diff {
             last_op,
@@ -47,9 +54,16 @@ fn line_json(alloc: Global, line: &Line) -> Result<Json, Memory>
             removed,
             updated,
         } => {
-            let (removed, updated) = (removed.as_slice(), updated.as_slice());
-            let json = diff_json(alloc, *last_op, *number, removed, updated)?;
-            tagged(alloc, "checkpoint_diff", json)
+            begin_member(writer, "checkpoint_diff")?;
+            write_diff(
+                writer,
+                *last_op,
+                *number,
+                removed.as_slice(),
+                updated.as_slice(),
+            )?;
+            writer.end_object()?;
+            Ok(())
         }
         Line::Data {
             bucket,
@@ -58,148 +72,147 @@ fn line_json(alloc: Global, line: &Line) -> Result<Json, Memory>
             ops,
             next_after,
         } => {
-            let json = data_json(
-                alloc,
+            begin_member(writer, "data")?;
+            write_data(
+                writer,
                 bucket,
                 *after,
                 *has_more,
                 ops.as_slice(),
                 *next_after,
             )?;
-            tagged(alloc, "data", json)
+            writer.end_object()?;
+            Ok(())
         }
         Line::Complete { last_op } => {
-            let complete = Object::new(alloc).with_decimal(alloc, "last_op_id", last_op.0)?;
-            tagged(alloc, "checkpoint_complete", complete.into_json())
+            begin_member(writer, "checkpoint_complete")?;
+            write_complete(writer, *last_op)?;
+            writer.end_object()?;
+            Ok(())
         }
-        Line::Expires { seconds } => tagged(alloc, "token_expires_in", Json::from(*seconds)),
+        Line::Expires { seconds } => {
+            writer.begin_object()?;
+            write_number(writer, "token_expires_in", *seconds)?;
+            writer.end_object()?;
+            Ok(())
+        }
         Line::Unknown => unreachable!(),
     }
 }
 
-// The object with a single member.
-fn tagged(alloc: Global, name: &str, json: Json) -> Result<Json, Memory>
-    ensures { IfOk result (λ made. view made ≡ object_of ((name.now, view json) ∷ [])) }
-{
-    Ok(Object::new(alloc).with(alloc, name, json)?.into_json())
-}
-
-fn checkpoint_json(
-    alloc: Global,
+fn write_checkpoint(
+    writer: &mut Writer,
     last_op: OpId,
     number: Option<u64>,
     buckets: &[Entry],
-) -> Result<Json, Memory>
-    ensures value { IfOk result (λ json. view json ≡ json_of_checkpoint last_op number buckets.now) }
-    ensures fits { IfOk result (λ _. All (λ entry. entry.sum.0 < 2 ^ 32) buckets.now) }
+) -> Result<(), Memory>
+    ensures value { OnOk result (Adds writer.old writer.new (tokens_of (checkpoint_json last_op number buckets.now))) }
+    ensures sums { OnOk result (All (λ entry. entry.sum.0 < 2 ^ 32) buckets.now) }
+    ensures counts { OnOk result (All (λ entry. entry.count < 2 ^ 64) buckets.now) }
 {
-    let checkpoint = Object::new(alloc)
-        .with(alloc, "buckets", entries_json(alloc, buckets)?)?
-        .with_decimal(alloc, "last_op_id", last_op.0)?;
-    match number {
-        None => Ok(checkpoint.into_json()),
-        Some(number) => {
-            Ok(
-                checkpoint
-                    .with_decimal(alloc, "write_checkpoint", number)?
-                    .into_json(),
-            )
-        }
-    }
+    writer.begin_object()?;
+    write_entries(writer, "buckets", buckets)?;
+    write_decimal(writer, "last_op_id", last_op.0)?;
+    write_upload(writer, number)?;
+    writer.end_object()?;
+    Ok(())
 }
 
-fn diff_json(
-    alloc: Global,
+fn write_diff(
+    writer: &mut Writer,
     last_op: OpId,
     number: Option<u64>,
     removed: &[Text],
     updated: &[Entry],
-) -> Result<Json, Memory>
-    ensures value { IfOk result (λ json. view json ≡ json_of_diff last_op number removed.now updated.now) }
-    ensures fits { IfOk result (λ _. All (λ entry. entry.sum.0 < 2 ^ 32) updated.now) }
+) -> Result<(), Memory>
+    ensures value { OnOk result (Adds writer.old writer.new (tokens_of (diff_json last_op number removed.now updated.now))) }
+    ensures sums { OnOk result (All (λ entry. entry.sum.0 < 2 ^ 32) updated.now) }
+    ensures counts { OnOk result (All (λ entry. entry.count < 2 ^ 64) updated.now) }
 {
-    let diff = Object::new(alloc)
-        .with_decimal(alloc, "last_op_id", last_op.0)?
-        .with(alloc, "removed_buckets", texts_json(alloc, removed)?)?
-        .with(alloc, "updated_buckets", entries_json(alloc, updated)?)?;
-    match number {
-        None => Ok(diff.into_json()),
-        Some(number) => Ok(
-            diff.with_decimal(alloc, "write_checkpoint", number)?
-                .into_json(),
-        ),
-    }
+    writer.begin_object()?;
+    write_decimal(writer, "last_op_id", last_op.0)?;
+    write_texts(writer, "removed_buckets", removed)?;
+    write_entries(writer, "updated_buckets", updated)?;
+    write_upload(writer, number)?;
+    writer.end_object()?;
+    Ok(())
 }
 
-fn data_json(
-    alloc: Global,
+fn write_data(
+    writer: &mut Writer,
     bucket: &Text,
     after: OpId,
     has_more: bool,
     ops: &[Op],
     next_after: OpId,
-) -> Result<Json, Memory>
-    ensures value { IfOk result (λ json. view json ≡ json_of_data bucket.now after has_more ops.now next_after) }
-    ensures fits { IfOk result (λ _. All (λ op. checksum op < 2 ^ 32) ops.now) }
+) -> Result<(), Memory>
+    ensures value { OnOk result (Adds writer.old writer.new (tokens_of (data_json bucket.now after has_more ops.now next_after))) }
+    ensures sums { OnOk result (All (λ op. checksum op < 2 ^ 32) ops.now) }
 {
-    let data = Object::new(alloc)
-        .with_decimal(alloc, "after", after.0)?
-        .with_text(alloc, "bucket", bucket.as_str())?
-        .with(alloc, "data", ops_json(alloc, ops)?)?
-        .with(alloc, "has_more", Json::Bool(has_more))?
-        .with_decimal(alloc, "next_after", next_after.0)?;
-    Ok(data.into_json())
+    writer.begin_object()?;
+    write_decimal(writer, "after", after.0)?;
+    write_text(writer, "bucket", bucket)?;
+    write_ops(writer, "data", ops)?;
+    write_flag(writer, "has_more", has_more)?;
+    write_decimal(writer, "next_after", next_after.0)?;
+    writer.end_object()?;
+    Ok(())
 }
 
-fn texts_json(alloc: Global, texts: &[Text]) -> Result<Json, Memory>
-    ensures { IfOk result (λ json. view json ≡ list_json string texts.now) }
+fn write_complete(writer: &mut Writer, last_op: OpId) -> Result<(), Memory>
+    ensures { OnOk result (Adds writer.old writer.new (tokens_of (complete_json last_op))) }
 {
-    let mut list = Vec::new(alloc);
-    'texts: for text in texts {
-        list.push(Json::String(String::from_str(alloc, text.as_str())?))?;
-    }
-    Ok(Json::Array(list))
+    writer.begin_object()?;
+    write_decimal(writer, "last_op_id", last_op.0)?;
+    writer.end_object()?;
+    Ok(())
 }
 
-fn entries_json(alloc: Global, entries: &[Entry]) -> Result<Json, Memory>
-    ensures value { IfOk result (λ json. view json ≡ list_json json_of_entry entries.now) }
-    ensures fits { IfOk result (λ _. All (λ entry. entry.sum.0 < 2 ^ 32) entries.now) }
+fn write_entries(writer: &mut Writer, name: &str, entries: &[Entry]) -> Result<(), Memory>
+    ensures value { OnOk result (Adds writer.old writer.new (member_tokens (name.now, list_json entry_json entries.now))) }
+    ensures sums { OnOk result (All (λ entry. entry.sum.0 < 2 ^ 32) entries.now) }
+    ensures counts { OnOk result (All (λ entry. entry.count < 2 ^ 64) entries.now) }
 {
-    let mut list = Vec::new(alloc);
+    writer.key(name)?;
+    writer.begin_array()?;
     'entries: for entry in entries {
-        list.push(entry_json(alloc, entry)?)?;
+        write_entry(writer, entry)?;
     }
-    Ok(Json::Array(list))
+    writer.end_array()?;
+    Ok(())
 }
 
-#[tactic(auto, unfolding(crate::specs::Writing::entry_json))]
-fn entry_json(alloc: Global, entry: &Entry) -> Result<Json, Memory>
-    ensures value { IfOk result (λ json. view json ≡ json_of_entry entry.now) }
-    ensures fits { IfOk result (λ _. entry.now.sum.0 < 2 ^ 32) }
+fn write_entry(writer: &mut Writer, entry: &Entry) -> Result<(), Memory>
+    ensures value { OnOk result (Adds writer.old writer.new (tokens_of (entry_json entry.now))) }
+    ensures sums { OnOk result (entry.now.sum.0 < 2 ^ 32) }
+    ensures counts { OnOk result (entry.now.count < 2 ^ 64) }
 {
-    let made = Object::new(alloc)
-        .with_text(alloc, "bucket", entry.bucket.as_str())?
-        .with_number(alloc, "checksum", number_of(entry.sum))?
-        .with_number(alloc, "count", entry.count)?
-        .with_number(alloc, "priority", u64::from(entry.priority))?;
-    Ok(made.into_json())
+    writer.begin_object()?;
+    write_text(writer, "bucket", &entry.bucket)?;
+    write_sum(writer, "checksum", entry.sum)?;
+    write_number(writer, "count", entry.count)?;
+    write_priority(writer, "priority", entry.priority)?;
+    writer.end_object()?;
+    Ok(())
 }
 
-fn ops_json(alloc: Global, ops: &[Op]) -> Result<Json, Memory>
-    ensures value { IfOk result (λ json. view json ≡ list_json json_of_op ops.now) }
-    ensures fits { IfOk result (λ _. All (λ op. checksum op < 2 ^ 32) ops.now) }
+fn write_ops(writer: &mut Writer, name: &str, ops: &[Op]) -> Result<(), Memory>
+    ensures value { OnOk result (Adds writer.old writer.new (member_tokens (name.now, list_json op_json ops.now))) }
+    ensures sums { OnOk result (All (λ op. checksum op < 2 ^ 32) ops.now) }
 {
-    let mut list = Vec::new(alloc);
+    writer.key(name)?;
+    writer.begin_array()?;
     'ops: for op in ops {
-        list.push(op_json(alloc, op)?)?;
+        write_op(writer, op)?;
     }
-    Ok(Json::Array(list))
+    writer.end_array()?;
+    Ok(())
 }
 
 #[tactic(auto, unfolding(crate::specs::Writing::op_json))]
-fn op_json(alloc: Global, op: &Op) -> Result<Json, Memory>
-    ensures value { IfOk result (λ json. view json ≡ json_of_op op.now) }
-    ensures fits { IfOk result (λ _. checksum op.now < 2 ^ 32) }
+fn write_op(writer: &mut Writer, op: &Op) -> Result<(), Memory>
+    ensures value { OnOk result (Adds writer.old writer.new (tokens_of (op_json op.now))) }
+    ensures sums { OnOk result (checksum op.now < 2 ^ 32) }
 {
     match op {
         Op::Put {
@@ -207,58 +220,59 @@ fn op_json(alloc: Global, op: &Op) -> Result<Json, Memory>
             key,
             content,
             sum,
-        } => put_json(alloc, *id, key, content, *sum),
-        Op::Remove { id, key, sum } => remove_json(alloc, *id, key, *sum),
-        Op::Move { id, sum, .. } => bare_json(alloc, "MOVE", *id, *sum),
-        Op::Clear { id, sum, .. } => bare_json(alloc, "CLEAR", *id, *sum),
+        } => write_put(writer, *id, key, content, *sum),
+        Op::Remove { id, key, sum } => write_remove(writer, *id, key, *sum),
+        Op::Move { id, sum, .. } => write_bare(writer, "MOVE", *id, *sum),
+        Op::Clear { id, sum, .. } => write_bare(writer, "CLEAR", *id, *sum),
     }
 }
 
-fn put_json(alloc: Global, id: OpId, key: &Key, content: &Text, sum: Sum) -> Result<Json, Memory>
-    ensures value { IfOk result (λ json. view json ≡ json_of_put id key.now content.now sum) }
-    ensures fits { IfOk result (λ _. sum.0 < 2 ^ 32) }
+fn write_put(
+    writer: &mut Writer,
+    id: OpId,
+    key: &Key,
+    content: &Text,
+    sum: Sum,
+) -> Result<(), Memory>
+    ensures value { OnOk result (Adds writer.old writer.new (tokens_of (put_json id key.now content.now sum))) }
+    ensures sums { OnOk result (sum.0 < 2 ^ 32) }
 {
-    let made = Object::new(alloc)
-        .with_number(alloc, "checksum", u64::from(sum.0))?
-        .with_text(alloc, "data", content.as_str())?
-        .with_text(alloc, "object_id", key.id.as_str())?
-        .with_text(alloc, "object_type", key.kind.as_str())?
-        .with_text(alloc, "op", "PUT")?
-        .with_decimal(alloc, "op_id", id.0)?
-        .with_text(alloc, "subkey", key.subkey.as_str())?;
-    Ok(made.into_json())
+    writer.begin_object()?;
+    write_sum(writer, "checksum", sum)?;
+    write_text(writer, "data", content)?;
+    write_text(writer, "object_id", &key.id)?;
+    write_text(writer, "object_type", &key.kind)?;
+    write_word(writer, "op", "PUT")?;
+    write_decimal(writer, "op_id", id.0)?;
+    write_text(writer, "subkey", &key.subkey)?;
+    writer.end_object()?;
+    Ok(())
 }
 
-fn remove_json(alloc: Global, id: OpId, key: &Key, sum: Sum) -> Result<Json, Memory>
-    ensures value { IfOk result (λ json. view json ≡ json_of_remove id key.now sum) }
-    ensures fits { IfOk result (λ _. sum.0 < 2 ^ 32) }
+fn write_remove(writer: &mut Writer, id: OpId, key: &Key, sum: Sum) -> Result<(), Memory>
+    ensures value { OnOk result (Adds writer.old writer.new (tokens_of (remove_json id key.now sum))) }
+    ensures sums { OnOk result (sum.0 < 2 ^ 32) }
 {
-    let made = Object::new(alloc)
-        .with_number(alloc, "checksum", u64::from(sum.0))?
-        .with_text(alloc, "object_id", key.id.as_str())?
-        .with_text(alloc, "object_type", key.kind.as_str())?
-        .with_text(alloc, "op", "REMOVE")?
-        .with_decimal(alloc, "op_id", id.0)?
-        .with_text(alloc, "subkey", key.subkey.as_str())?;
-    Ok(made.into_json())
+    writer.begin_object()?;
+    write_sum(writer, "checksum", sum)?;
+    write_text(writer, "object_id", &key.id)?;
+    write_text(writer, "object_type", &key.kind)?;
+    write_word(writer, "op", "REMOVE")?;
+    write_decimal(writer, "op_id", id.0)?;
+    write_text(writer, "subkey", &key.subkey)?;
+    writer.end_object()?;
+    Ok(())
 }
 
 // An operation that speaks of no row.
-fn bare_json(alloc: Global, op: &str, id: OpId, sum: Sum) -> Result<Json, Memory>
-    ensures value { IfOk result (λ json. view json ≡ json_of_bare op.now id sum) }
-    ensures fits { IfOk result (λ _. sum.0 < 2 ^ 32) }
+fn write_bare(writer: &mut Writer, op: &str, id: OpId, sum: Sum) -> Result<(), Memory>
+    ensures value { OnOk result (Adds writer.old writer.new (tokens_of (bare_json op.now id sum))) }
+    ensures sums { OnOk result (sum.0 < 2 ^ 32) }
 {
-    let made = Object::new(alloc)
-        .with_number(alloc, "checksum", u64::from(sum.0))?
-        .with_text(alloc, "op", op)?
-        .with_decimal(alloc, "op_id", id.0)?;
-    Ok(made.into_json())
-}
-
-// A sum as a number, which has 32 bits.
-fn number_of(sum: Sum) -> u64
-    ensures value { result ≡ sum.0 }
-    ensures fits { sum.0 < 2 ^ 32 }
-{
-    u64::from(sum.0)
+    writer.begin_object()?;
+    write_sum(writer, "checksum", sum)?;
+    write_word(writer, "op", op)?;
+    write_decimal(writer, "op_id", id.0)?;
+    writer.end_object()?;
+    Ok(())
 }

@@ -1,0 +1,10 @@
+use Rattle.ps_lines.proofs.Tokens.{added, behind, with_upload}
+use Rattle.ps_lines.proofs.writers.write_diff.Goals as goal
+
+pub returns-clause-value : goal.returns-clause-value
+returns-clause-value c =
+    behind (added c.in_ok-begin_object.ensures)
+    (behind c.in_ok-write_decimal.ensures
+    (behind c.in_ok-write_texts.ensures
+    (behind c.in_ok-write_entries.ensures.value
+    (with_upload c.args.number c.in_ok-write_upload.ensures (added c.in_ok-end_object.ensures)))))
