@@ -1,8 +1,9 @@
-ghost use Rattle.std.specs.Prelude.{◌≡◌, ◌≢◌, ◌≤◌, [], IfOk, IfErr, IfSome, OnOk, OnErr, Ok, option_map};
+ghost use Rattle.std.specs.Prelude.{◌≡◌, ◌≢◌, ◌≤◌, [], IfOk, IfErr, IfSome, OnOk, OnErr, Ok, None, option_map};
 ghost use Rattle.ps_values.specs.Numbers.{greatest};
 ghost use Rattle.ps_lines.specs.Bodies.{IsBody};
 ghost use Rattle.ps_lines.specs.Reading.{line_of};
 ghost use Rattle.ps_changes.specs.Source.{Key as Object};
+ghost use Rattle.ps_client_log.specs.Kept.{nothing_kept};
 ghost use Rattle.ps_client_log.specs.Keeping.{RoseAt, Tells};
 ghost use Rattle.ps_client_log.specs.Rows.{AreInOrder, row_at};
 ghost use Rattle.ps_client.specs.Clients.{asked, ended, line_taken, matches_told, is_pending};
@@ -65,6 +66,21 @@ impl<K: Keeper> Client<K> {
                 stream: Stream::Over,
             }),
             Err(refused) => Err(refused),
+        }
+    }
+
+    /// A client that holds nothing, with no stream begun, and has an id. The keeper does not tell what it keeps, and nothing is loaded.
+    pub fn begin(alloc: Global, keeper: K, client: Text) -> Client<K>
+        requires { K.held keeper ≡ None }
+        ensures opened { IsOpened (state result) }
+        ensures kept { (state result).kept ≡ nothing_kept }
+        ensures name { name_of result ≡ client }
+        ensures keeper { keeper_of result ≡ keeper }
+    {
+        Client {
+            log: ClientLog::begin(alloc, keeper),
+            name: client,
+            stream: Stream::Over,
         }
     }
 
