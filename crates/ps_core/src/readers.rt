@@ -1,5 +1,5 @@
 use ps_client::Client;
-use ps_client_log::SureKeeper;
+use ps_client_log::VolatileKeeper;
 use ps_session::Session;
 use ps_sql_eval::Asker;
 use std::collections::VecDeque;
@@ -8,7 +8,7 @@ use std::collections::VecDeque;
 #[derive(Drop)]
 pub(crate) struct Reader {
     pub asker: Asker,
-    pub client: Client<SureKeeper>,
+    pub client: Client<VolatileKeeper>,
     pub stream: Option<Stream>,
 }
 

@@ -10,7 +10,7 @@ ghost use Rattle.ps_core.specs.Worlds.{ReaderStandsFor};
 
 use crate::readers::Reader;
 use ps_client::Client;
-use ps_client_log::{KeepFault, SureKeeper};
+use ps_client_log::VolatileKeeper;
 use ps_sql_eval::Asker;
 use ps_values::{Memory, Text};
 use std::alloc::Global;
@@ -35,14 +35,10 @@ pub(crate) fn copied(alloc: Global, asker: &Asker) -> Result<Asker, Memory>
 }
 
 // A client that holds nothing.
-fn empty(alloc: Global, own: Text) -> Result<Client<SureKeeper>, Memory>
-    ensures { IfOk result (λ client. state client ≡ empty_client) }
+fn empty(alloc: Global, own: Text) -> Client<VolatileKeeper>
+    ensures { state result ≡ empty_client }
 {
-    match Client::open(alloc, SureKeeper::new(alloc), own) {
-        Ok(client) => Ok(client),
-        Err((_keeper, KeepFault::Memory)) => Err(Memory),
-        Err((_keeper, KeepFault::Failed)) => unreachable!(),
-    }
+    Client::begin(alloc, VolatileKeeper, own)
 }
 
 // The asker's own id, which is empty where it gave none.
@@ -58,7 +54,7 @@ pub(crate) fn begin(alloc: Global, asker: &Asker) -> Result<Reader, Memory>
     ensures { IfOk result (λ reader. (fixed : FixedSeen) (history : List EventSeen) → ReaderStandsFor fixed history reader (first_reader asker.now)) }
 {
     let own = own_id(alloc, asker)?;
-    let client = empty(alloc, own)?;
+    let client = empty(alloc, own);
     Ok(Reader {
         asker: copied(alloc, asker)?,
         client,

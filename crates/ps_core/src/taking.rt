@@ -13,7 +13,7 @@ ghost use Rattle.ps_core.specs.Parts.{Acts, CameTo, IsAt};
 
 use crate::readers::Reader;
 use ps_client::{Client, ClientFault, Event};
-use ps_client_log::SureKeeper;
+use ps_client_log::VolatileKeeper;
 use ps_effects::Effect;
 use ps_script::ScriptFault;
 use ps_values::Memory;
@@ -73,7 +73,11 @@ fn refused(fault: ClientFault) -> Result<Answer, Memory>
 }
 
 // The client takes the bytes of a line.
-fn answer_to(alloc: Global, client: &mut Client<SureKeeper>, bytes: &[u8]) -> Result<Answer, Memory>
+fn answer_to(
+    alloc: Global,
+    client: &mut Client<VolatileKeeper>,
+    bytes: &[u8],
+) -> Result<Answer, Memory>
     ensures { IfOk result (λ answer. (line : Line) → line_of bytes.now ≡ Ok line → IsAnswered (state client.old) (state client.new) line answer) }
 {
     match client.take_line(alloc, bytes) {

@@ -13,7 +13,7 @@ ghost use Rattle.ps_session.specs.Ties.{Leads};
 ghost use Rattle.ps_sync.specs.Turning.{IsIdle, IsWant};
 
 use ps_client::{Client, ClientFault, Event};
-use ps_client_log::SureKeeper;
+use ps_client_log::VolatileKeeper;
 use ps_lines::{Line, write_line};
 use ps_session::{clients_answer_right, clients_are_led};
 use ps_values::Memory;
@@ -34,7 +34,11 @@ fn want(fault: ClientFault) -> Memory
 }
 
 // Hands a line to the client. The answer to it is good, so there is no fault but want of memory.
-pub fn hand(alloc: Global, client: &mut Client<SureKeeper>, line: &Line) -> Result<Event, Memory>
+pub fn hand(
+    alloc: Global,
+    client: &mut Client<VolatileKeeper>,
+    line: &Line,
+) -> Result<Event, Memory>
     requires writable { IsWritable line.now }
     requires good { (course : Course) × (at : ℕ) × IsGood course at (state client.old).kept (taken (state client.old) (without_targets line.now)).answer }
     ensures right { IfOk result (λ event. (course : Course) (at : ℕ)
@@ -55,7 +59,7 @@ pub fn hand(alloc: Global, client: &mut Client<SureKeeper>, line: &Line) -> Resu
 // Hands the line of a turn to the client, if there is one.
 pub fn pass(
     alloc: Global,
-    client: &mut Client<SureKeeper>,
+    client: &mut Client<VolatileKeeper>,
     line: Option<Line>,
 ) -> Result<(), Memory>
     requires { (course : Course) × (at : ℕ) × (n : ℕ) × (session : SessionState) × Leads course at n session (state client.old) (made_by at line None []) }

@@ -10,28 +10,24 @@ ghost use Rattle.ps_session.specs.Kept.{state_of};
 ghost use Rattle.ps_sync.specs.Turning.{IsLed, IsIdle};
 
 use ps_client::Client;
-use ps_client_log::{KeepFault, SureKeeper};
+use ps_client_log::VolatileKeeper;
 use ps_session::{Session, StreamRequest, calls_make_turns, clients_answer_right, clients_are_led};
 use ps_sql_eval::Asker;
 use ps_values::{Memory, Text};
 use std::alloc::Global;
 
 // A client that holds nothing.
-pub fn open_client(alloc: Global) -> Result<Client<SureKeeper>, Memory>
-    ensures { IfOk result (λ client. (state client).kept ≡ nothing_kept) }
+pub fn begin_client(alloc: Global) -> Client<VolatileKeeper>
+    ensures { (state result).kept ≡ nothing_kept }
 {
     let name = Text::from_string(String::new(alloc));
-    match Client::open(alloc, SureKeeper::new(alloc), name) {
-        Ok(client) => Ok(client),
-        Err((_keeper, KeepFault::Memory)) => Err(Memory),
-        Err((_keeper, KeepFault::Failed)) => unreachable!(),
-    }
+    Client::begin(alloc, VolatileKeeper, name)
 }
 
 // The session that a client that holds nothing asks for.
 pub fn open_session(
     alloc: Global,
-    client: &mut Client<SureKeeper>,
+    client: &mut Client<VolatileKeeper>,
     asker: Asker,
 ) -> Result<Session, Memory>
     requires { (state client.old).kept ≡ nothing_kept }

@@ -15,11 +15,11 @@ ghost use Rattle.ps_session.specs.declared.phases.Phase.TheVariants.{Start, Down
 ghost use Rattle.ps_sync.specs.Syncing.{Syncs};
 ghost use Rattle.ps_sync.specs.Turning.{Serves, IsLedIn, IsIdle};
 
-use crate::starting::{open_client, open_session};
+use crate::starting::{begin_client, open_session};
 use crate::turning::{complete, download, take};
 use ps_changes::Shown;
 use ps_client::Client;
-use ps_client_log::SureKeeper;
+use ps_client_log::VolatileKeeper;
 use ps_session::Session;
 use ps_sql_eval::Asker;
 use ps_store::{Store, TakeFault, courses_are_lawful, places_are_fronts};
@@ -31,7 +31,7 @@ fn applied_rows(
     alloc: Global,
     store: &Store,
     session: &mut Session,
-    client: &mut Client<SureKeeper>,
+    client: &mut Client<VolatileKeeper>,
 ) -> Result<Items<Shown>, Memory>
     requires phase { (state_of session.old).phase ≡ Download }
     requires idle { IsIdle (state client.old) }
@@ -52,7 +52,7 @@ fn rows_of(
     alloc: Global,
     store: &Store,
     session: &mut Session,
-    client: &mut Client<SureKeeper>,
+    client: &mut Client<VolatileKeeper>,
 ) -> Result<Items<Shown>, TakeFault>
     requires phase { (state_of session.old).phase ≡ Start }
     requires idle { IsIdle (state client.old) }
@@ -81,10 +81,7 @@ pub fn synced_rows(alloc: Global, store: &Store, asker: Asker) -> Result<Items<S
         → Syncs fixed history (asker_of asker) result }
 {
     courses_are_lawful();
-    let mut client = match open_client(alloc) {
-        Ok(client) => client,
-        Err(Memory) => return Err(TakeFault::Memory),
-    };
+    let mut client = begin_client(alloc);
     let mut session = match open_session(alloc, &mut client, asker) {
         Ok(session) => session,
         Err(Memory) => return Err(TakeFault::Memory),

@@ -19,7 +19,7 @@ ghost use Rattle.ps_sync.specs.Turning.{Serves, IsLed, IsLedIn, IsIdle, Begins};
 
 use crate::handing::{hand, pass};
 use ps_client::Client;
-use ps_client_log::SureKeeper;
+use ps_client_log::VolatileKeeper;
 use ps_session::{Action, Session, calls_make_turns, clients_are_led};
 use ps_store::{Store, TakeFault, courses_are_lawful, places_are_fronts};
 use ps_values::{Memory, OpId};
@@ -30,7 +30,7 @@ pub fn take(
     alloc: Global,
     store: &Store,
     session: &mut Session,
-    client: &mut Client<SureKeeper>,
+    client: &mut Client<VolatileKeeper>,
 ) -> Result<(), TakeFault>
     requires phase { (state_of session.old).phase ≡ Start }
     requires led { (fixed : FixedSeen) × (history : List EventSeen) × Serves fixed store.now history
@@ -56,7 +56,7 @@ fn read_on(
     alloc: Global,
     store: &Store,
     session: &mut Session,
-    client: &mut Client<SureKeeper>,
+    client: &mut Client<VolatileKeeper>,
     place: usize,
     after: OpId,
     upto: OpId,
@@ -85,7 +85,7 @@ pub fn download(
     alloc: Global,
     store: &Store,
     session: &mut Session,
-    client: &mut Client<SureKeeper>,
+    client: &mut Client<VolatileKeeper>,
 ) -> Result<(), Memory>
     requires phase { (state_of session.old).phase ≡ Download }
     requires led { (fixed : FixedSeen) × (history : List EventSeen) × (asker : AskerSeen) × Serves fixed store.now history
@@ -110,7 +110,7 @@ pub fn download(
 pub fn complete(
     alloc: Global,
     session: &mut Session,
-    client: &mut Client<SureKeeper>,
+    client: &mut Client<VolatileKeeper>,
 ) -> Result<(), Memory>
     requires action { next_action (state_of session.old) ≡ actions.Complete }
     requires idle { IsIdle (state client.old) }
