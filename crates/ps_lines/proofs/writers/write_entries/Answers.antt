@@ -7,11 +7,16 @@ use Rattle.ps_lines.specs.Writing.{entry_json}
 use Rattle.ps_lines.proofs.writers.write_entries.Goals as goal
 
 pub entries-preserved : goal.entries-preserved
-entries-preserved c = record {
-  written = list_goes_on entry_json c.args.entries.now c.entries.entry-index c.entry-item.result c.begin_array.new.self c.entries.writer c.write_entry.new.writer (omega arith) (grind (arith, common_steps)) c.in_ok-write_entry.ensures.value c.entries.invariant.written;
-  sums = All-more (λ entry. entry.sum.0 < 2 ^ 32) c.args.entries.now c.entries.entry-index c.entry-item.result (omega arith) c.entries.invariant.sums (grind (arith, common_steps));
-  counts = All-more (λ entry. entry.count < 2 ^ 64) c.args.entries.now c.entries.entry-index c.entry-item.result (omega arith) c.entries.invariant.counts (grind (arith, common_steps));
-}
+entries-preserved c =
+    let entries = c.args.entries.now in
+    let at = c.entries.entry-index in
+    let entry = c.entry-item.result in
+    let written = c.in_ok-write_entry.ensures in record {
+      written = list_goes_on entry_json entries at entry c.begin_array.new.self c.entries.writer c.write_entry.new.writer
+          (omega arith) (grind (arith, common_steps)) written.value c.entries.invariant.written;
+      sums = All-more (λ entry. entry.sum.0 < 2 ^ 32) entries at entry (omega arith) c.entries.invariant.sums (grind (arith, common_steps));
+      counts = All-more (λ entry. entry.count < 2 ^ 64) entries at entry (omega arith) c.entries.invariant.counts (grind (arith, common_steps));
+    }
 
 pub returns-clause-sums : goal.returns-clause-sums
 returns-clause-sums c =

@@ -9,7 +9,8 @@ use Rattle.ps_lines.proofs.writers.write_ops.Goals as goal
 
 pub ops-preserved : goal.ops-preserved
 ops-preserved c = record {
-  written = list_goes_on op_json c.args.ops.now c.ops.op-index c.op-item.result c.begin_array.new.self c.ops.writer c.write_op.new.writer (omega arith) (grind (arith, common_steps)) c.in_ok-write_op.ensures.value c.ops.invariant.written;
+  written = list_goes_on op_json c.args.ops.now c.ops.op-index c.op-item.result c.begin_array.new.self c.ops.writer c.write_op.new.writer
+      (omega arith) (grind (arith, common_steps)) c.in_ok-write_op.ensures.value c.ops.invariant.written;
   sums = All-more (λ op. checksum op < 2 ^ 32) c.args.ops.now c.ops.op-index c.op-item.result (omega arith) c.ops.invariant.sums (grind (arith, common_steps));
 }
 
