@@ -5,6 +5,7 @@ use Rattle.std.specs.BTreeSet.{BTreeSet}
 use Rattle.std.proofs.lemmas.Bool.{leb-true, leb-false}
 use Rattle.std.proofs.lemmas.List.{take_all}
 use Rattle.ps_values.specs.declared.values.Value.{Value}
+use Rattle.ps_bucket_eval.specs.Buckets.{bucket_name_of}
 use Rattle.ps_bucket_eval.specs.Solving.{inserted, Fits, FitsWith, names_from, is_none, some_empty}
 use Rattle.ps_bucket_eval.proofs.Steps.{named_more, named_past}
 
@@ -46,6 +47,11 @@ fits_empty definition lists room old h within = (sym (ap (inserted old) (none_fr
 -- the names of a vector that is whole
 pub names_whole : (definition : List ℕ) (chosen : List Value) (lists : List (List Value)) → lists ≡ [] → names_from definition chosen lists ≡ names_from definition chosen []
 names_whole definition chosen lists e = ap (names_from definition chosen) e
+
+-- the name of a vector of one value
+pub named_alone : (definition : List ℕ) (room : ℕ) (old new : List (List ℕ)) (values : List Value) (value : Value) (b : Bool) → values ≡ value ∷ [] → Fits room old new (bucket_name_of definition values ∷ []) b
+    → Fits room old new (bucket_name_of definition (value ∷ []) ∷ []) b
+named_alone definition room old new values value b e h = subst (λ (vs : List Value). Fits room old new (bucket_name_of definition vs ∷ []) b) e h
 
 module _ (definition : List ℕ) (chosen : List Value) (values : List Value) (rest : List (List Value)) (room : ℕ) (old now new : List (List ℕ)) (i : ℕ) (value : Value) where
   abbrev each : Value → List (List ℕ)

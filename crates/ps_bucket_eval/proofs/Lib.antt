@@ -6,12 +6,13 @@ mod Definitions
 mod Fitting
 pub mod Members
 mod Placements
-mod Plainness
 pub mod Ranks
 mod Reading
 pub mod Sets
 mod Sides
 mod Solutions
 mod Solved
+mod Starred
 mod Steps
 mod Taking
+mod Written

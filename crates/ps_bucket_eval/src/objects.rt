@@ -40,8 +40,8 @@ fn id_value(alloc: Global, query: &DataQuery, id: &Text, row: &Row) -> Result<Va
     }
 }
 
-/// The data of the object that a query shows for a row.
-#[tactic(auto, unfolding(crate::specs::Shown::content_of))]
+/// The data of the object that a query shows for a row. Where the query shows `*` alone, no column is copied.
+#[tactic(auto, using(crate::proofs::Starred::starred_alone), unfolding(crate::specs::Shown::content_of))]
 pub(crate) fn content(
     alloc: Global,
     query: &DataQuery,
@@ -52,6 +52,9 @@ pub(crate) fn content(
     requires { outputs_have_parameter query.now.outputs ≡ false }
     ensures { IfOk result (λ content. content ≡ content_of (alone id.now row.now) query.now object.now) }
 {
+    if query.star && query.outputs.is_empty() {
+        return document(alloc, object, row.columns());
+    }
     let columns = shown_columns(alloc, query, id, row)?;
     document(alloc, object, columns.as_slice())
 }

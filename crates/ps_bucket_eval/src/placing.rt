@@ -3,6 +3,7 @@ ghost use Rattle.std.specs.List.{list_any};
 ghost use Rattle.ps_rules.specs.declared.branches.Branch.{Branch as BranchData};
 ghost use Rattle.ps_rules.specs.Names.{has_repeated};
 ghost use Rattle.ps_rules.specs.RuleSets.{IsSound, IsSoundQuery, AreRules};
+ghost use Rattle.ps_bucket_eval.specs.Buckets.{bucket_name_of};
 ghost use Rattle.ps_bucket_eval.specs.Shown.{alone};
 ghost use Rattle.ps_bucket_eval.specs.Entries.{RowOf, subkey_of, placed_in, query_entries, definition_entries, entries_of, buckets_of, IsPlaced};
 ghost use Rattle.ps_bucket_eval.specs.Laws.{PlacedWhereItHolds, EntriesRise};
@@ -20,6 +21,7 @@ use ps_rules::{Branch, Definition, Planned, Rules};
 use ps_values::{Items, Memory, Text, Value};
 use std::alloc::Global;
 use std::collections::BTreeSet;
+use std::slice;
 
 /// The entries of a row: for each data query of its table that shows an object for it, and for each vector of parameter
 /// values for which the query's condition holds, the bucket of that vector and the object. They stand in the order of the
@@ -101,7 +103,7 @@ fn place_query(
     let Some(buckets) = buckets(alloc, definition, planned, id, row, room)? else {
         return Err(PlaceFault::TooWide { count: top + 1 });
     };
-    place_in(alloc, planned, &object, table, id, row, buckets, placed)?;
+    place_in(alloc, planned, object, table, id, row, buckets, placed)?;
     Ok(())
 }
 
@@ -109,7 +111,7 @@ fn place_query(
 fn place_in(
     alloc: Global,
     planned: &Planned,
-    object: &Text,
+    object: Text,
     table: &Text,
     id: &Text,
     row: &Row,
@@ -117,18 +119,37 @@ fn place_in(
     placed: &mut Items<Placed>,
 ) -> Result<(), Memory>
     requires { outputs_have_parameter planned.now.query.outputs ≡ false }
-    ensures { OnOk result (placed.new ≡ placed.old ++ map (placed_in planned.now (row_of table.now id.now row.now) object.now) buckets.keys) }
+    ensures { OnOk result (placed.new ≡ placed.old ++ map (placed_in planned.now (row_of table.now id.now row.now) object) buckets.keys) }
 {
     if buckets.is_empty() {
         return Ok(());
     }
-    let content = content(alloc, &planned.query, object, id, row)?;
+    let content = content(alloc, &planned.query, &object, id, row)?;
     let subkey = subkey(alloc, planned.number, table, id)?;
-    push_entries(alloc, planned, object, &subkey, &content, buckets, placed)
+    push_entries(alloc, planned, object, subkey, content, buckets, placed)
 }
 
-// Adds an entry with this key and data for each bucket.
+// Adds an entry with this key and data for each bucket: that of the last bucket takes them, and the others have copies.
 fn push_entries(
+    alloc: Global,
+    planned: &Planned,
+    object: Text,
+    subkey: Text,
+    content: Text,
+    mut buckets: BTreeSet<Text>,
+    placed: &mut Items<Placed>,
+) -> Result<(), Memory>
+    ensures { OnOk result (placed.new ≡ placed.old ++ map (made_in planned.now object subkey content) buckets.keys) }
+{
+    let Some(last) = buckets.pop_last() else {
+        return Ok(());
+    };
+    push_copies(alloc, planned, &object, &subkey, &content, buckets, placed)?;
+    push_entry(alloc, planned, object, subkey, content, last, placed)
+}
+
+// Adds an entry with copies of this key and data for each bucket.
+fn push_copies(
     alloc: Global,
     planned: &Planned,
     object: &Text,
@@ -140,18 +161,37 @@ fn push_entries(
     ensures { OnOk result (placed.new ≡ placed.old ++ map (made_in planned.now object.now subkey.now content.now) buckets.keys) }
 {
     'buckets: for bucket in buckets {
-        let kind = planned.query.kind.copy(alloc)?;
         let id = object.copy(alloc)?;
         let subkey = subkey.copy(alloc)?;
         let content = content.copy(alloc)?;
-        placed.push(Placed {
-            bucket,
-            key: Key { kind, id, subkey },
-            content,
-            number: planned.number,
-        })?;
+        push_entry(alloc, planned, id, subkey, content, bucket, placed)?;
     }
     Ok(())
+}
+
+// Adds an entry.
+fn push_entry(
+    alloc: Global,
+    planned: &Planned,
+    object: Text,
+    subkey: Text,
+    content: Text,
+    bucket: Text,
+    placed: &mut Items<Placed>,
+) -> Result<(), Memory>
+    ensures { OnOk result (placed.new ≡ placed.old ++ made_in planned.now object subkey content bucket ∷ []) }
+{
+    let kind = planned.query.kind.copy(alloc)?;
+    placed.push(Placed {
+        bucket,
+        key: Key {
+            kind,
+            id: object,
+            subkey,
+        },
+        content,
+        number: planned.number,
+    })
 }
 
 // The subkey of a query's entries.
@@ -160,7 +200,10 @@ fn subkey(alloc: Global, number: u32, table: &Text, id: &Text) -> Result<Text, M
     ensures { IfOk result (λ subkey. subkey ≡ subkey_of number (row_of table.now id.now [])) }
 {
     let (table, id) = (table.as_str(), id.as_str());
-    Ok(Text::from_string(format!(in alloc; "{number}/{table}/{id}")?))
+    let room = table.len().saturating_add(id.len()).saturating_add(12);
+    let mut subkey = String::with_capacity(alloc, room)?;
+    write!(subkey, "{number}/{table}/{id}")?;
+    Ok(Text::from_string(subkey))
 }
 
 // The buckets of a query; None where they are more than `room`.
@@ -259,6 +302,9 @@ fn name_lists(
     if has_empty(lists) {
         return Ok(true);
     }
+    if let [values] = lists {
+        return name_each(alloc, definition, values.as_slice(), room, found);
+    }
     let mut chosen = Vec::new(alloc);
     name_vectors(alloc, definition, lists, &mut chosen, room, found)
 }
@@ -278,6 +324,39 @@ fn has_none(values: &Items<Value>) -> bool
     values.is_empty()
 }
 
+// Adds the names of the vectors of one value each; false as soon as the names are more than `room`. No value is copied.
+fn name_each(
+    alloc: Global,
+    definition: &Text,
+    values: &[Value],
+    room: usize,
+    found: &mut BTreeSet<Text>,
+) -> Result<bool, Memory>
+    requires { length found.old.keys ≤ room }
+    ensures { IfOk result (Fits room found.old.keys found.new.keys (names_from definition.now [] (values.now ∷ []))) }
+{
+    'values: for value in values {
+        if !name_vector(alloc, definition, slice::from_ref(value), room, found)? {
+            return Ok(false);
+        }
+    }
+    Ok(true)
+}
+
+// Adds the name of a vector; false where the names are more than `room`.
+fn name_vector(
+    alloc: Global,
+    definition: &Text,
+    values: &[Value],
+    room: usize,
+    found: &mut BTreeSet<Text>,
+) -> Result<bool, Memory>
+    ensures { IfOk result (Fits room found.old.keys found.new.keys (bucket_name_of definition.now values.now ∷ [])) }
+{
+    found.insert(bucket_name(alloc, definition, values)?)?;
+    Ok(found.len() <= room)
+}
+
 // Adds the names of the vectors that begin with the chosen values and go on with one of each list; false as soon as the
 // names are more than `room`.
 fn name_vectors(
@@ -294,8 +373,7 @@ fn name_vectors(
         (names_from definition.now chosen.old.items lists.now)) }
 {
     let [values, ..] = lists else {
-        found.insert(bucket_name(alloc, definition, chosen.as_slice())?)?;
-        return Ok(found.len() <= room);
+        return name_vector(alloc, definition, chosen.as_slice(), room, found);
     };
     let rest = behind_first(lists);
     'values: for value in values.as_slice() {

@@ -1,4 +1,4 @@
-ghost use Rattle.std.specs.Prelude.{◌≡◌, [], false, IfOk, map};
+ghost use Rattle.std.specs.Prelude.{◌≡◌, [], ◌∷◌, false, IfOk, map};
 ghost use Rattle.std.specs.List.{list_any};
 ghost use Rattle.std.specs.BTreeMap.{is_at};
 ghost use Rattle.ps_values.specs.Values.{compare_values};
@@ -70,14 +70,53 @@ fn narrow(
     if !one.name.equals(name) {
         return Ok(values);
     }
-    let set = allowed_by(alloc, one, id, row)?;
     match values {
-        None => Ok(Some(items_of_set(alloc, set)?)),
-        Some(values) => Ok(Some(common(alloc, values, &set)?)),
+        None => Ok(Some(allowed_first(alloc, one, id, row)?)),
+        Some(values) => Ok(Some(allowed_too(alloc, values, one, id, row)?)),
     }
 }
 
-// The values that a match allows its parameter.
+// The values that the first match of a parameter allows it, in order. Of one value there is no set.
+fn allowed_first(alloc: Global, one: &Match, id: &Text, row: &Row) -> Result<Items<Value>, Memory>
+    requires { has_parameter one.now.other ≡ false }
+    ensures { IfOk result (λ values. values ≡ allowed_by_match (alone id.now row.now) one.now) }
+{
+    if one.listed {
+        let set = allowed_by(alloc, one, id, row)?;
+        return items_of_set(alloc, set);
+    }
+    let value = value_on(alloc, &one.other, id, row)?;
+    unless_null(alloc, value)
+}
+
+// A value alone, and none where it is Null.
+fn unless_null(alloc: Global, value: Value) -> Result<Items<Value>, Memory>
+    ensures { IfOk result (λ values. values ≡ gathered [] (value ∷ [])) }
+{
+    let mut values = Items::new(alloc);
+    if value.is_null() {
+        return Ok(values);
+    }
+    values.push(value)?;
+    Ok(values)
+}
+
+// Those of some values that a further match allows too.
+fn allowed_too(
+    alloc: Global,
+    values: Items<Value>,
+    one: &Match,
+    id: &Text,
+    row: &Row,
+) -> Result<Items<Value>, Memory>
+    requires { has_parameter one.now.other ≡ false }
+    ensures { IfOk result (λ both. both ≡ in_common values (allowed_by_match (alone id.now row.now) one.now)) }
+{
+    let set = allowed_by(alloc, one, id, row)?;
+    common(alloc, values, &set)
+}
+
+// The set of values that a match allows its parameter.
 fn allowed_by(alloc: Global, one: &Match, id: &Text, row: &Row) -> Result<BTreeSet<Value>, Memory>
     requires { has_parameter one.now.other ≡ false }
     ensures { IfOk result (λ set. set.keys ≡ allowed_by_match (alone id.now row.now) one.now) }

@@ -6,5 +6,5 @@ use Rattle.ps_bucket_eval.proofs.placing.place_in.Goals as goal
 
 pub returns : goal.returns
 returns c =
-    let same = made_placed c.args.planned.now c.args.table.now c.args.id.now c.args.row.now c.args.object.now c.in_ok-subkey.subkey c.in_ok-content.content c.in_ok-subkey.ensures c.in_ok-content.ensures in
+    let same = made_placed c.args.planned.now c.args.table.now c.args.id.now c.args.row.now c.args.object c.in_ok-subkey.subkey c.in_ok-content.content c.in_ok-subkey.ensures c.in_ok-content.ensures in
     subst (λ (f : List ℕ → Placed). OnOk c.push_entries.result (c.push_entries.new.placed ≡ c.args.placed.now ++ map f c.args.buckets.keys)) same c.push_entries.ensures

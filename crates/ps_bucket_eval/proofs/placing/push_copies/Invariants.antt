@@ -1,6 +1,6 @@
 use Rattle.std.proofs.Common.{◌≡◌, ◌++◌, map}
 use Rattle.ps_bucket_eval.specs.Solving.{made_in}
-use Rattle.ps_bucket_eval.proofs.placing.push_entries.Given as goal
+use Rattle.ps_bucket_eval.proofs.placing.push_copies.Given as goal
 
 -- the entries so far, and the buckets that are left
 abbrev pub invariant-buckets : goal.invariant-buckets
