@@ -5,6 +5,7 @@ mod Choosing
 mod Definitions
 mod Fitting
 pub mod Members
+mod Names
 mod Placements
 pub mod Ranks
 mod Reading
@@ -15,4 +16,3 @@ mod Solved
 mod Starred
 mod Steps
 mod Taking
-mod Written

@@ -1,13 +1,12 @@
 use Rattle.std.proofs.Common.{◌≡◌, ◌++◌, drop}
-use Rattle.json.specs.Tree.{json_tokens}
-use Rattle.serde_json.specs.Written.{outline}
+use Rattle.ps_values.specs.Writing.{value_tokens}
 use Rattle.ps_bucket_eval.specs.Buckets.{array_json}
-use Rattle.ps_bucket_eval.proofs.Written.{tokens_of}
+use Rattle.ps_bucket_eval.proofs.Names.{left_tokens}
 use Rattle.ps_bucket_eval.proofs.naming.write_array.Given as goal
 
--- with the tokens of the values that are left, all are there
+-- what was written, and the values that are left, are all
 abbrev pub invariant-values : goal.invariant-values
 invariant-values l = record {
+  written : l.writer.tokens ++ left_tokens (drop l.value-index l.values) ≡ l.fn.writer.tokens ++ value_tokens (array_json l.values);
   before : l.writer.before ≡ l.fn.writer.before;
-  tokens : l.writer.tokens ++ tokens_of (drop l.value-index l.values) ≡ l.fn.writer.tokens ++ json_tokens (outline (array_json l.values));
 }
