@@ -135,8 +135,8 @@ impl ParameterIndex {
     }
 }
 
-// Whether a parameter query reads a table.
-fn reads_table(definitions: &[Definition], table: &Text) -> bool
+/// Whether a parameter query of definitions reads a table. An index for them drops a row of any other table.
+pub fn reads_table(definitions: &[Definition], table: &Text) -> bool
     ensures { result ≡ is_read definitions.now table.now }
 {
     'definitions: for definition in definitions {
