@@ -1,7 +1,8 @@
 -- The rows that are shown, and lists of them.
-use Rattle.std.proofs.Common.{◌≡◌, ℕ, Bool, true, false, not, ◌&&◌, cond, List, [], ◌∷◌, ◌++◌, Option, Some, None, Ordering, Less, Equal, Greater, filter, fold, refl, sym, ap, ◌∙◌, subst, inl, inr, ◌+◌, ◌<◌, take, get_or, length}
+use Rattle.std.proofs.Common.{◌≡◌, ℕ, Bool, true, false, not, ◌&&◌, cond, List, [], ◌∷◌, ◌++◌, Option, Some, None, Ordering, Less, Equal, Greater, filter, fold, refl, sym, ap, ◌∙◌, subst, inl, inr, ◌+◌, ◌<◌, take, drop, get_or, length, map, arith}
 use Rattle.std.specs.Prelude.{bytes_eq, IfSome, IsSome, option_map}
-use Rattle.std.specs.BTreeMap.{is_at}
+use Rattle.std.specs.Borrow.{Bor}
+use Rattle.std.specs.BTreeMap.{BTreeMap, get, is_at}
 use Rattle.std.specs.Cmp.{IsEquivalence}
 use Rattle.std.specs.Cmp.Lexicographic.{slice_cmp, texts_ties, nat_list_eq_equiv}
 use Rattle.std.specs.FinMap.Entries.{find, below_all, is_sorted}
@@ -11,7 +12,7 @@ use Rattle.std.specs.Map.{lookup, keys_of}
 use Rattle.std.specs.Option.{option_or}
 use Rattle.std.specs.Ordering.{nat_cmp, is_eq, is_lt, eq_by_cmp, ordering_then}
 use Rattle.std.proofs.lemmas.Bool.{cases_Bool, and_parts, and_from}
-use Rattle.std.proofs.lemmas.List.{take_more}
+use Rattle.std.proofs.lemmas.List.{drop_all, drop_more, take_more}
 use Rattle.std.proofs.lemmas.List.Sums.{fold_push}
 use Rattle.std.proofs.lemmas.Map.Keys.{sorted_head, sorted_tail, IsDistinct-head, IsDistinct-tail, IsDistinct-cons, IsDistinct-push}
 use Rattle.ps_values.specs.declared.columns.Column.{Column}
@@ -19,9 +20,12 @@ use Rattle.ps_values.specs.Documents.{document_of}
 use Rattle.ps_changes.specs.declared.changes.Change.{Change}
 use Rattle.ps_changes.specs.declared.shown.Shown.{Shown}
 use Rattle.ps_changes.specs.Source.{Key as Object, key_cmp}
+use Rattle.ps_changes.proofs.Sources.{keys_total}
 use Rattle.ps_client_log.specs.Kept.{Kept, shown_in}
+use Rattle.ps_client_log.specs.Lending.{LentObject, object_at, lent_cmp}
 use Rattle.ps_client_log.specs.Rows.{HeldCopy, Holds, object_of, IsLatestContent, by_object, AreInOrder, row_at}
 use Rattle.ps_client_log.specs.Soundness.{same_row}
+use Rattle.ps_client.specs.Listing.{content_at, row_at_entry}
 use Rattle.ps_client.specs.LocalWrites.{is_of, shown_with}
 use Rattle.ps_client.specs.Taking.{AreHeld}
 use Rattle.ps_client.proofs.ToldEntries.{same_name}
@@ -96,42 +100,99 @@ held_shown kept rows sorted latest all = record {
 
 -- ---- an index of rows
 
-find_lookup : (object : Object) (entries : List (Object × List ℕ)) → find key_cmp object entries ≡ lookup (is_at (key_cmp object)) entries
+pub find_lookup : (object : Object) (entries : List (LentObject × Bor (List ℕ)))
+    → find key_cmp object (map row_at_entry entries) ≡ option_map (λ (content : Bor (List ℕ)). content.now) (lookup (is_at (λ lent. key_cmp object (object_at lent))) entries)
 find_lookup object [] = refl
-find_lookup object (pair ∷ pairs) = ap (cond (eq_by_cmp key_cmp object pair.0) (Some pair.1)) (find_lookup object pairs)
+find_lookup object (pair ∷ pairs) =
+    by (eq_by_cmp key_cmp object (object_at pair.0)) (lookup (is_at (λ lent. key_cmp object (object_at lent))) pairs) (find_lookup object pairs)
+  where
+    by : (b : Bool) (found : Option (Bor (List ℕ))) → find key_cmp object (map row_at_entry pairs) ≡ option_map (λ (content : Bor (List ℕ)). content.now) found
+        → cond b (Some pair.1.now) (find key_cmp object (map row_at_entry pairs)) ≡ option_map (λ (content : Bor (List ℕ)). content.now) (cond b (Some pair.1) found)
+    by true found behind = refl
+    by false found behind = behind
 
-below_each : (object : Object) (entries : List (Object × List ℕ)) → AllByRecursion (λ other. key_cmp object other ≡ Less) (keys_of entries) → below_all key_cmp object entries ≡ true
-below_each object [] all = refl
-below_each object (pair ∷ pairs) all = rw all.0 (below_each object pairs all.1)
+below_each : (lent : LentObject) (entries : List (LentObject × Bor (List ℕ))) → AllByRecursion (λ other. lent_cmp lent other ≡ Less) (keys_of entries)
+    → below_all key_cmp (object_at lent) (map row_at_entry entries) ≡ true
+below_each lent [] all = refl
+below_each lent (pair ∷ pairs) all = ap (λ o. is_lt o && below_all key_cmp (object_at lent) (map row_at_entry pairs)) all.0 ∙ below_each lent pairs all.1
 
-sorted_entries : (entries : List (Object × List ℕ)) → IsStrictlySortedBy key_cmp (keys_of entries) → is_sorted key_cmp entries ≡ true
+sorted_entries : (entries : List (LentObject × Bor (List ℕ))) → IsStrictlySortedBy lent_cmp (keys_of entries) → is_sorted key_cmp (map row_at_entry entries) ≡ true
 sorted_entries [] sorted = refl
 sorted_entries (pair ∷ pairs) sorted =
-    and_from (below_all key_cmp pair.0 pairs) (is_sorted key_cmp pairs)
-    (below_each pair.0 pairs (sorted_head key_cmp pair.0 (keys_of pairs) sorted)) (sorted_entries pairs (sorted_tail key_cmp pair.0 (keys_of pairs) sorted))
+    and_from (below_all key_cmp (object_at pair.0) (map row_at_entry pairs)) (is_sorted key_cmp (map row_at_entry pairs))
+    (below_each pair.0 pairs (sorted_head lent_cmp pair.0 (keys_of pairs) sorted)) (sorted_entries pairs (sorted_tail lent_cmp pair.0 (keys_of pairs) sorted))
 
-pub listed_in_order : (rows : List Shown) (entries : List (Object × List ℕ)) → by_object rows ≡ entries → IsStrictlySortedBy key_cmp (keys_of entries) → AreInOrder rows
+pub listed_in_order : (rows : List Shown) (entries : List (LentObject × Bor (List ℕ))) → by_object rows ≡ map row_at_entry entries
+    → IsStrictlySortedBy lent_cmp (keys_of entries) → AreInOrder rows
 listed_in_order rows entries listed sorted = ap (is_sorted key_cmp) listed ∙ sorted_entries entries sorted
 
-pub listed_same : (rows : List Shown) (entries : List (Object × List ℕ)) (object : Object) → by_object rows ≡ entries → row_at object rows ≡ lookup (is_at (key_cmp object)) entries
-listed_same rows entries object listed = ap (find key_cmp object) listed ∙ find_lookup object entries
+pub listed_same : (rows : List Shown) (index : BTreeMap LentObject (Bor (List ℕ))) (object : Object) → by_object rows ≡ map row_at_entry index.entries
+    → row_at object rows ≡ content_at index object
+listed_same rows index object listed = ap (find key_cmp object) listed ∙ find_lookup object index.entries
+
+content_cond : (b : Bool) (content : Bor (List ℕ)) (o : Option (Bor (List ℕ)))
+    → option_map (λ (x : Bor (List ℕ)). x.now) (cond b (Some content) o) ≡ cond b (Some content.now) (option_map (λ (x : Bor (List ℕ)). x.now) o)
+content_cond true content o = refl
+content_cond false content o = refl
+
+-- an object as one that is borrowed, from anywhere
+abbrev lent_as : Object → LentObject
+lent_as object = (record { ref_ptr = (0, 0); now = object.0 }, record { ref_ptr = (0, 0); now = object.1 })
 
 -- one more row is indexed
-pub indexed_more : (rows : List Shown) (i : ℕ) (row : Shown) (own : Object) (content : List ℕ) (object : Object) (old new : Option (List ℕ))
-    → i < length rows → row ≡ get_or rows i row → own.0 ≡ row.kind → own.1 ≡ row.id → content ≡ row.content
-    → new ≡ cond (is_at (key_cmp own) object) (Some content) old → old ≡ shown_in (take i rows) object.0 object.1
-    → new ≡ shown_in (take (i + 1) rows) object.0 object.1
-indexed_more rows i row own content object old new within is kind id same updates before =
-    let key : own ≡ (row.kind, row.id) = λ j. (kind j, id j) in
-    let turned : is_at (key_cmp own) object ≡ is_row object.0 object.1 row =
-    ap (λ (o : Object). is_at (key_cmp o) object) key
-    ∙ then_eq (slice_cmp nat_cmp row.kind object.0) (slice_cmp nat_cmp row.id object.1)
+pub indexed_more : (rows : List Shown) (i : ℕ) (row : Shown) (content : Bor (List ℕ)) (old new : BTreeMap LentObject (Bor (List ℕ))) (object : Object)
+    → i < length rows → row ≡ get_or rows i row
+    → ((q : LentObject) → get lent_cmp new q ≡ cond (is_at (key_cmp (row.kind, row.id)) (object_at q)) (Some content) (get lent_cmp old q))
+    → content.now ≡ row.content → content_at old object ≡ shown_in (take i rows) object.0 object.1
+    → content_at new object ≡ shown_in (take (i + 1) rows) object.0 object.1
+indexed_more rows i row content old new object within is updates same before =
+    let turned : is_at (key_cmp (row.kind, row.id)) object ≡ is_row object.0 object.1 row =
+    then_eq (slice_cmp nat_cmp row.kind object.0) (slice_cmp nat_cmp row.id object.1)
     ∙ (λ j. sym (texts_ties row.kind object.0) j && sym (texts_ties row.id object.1) j)
     ∙ (λ j. nat_list_eq_equiv.symm row.kind object.0 j && nat_list_eq_equiv.symm row.id object.1 j) in
-    updates
+    ap (option_map (λ (x : Bor (List ℕ)). x.now)) (updates (lent_as object))
+    ∙ content_cond (is_at (key_cmp (row.kind, row.id)) object) content (get lent_cmp old (lent_as object))
     ∙ (λ j. cond (turned j) (Some (same j)) (before j))
     ∙ sym (fold_push (step object.0 object.1) None (take i rows) row)
     ∙ ap (λ (all : List Shown). shown_in all object.0 object.1) (ap (λ (x : Shown). take i rows ++ x ∷ []) is ∙ sym (take_more rows i row within))
+
+-- ---- rows that are in order already
+
+less : (o : Ordering) → is_lt o ≡ true → o ≡ Less
+less Less h = refl
+less Equal h = cc
+less Greater h = cc
+
+below_all_more : (a b : Object) (rows : List Shown) → is_lt (key_cmp a b) ≡ true → below_all key_cmp b (by_object rows) ≡ true → below_all key_cmp a (by_object rows) ≡ true
+below_all_more a b [] before below = refl
+below_all_more a b (row ∷ rows) before below =
+    let parts = and_parts (is_lt (key_cmp b (row.kind, row.id))) (below_all key_cmp b (by_object rows)) below in
+    and_from (is_lt (key_cmp a (row.kind, row.id))) (below_all key_cmp a (by_object rows))
+    (ap is_lt (keys_total.trans a b (row.kind, row.id) (less (key_cmp a b) before) (less (key_cmp b (row.kind, row.id)) parts.0)))
+    (below_all_more a b rows before parts.1)
+
+before_next : (row next : Shown) (rest : List Shown) → is_lt (key_cmp (row.kind, row.id) (next.kind, next.id)) ≡ true → AreInOrder (next ∷ rest) → AreInOrder (row ∷ next ∷ rest)
+before_next row next rest before sorted =
+    let parts = and_parts (below_all key_cmp (next.kind, next.id) (by_object rest)) (is_sorted key_cmp (by_object rest)) sorted in
+    and_from (below_all key_cmp (row.kind, row.id) (by_object (next ∷ rest))) (is_sorted key_cmp (by_object (next ∷ rest)))
+    (and_from (is_lt (key_cmp (row.kind, row.id) (next.kind, next.id))) (below_all key_cmp (row.kind, row.id) (by_object rest))
+    before (below_all_more (row.kind, row.id) (next.kind, next.id) rest before parts.0))
+    sorted
+
+pub last_in_order : (rows : List Shown) (place : ℕ) → place + 1 ≡ length rows → AreInOrder (drop place rows)
+last_in_order rows place last =
+    let none : Shown = record { kind = []; id = []; content = [] } in
+    subst AreInOrder
+    (sym (drop_more rows place none (omega (arith, last)) ∙ ap (λ (rest : List Shown). get_or rows place none ∷ rest) (drop_all (place + 1) rows (omega (arith, last))))) refl
+
+pub more_in_order : (rows : List Shown) (place : ℕ) (row next : Shown) → place + 1 < length rows → row ≡ get_or rows place row → next ≡ get_or rows (place + 1) next
+    → is_lt (key_cmp (row.kind, row.id) (next.kind, next.id)) ≡ true → AreInOrder (drop (place + 1) rows) → AreInOrder (drop place rows)
+more_in_order rows place row next within row_is next_is before sorted =
+    let rest : List Shown = drop (place + 1 + 1) rows in
+    let behind : drop (place + 1) rows ≡ next ∷ rest = drop_more rows (place + 1) next within ∙ ap (λ (x : Shown). x ∷ rest) (sym next_is) in
+    let all : drop place rows ≡ row ∷ next ∷ rest =
+    drop_more rows place row (omega (arith, within)) ∙ ap (λ (x : Shown). x ∷ drop (place + 1) rows) (sym row_is) ∙ ap (λ (xs : List Shown). row ∷ xs) behind in
+    subst AreInOrder (sym all) (before_next row next rest before (subst AreInOrder behind sorted))
 
 -- ---- a change of a row
 

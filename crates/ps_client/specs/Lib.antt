@@ -8,3 +8,4 @@ pub mod LocalWrites
 pub mod States
 pub mod Lists
 pub mod Laws
+pub mod Listing

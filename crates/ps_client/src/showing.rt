@@ -1,10 +1,13 @@
-ghost use Rattle.std.specs.Prelude.{◌≡◌, IfOk, filter, not};
-ghost use Rattle.std.specs.BTreeMap.{get, IsOrdered};
+ghost use Rattle.std.specs.Prelude.{◌≡◌, ◌<◌, ◌+◌, IfOk, IsTrue, drop, filter, length, map, not};
+ghost use Rattle.std.specs.BTreeMap.{IsOrdered};
 ghost use Rattle.std.specs.List.{IsDistinct};
+ghost use Rattle.std.specs.Ordering.{is_lt};
 ghost use Rattle.ps_changes.specs.Source.{Key as Object, key_cmp};
 ghost use Rattle.ps_client_log.specs.Kept.{shown_in};
+ghost use Rattle.ps_client_log.specs.Lending.{lent_cmp, row_from};
 ghost use Rattle.ps_client_log.specs.Rows.{by_object, AreInOrder, row_at};
 ghost use Rattle.ps_client_log.specs.Soundness.{same_row};
+ghost use Rattle.ps_client.specs.Listing.{content_at, row_at_entry};
 ghost use Rattle.ps_client.specs.LocalWrites.{is_of, shown_with};
 
 use ps_changes::Change;
@@ -13,34 +16,100 @@ use ps_values::{Items, Memory, Text, document};
 use std::alloc::Global;
 use std::collections::BTreeMap;
 
-// Rows by their objects.
-fn indexed(alloc: Global, rows: &[Shown]) -> Result<BTreeMap<(Text, Text), Text>, Memory>
-    ensures { IfOk result (λ index. (object : Object) → get key_cmp index object ≡ shown_in rows.now object.0 object.1) }
+// A row of copies of its parts.
+fn row_of_parts(alloc: Global, kind: &Text, id: &Text, content: &Text) -> Result<Shown, Memory>
+    ensures { IfOk result (λ row. row ≡ row_from (kind.now, id.now) content.now) }
+{
+    Ok(Shown {
+        kind: kind.copy(alloc)?,
+        id: id.copy(alloc)?,
+        content: content.copy(alloc)?,
+    })
+}
+
+// An equal row.
+fn row_copied(alloc: Global, row: &Shown) -> Result<Shown, Memory>
+    ensures { IfOk result (λ copy. copy ≡ row.now) }
+{
+    row_of_parts(alloc, &row.kind, &row.id, &row.content)
+}
+
+// Equal rows.
+fn rows_copied(alloc: Global, rows: &[Shown]) -> Result<Items<Shown>, Memory>
+    ensures { IfOk result (λ copies. copies ≡ rows.now) }
+{
+    let mut copies = Vec::with_capacity(alloc, rows.len())?;
+    'rows: for row in rows {
+        copies.push(row_copied(alloc, row)?)?;
+    }
+    Ok(Items::from_vec(copies))
+}
+
+// Whether a row comes before another by kind and id.
+fn comes_before(row: &Shown, next: &Shown) -> bool
+    ensures { result ≡ is_lt (key_cmp (row.now.kind, row.now.id) (next.now.kind, next.now.id)) }
+{
+    row.kind.cmp(&next.kind).then(row.id.cmp(&next.id)).is_lt()
+}
+
+// Whether the row at a place comes before the next one, where there is one.
+fn is_in_place(rows: &[Shown], place: usize) -> bool
+    requires { place < length rows.now }
+    ensures { IsTrue result → AreInOrder (drop (place + 1) rows.now) → AreInOrder (drop place rows.now) }
+{
+    let is_last = place + 1 == rows.len();
+    if is_last {
+        return true;
+    }
+    let row = &rows[place];
+    let next = &rows[place + 1];
+    comes_before(row, next)
+}
+
+// Whether rows are in order.
+fn are_in_order(rows: &[Shown]) -> bool
+    ensures { IsTrue result → AreInOrder rows.now }
+{
+    'places: for place in (0..rows.len()).rev() {
+        if !is_in_place(rows, place) {
+            return false;
+        }
+    }
+    true
+}
+
+// Rows by their objects, of which nothing is copied.
+fn indexed<'a>(
+    alloc: Global,
+    rows: &'a [Shown],
+) -> Result<BTreeMap<(&'a Text, &'a Text), &'a Text>, Memory>
+    ensures { IfOk result (λ index. (object : Object) → content_at index object ≡ shown_in rows.now object.0 object.1) }
 {
     let mut index = BTreeMap::new(alloc);
     'rows: for row in rows {
-        let object = (row.kind.copy(alloc)?, row.id.copy(alloc)?);
-        let content = row.content.copy(alloc)?;
-        index.insert(object, content)?;
+        let object = (&row.kind, &row.id);
+        index.insert(object, &row.content)?;
     }
     Ok(index)
 }
 
 // The rows of an index, in its order.
-fn listed(alloc: Global, index: BTreeMap<(Text, Text), Text>) -> Result<Items<Shown>, Memory>
-    ensures rows { IfOk result (λ rows. by_object rows ≡ index.entries) }
-    ensures ordered { IsOrdered key_cmp index }
+fn listed<'a>(
+    alloc: Global,
+    index: BTreeMap<(&'a Text, &'a Text), &'a Text>,
+) -> Result<Items<Shown>, Memory>
+    ensures rows { IfOk result (λ rows. by_object rows ≡ map row_at_entry index.entry.entries) }
+    ensures ordered { IsOrdered lent_cmp index.entry }
 {
-    let _count = index.len();
-    let mut rows = Items::new(alloc);
+    let mut rows = Vec::with_capacity(alloc, index.len())?;
     'rows: for ((kind, id), content) in index {
-        rows.push(Shown { kind, id, content })?;
+        rows.push(row_of_parts(alloc, kind, id, content)?)?;
     }
-    Ok(rows)
+    Ok(Items::from_vec(rows))
 }
 
-/// Copies of rows, in the order of kind and id.
-pub fn rows_in_order(alloc: Global, rows: &[Shown]) -> Result<Items<Shown>, Memory>
+// Copies of rows, put in the order of kind and id.
+fn rows_sorted(alloc: Global, rows: &[Shown]) -> Result<Items<Shown>, Memory>
     ensures in_order { IfOk result AreInOrder }
     ensures same { IfOk result (λ listed. (object : Object) → row_at object listed ≡ shown_in rows.now object.0 object.1) }
 {
@@ -48,15 +117,16 @@ pub fn rows_in_order(alloc: Global, rows: &[Shown]) -> Result<Items<Shown>, Memo
     listed(alloc, index)
 }
 
-// An equal row.
-fn row_copied(alloc: Global, row: &Shown) -> Result<Shown, Memory>
-    ensures { IfOk result (λ copy. copy ≡ row.now) }
+/// Copies of rows, in the order of kind and id.
+pub fn rows_in_order(alloc: Global, rows: &[Shown]) -> Result<Items<Shown>, Memory>
+    ensures in_order { IfOk result AreInOrder }
+    ensures same { IfOk result (λ listed. (object : Object) → row_at object listed ≡ shown_in rows.now object.0 object.1) }
 {
-    Ok(Shown {
-        kind: row.kind.copy(alloc)?,
-        id: row.id.copy(alloc)?,
-        content: row.content.copy(alloc)?,
-    })
+    // Those of a checkpoint are in order as they are shown.
+    if are_in_order(rows) {
+        return rows_copied(alloc, rows);
+    }
+    rows_sorted(alloc, rows)
 }
 
 // Whether a row is the one that a change is of.

@@ -1,4 +1,4 @@
-use Rattle.std.proofs.Common.{◌≡◌, ◌∷◌, ℕ, List, [], false, true, arith, ap, ◌∙◌}
+use Rattle.std.proofs.Common.{◌≡◌, ◌∷◌, ℕ, List, [], false, true, arith, ◌∙◌}
 use Rattle.ps_values.specs.declared.values.Value.{Value}
 use Rattle.ps_bucket_eval.specs.Buckets.{bucket_name_of}
 use Rattle.ps_bucket_eval.proofs.Steps.{named_more, named_past}
