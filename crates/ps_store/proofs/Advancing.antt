@@ -6,9 +6,11 @@ use Rattle.ps_store.specs.declared.reach.End.{End}
 use Rattle.ps_store.specs.declared.rows.Rows.{Rows}
 use Rattle.ps_changes.specs.Source.{Key}
 use Rattle.ps_rules.specs.declared.definitions.Definition.{Definition}
+use Rattle.ps_params.specs.Indexes.{is_read}
 use Rattle.ps_params.specs.Notes.{Note, SameFrom}
+use Rattle.ps_values.specs.declared.columns.Column.{Column}
 use Rattle.ps_store.specs.declared.plans.Made.{Made}
-use Rattle.ps_store.specs.Noting.{noted, with_note}
+use Rattle.ps_store.specs.Noting.{noted, row_noted, with_note}
 use Rattle.ps_store.specs.Originals.{Timed, key_of}
 use Rattle.ps_store.specs.Rows.{has_place}
 use Rattle.ps_store.specs.Reach.{Reached, settled_from, settled}
@@ -136,11 +138,22 @@ end_push (x ∷ es) e p = end_push es e x.position.0
 
 -- ---- rows and notes that come with changes
 
-pub rows_front : (n : ℕ) (ms : List Made) (ts : List Timed) → AreRowsOf ms (take n ts) → AreRowsOf ms ts
-rows_front n [] ts h = tt
-rows_front zero (m ∷ ms) ts h = absurd h
-rows_front (suc n) (m ∷ ms) [] h = absurd h
-rows_front (suc n) (m ∷ ms) (t ∷ ts) h = (h.0, rows_front n ms ts h.1)
+pub rows_front : (definitions : List Definition) (n : ℕ) (ms : List Made) (ts : List Timed) → AreRowsOf definitions ms (take n ts) → AreRowsOf definitions ms ts
+rows_front definitions n [] ts h = tt
+rows_front definitions zero (m ∷ ms) ts h = absurd h
+rows_front definitions (suc n) (m ∷ ms) [] h = absurd h
+rows_front definitions (suc n) (m ∷ ms) (t ∷ ts) h = (h.0, rows_front definitions n ms ts h.1)
+
+-- a note is the same by the row that is noted
+pub noted_by : (definitions : List Definition) (notes : List Note) (t : Timed) (note : Note) → note.at ≡ t.position → note.table ≡ t.change.table → note.id ≡ t.change.id → note.row ≡ row_noted definitions t
+    → with_note definitions notes note ≡ with_note definitions notes (noted t)
+noted_by definitions notes t note at table id is =
+    ap (with_note definitions notes) (λ i. record { at = at i; table = table i; id = id i; row = note.row }) ∙ by (is_read definitions t.change.table) note.row is
+  where
+    by : (b : Bool) (row : Option (List Column)) → row ≡ (if b then t.change.row else None)
+        → (if b then notes ++ (record { at = t.position; table = t.change.table; id = t.change.id; row = row }) ∷ [] else notes) ≡ (if b then notes ++ noted t ∷ [] else notes)
+    by true row e = ap (λ (r : Option (List Column)). notes ++ (record { at = t.position; table = t.change.table; id = t.change.id; row = r }) ∷ []) e
+    by false row e = refl
 
 pub notes_append : (definitions : List Definition) (notes : List Note) (xs ys : List Timed) → notes_after definitions notes (xs ++ ys) ≡ notes_after definitions (notes_after definitions notes xs) ys
 notes_append definitions notes [] ys = refl

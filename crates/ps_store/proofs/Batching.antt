@@ -92,7 +92,7 @@ module _ (fixed : Fixed) (old : Store) (history : List Event) (h : StoreStandsFo
     pub fill_count : length planned.plan.made.items ≤ length mid.tail.changes.items
     fill_count = counted old l h.stands entries_low limit planned is_run mid same
 
-    pub fill_rows : AreRowsOf planned.plan.made.items mid.tail.changes.items
+    pub fill_rows : AreRowsOf mid.index.rules.definitions planned.plan.made.items mid.tail.changes.items
     fill_rows = rows_are_there old l h.stands entries_low limit planned is_run mid same
 
     pub fill_rise : NotFalling mid.index.last mid.tail.changes.items

@@ -5,6 +5,7 @@ use Rattle.std.specs.FinMap.Entries.{find}
 use Rattle.std.specs.Ordering.{eq_by_cmp}
 use Rattle.std.proofs.lemmas.Bool.Decides.{nat_tests}
 use Rattle.ps_changes.specs.Source.{Key, key_cmp}
+use Rattle.ps_rules.specs.declared.definitions.Definition.{Definition}
 use Rattle.ps_rules.specs.RuleSets.{RuleSet}
 use Rattle.ps_bucket_eval.specs.declared.placed.Placed.{Placed}
 use Rattle.ps_store.specs.declared.fixed.Limits.{Limits}
@@ -14,6 +15,7 @@ use Rattle.ps_store.specs.declared.plans.Refusal.{Refusal}
 use Rattle.ps_store.specs.declared.plans.Refusal.TheVariants.{TooWide, OpsFull}
 use Rattle.ps_store.specs.declared.rows.Rows.{Rows}
 use Rattle.ps_store.specs.Ledgers.{Ledger, entries_after, next_ops, write_next}
+use Rattle.ps_store.specs.Noting.{row_noted}
 use Rattle.ps_store.specs.Originals.{Entered, Timed, key_of, after, entries_at, columns_of, standing_entries, removed, put, leaving, numbered}
 use Rattle.ps_store.specs.Plans.{PlanStands, seen_at}
 use Rattle.ps_store.specs.Runs.{refusal_of, ops_from, lasts_from}
@@ -45,11 +47,12 @@ length_map : {A B : Type 0} (f : A → B) (xs : List A) → length (map f xs) �
 length_map f [] = refl
 length_map f (x ∷ xs) = ap suc (length_map f xs)
 
-rows_push : (ms : List Made) (ts : List Timed) (m : Made) (t : Timed) → length ms ≡ length ts → AreRowsOf ms ts → m.row ≡ t.change.row → AreRowsOf (ms ++ m ∷ []) (ts ++ t ∷ [])
-rows_push [] [] m t e h same = (same, tt)
-rows_push [] (x ∷ ts) m t e h same = absurd (omega (arith, e))
-rows_push (y ∷ ms) [] m t e h same = absurd (omega (arith, e))
-rows_push (y ∷ ms) (x ∷ ts) m t e h same = (h.0, rows_push ms ts m t (omega (arith, e)) h.1 same)
+rows_push : (definitions : List Definition) (ms : List Made) (ts : List Timed) (m : Made) (t : Timed) → length ms ≡ length ts → AreRowsOf definitions ms ts → m.row ≡ row_noted definitions t
+    → AreRowsOf definitions (ms ++ m ∷ []) (ts ++ t ∷ [])
+rows_push definitions [] [] m t e h same = (same, tt)
+rows_push definitions [] (x ∷ ts) m t e h same = absurd (omega (arith, e))
+rows_push definitions (y ∷ ms) [] m t e h same = absurd (omega (arith, e))
+rows_push definitions (y ∷ ms) (x ∷ ts) m t e h same = (h.0, rows_push definitions ms ts m t (omega (arith, e)) h.1 same)
 
 module _ (limits : Limits) (rules : RuleSet) (base : Ledger) (ts : List Timed) (t : Timed) (rules_are : base.force.rules ≡ rules) where
   abbrev now : Ledger
@@ -104,7 +107,7 @@ module _ (limits : Limits) (rules : RuleSet) (base : Ledger) (ts : List Timed) (
     -- the plan with the change
     pub stands_more : (new : Plan) (made : Made)
         → ((other : Key) → seen_at rules.definitions new rows other ≡ (if eq_by_cmp key_cmp other key then left else seen_at rules.definitions old rows other))
-        → made.last.0 ≡ old.last.0 + (length gone + length left) → made.row ≡ t.change.row → new.last ≡ made.last
+        → made.last.0 ≡ old.last.0 + (length gone + length left) → made.row ≡ row_noted rules.definitions t → new.last ≡ made.last
         → new.entered.items ≡ old.entered.items ++ (numbered removed (old.last.0 + 1) gone ++ numbered put (old.last.0 + 1 + length gone) left)
         → new.made.items ≡ old.made.items ++ made ∷ []
         → PlanStands rules rows new base (ts ++ t ∷ [])
@@ -128,7 +131,7 @@ module _ (limits : Limits) (rules : RuleSet) (base : Ledger) (ts : List Timed) (
               ∙ ap (λ ns. ns ++ made.last.0 ∷ []) h.lasts
               ∙ ap (λ n. lasts_from base ts ++ n ∷ []) last_is
               ∙ sym (lasts_push ts t base);
-          rows_are = subst (λ (ms : List Made). AreRowsOf ms (ts ++ t ∷ [])) (sym made_is) (rows_push old.made.items ts made t count h.rows_are row);
+          rows_are = subst (λ (ms : List Made). AreRowsOf rules.definitions ms (ts ++ t ∷ [])) (sym made_is) (rows_push rules.definitions old.made.items ts made t count h.rows_are row);
         }
       where
         there : (other : Key) → eq_by_cmp key_cmp other (key_of t) ≡ true → left ≡ entries_at rules.definitions other t.change.row

@@ -212,8 +212,12 @@ module _ (old : Store) (l : Ledger) (h : Stands old l) (usual : old.fixed.limits
     counted = omega (arith, count_is, n_within, ap length tail_is)
 
     -- with their rows
-    pub rows_are_there : AreRowsOf planned.plan.made.items mid.tail.changes.items
-    rows_are_there = subst (AreRowsOf planned.plan.made.items) (sym tail_is) (rows_front run.count planned.plan.made.items (unwritten l) (subst (AreRowsOf planned.plan.made.items) ts_are is_run.plan.rows_are))
+    pub rows_are_there : AreRowsOf mid.index.rules.definitions planned.plan.made.items mid.tail.changes.items
+    rows_are_there =
+        let rules_same : old.fixed.rules ≡ mid.index.rules = sym (same.index_rules ∙ h.index.rules ∙ h.rules) in
+        let there : AreRowsOf old.fixed.rules.definitions planned.plan.made.items ts = subst (AreRowsOf old.fixed.rules.definitions planned.plan.made.items) ts_are is_run.plan.rows_are in
+        subst (λ (r : RuleSet). AreRowsOf r.definitions planned.plan.made.items mid.tail.changes.items) rules_same
+        (subst (AreRowsOf old.fixed.rules.definitions planned.plan.made.items) (sym tail_is) (rows_front old.fixed.rules.definitions run.count planned.plan.made.items (unwritten l) there))
 
     module _ (new : Store) (filled : IsFilled mid planned.plan new) where
       abbrev after : Ledger

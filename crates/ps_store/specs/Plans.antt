@@ -37,7 +37,7 @@ pub record PlanStands (rules : RuleSet) (rows : Rows) (plan : Plan) (base : Ledg
   pub last : plan.last.0 ≡ (fold write_next base ts).last
   pub entered : plan.entered.items ≡ ops_from base ts
   pub lasts : ids plan.made.items ≡ lasts_from base ts
-  pub rows_are : AreRowsOf plan.made.items ts
+  pub rows_are : AreRowsOf rules.definitions plan.made.items ts
 
 -- the plan is that of a run over changes
 pub record IsRun (rules : RuleSet) (rows : Rows) (base : Ledger) (planned : Planned) (ts : List Timed) (run : Run) : Type 0 where

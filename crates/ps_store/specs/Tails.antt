@@ -11,7 +11,7 @@ use Rattle.ps_store.specs.declared.rows.Rows.{Rows}
 use Rattle.ps_store.specs.declared.tails.Tail.{Tail}
 use Rattle.ps_store.specs.declared.plans.Made.{Made}
 use Rattle.ps_store.specs.Originals.{Timed, key_of}
-use Rattle.ps_store.specs.Noting.{noted, with_note}
+use Rattle.ps_store.specs.Noting.{noted, row_noted, with_note}
 use Rattle.ps_store.specs.Rows.{has_place}
 use Rattle.ps_store.specs.Reach.{Reached, settled}
 
@@ -86,11 +86,11 @@ notes_after definitions notes (t ∷ ts) = notes_after definitions (with_note de
 abbrev pub ids : List Made → List ℕ
 ids made = map (λ (m : Made). m.last.0) made
 
--- with each change comes its row
-abbrev pub AreRowsOf : List Made → List Timed → Type 0
-AreRowsOf [] ts = Unit {0}
-AreRowsOf (m ∷ ms) [] = ⊥
-AreRowsOf (m ∷ ms) (t ∷ ts) = (m.row ≡ t.change.row) × AreRowsOf ms ts
+-- with each change comes the row that is noted
+abbrev pub AreRowsOf : List Definition → List Made → List Timed → Type 0
+AreRowsOf definitions [] ts = Unit {0}
+AreRowsOf definitions (m ∷ ms) [] = ⊥
+AreRowsOf definitions (m ∷ ms) (t ∷ ts) = (m.row ≡ row_noted definitions t) × AreRowsOf definitions ms ts
 
 -- for how many more changes there is room
 abbrev pub feed_room : Tail → ℕ

@@ -8,6 +8,7 @@ ghost use Rattle.ps_rules.specs.RuleSets.{RuleSet};
 ghost use Rattle.ps_bucket_eval.specs.Entries.{IsPlaced};
 ghost use Rattle.ps_store.specs.Ledgers.{Ledger, write_next};
 ghost use Rattle.ps_store.specs.Limits.{AreWithin};
+ghost use Rattle.ps_store.specs.Noting.{row_noted};
 ghost use Rattle.ps_store.specs.Originals.{Timed, columns_of, entries_at as entries_of_key, removed, put, leaving as leaving_of, numbered};
 ghost use Rattle.ps_store.specs.Plans.{PlanStands, IsStart, IsRun, with_change, seen_at};
 ghost use Rattle.ps_store.specs.Rows.{row_at, AreNarrow};
@@ -23,6 +24,7 @@ use ps_bucket_eval::{PlaceFault, Placed, entries_of_row};
 use ps_bucket_log::Op;
 use ps_changes::Row;
 use ps_checksum::{put_sum, remove_sum};
+use ps_params::reads_table;
 use ps_values::{Items, Memory, OpId};
 use std::alloc::Global;
 use std::collections::{BTreeMap, VecDeque};
@@ -36,7 +38,7 @@ pub(crate) enum Refusal {
     OpsFull,
 }
 
-/// What a change makes besides its operations: the last id after it, and its row a second time.
+/// What a change makes besides its operations: the last id after it, and its row a second time where it is noted.
 #[derive(Drop)]
 pub(crate) struct Made {
     pub(crate) last: OpId,
@@ -310,7 +312,7 @@ impl Plan {
         if !has_ids(&fixed.limits, self.last, gone.len(), after.len()) {
             return Ok(Some(Refusal::OpsFull));
         }
-        let row = waiting.row(alloc)?;
+        let row = row_to_note(alloc, fixed, waiting)?;
         let copies = copied(alloc, after.as_slice())?;
         let last = self.enter(gone, copies)?;
         self.see(key, after)?;
@@ -318,6 +320,16 @@ impl Plan {
         self.last = last;
         Ok(None)
     }
+}
+
+// An equal row of what a change leaves, where a parameter query reads its table. The index drops a row of any other.
+fn row_to_note(alloc: Global, fixed: &Fixed, waiting: &Waiting) -> Result<Option<Row>, Memory>
+    ensures { IfOk result (λ row. row ≡ row_noted fixed.now.rules.definitions waiting.now) }
+{
+    if !reads_table(fixed.rules.definitions(), &waiting.change().table) {
+        return Ok(None);
+    }
+    waiting.row(alloc)
 }
 
 // Whether so many ids are left.

@@ -171,7 +171,7 @@ impl Store {
         requires tied { Tied self.old.tail.changes.items (reached self.old.tail.reach) }
         requires count { length plan.made.items ≤ length self.old.tail.changes.items }
         requires places { HasPlaces self.old.rows (take (length plan.made.items) self.old.tail.changes.items) }
-        requires rows_are { AreRowsOf plan.made.items self.old.tail.changes.items }
+        requires rows_are { AreRowsOf self.old.index.rules.definitions plan.made.items self.old.tail.changes.items }
         requires notes { length plan.made.items ≤ self.old.index.spare }
         requires rise { NotFalling self.old.index.last self.old.tail.changes.items }
         requires rising { AreRising (log_at self.old.logs) }

@@ -5,7 +5,7 @@ ghost use Rattle.ps_changes.specs.Source.{Key};
 ghost use Rattle.ps_store.specs.Ledgers.{timed_of, end_of};
 ghost use Rattle.ps_store.specs.Originals.{timed_from, key_of};
 ghost use Rattle.ps_store.specs.Rows.{row_at, has_place};
-ghost use Rattle.ps_store.specs.Noting.{noted, with_note};
+ghost use Rattle.ps_store.specs.Noting.{noted, row_noted, with_note};
 ghost use Rattle.ps_store.specs.Reach.{reached, settled, end_room};
 ghost use Rattle.ps_store.specs.Tails.{Tied, HasPlaces, NotFalling, Ascend, AreRowsOf, ids, reach_after, with_row, rows_after, notes_after, feed_room};
 
@@ -111,7 +111,7 @@ pub(crate) fn advance(tail: &mut Tail, rows: &mut Rows, index: &mut ParameterInd
     requires tied { Tied tail.old.changes.items (reached tail.old.reach) }
     requires count { length made.items ≤ length tail.old.changes.items }
     requires places { HasPlaces rows.old (take (length made.items) tail.old.changes.items) }
-    requires rows_are { AreRowsOf made.items tail.old.changes.items }
+    requires rows_are { AreRowsOf index.old.rules.definitions made.items tail.old.changes.items }
     requires room { length made.items ≤ index.old.spare }
     requires rise { NotFalling index.old.last tail.old.changes.items }
     ensures changes { tail.new.changes.items ≡ drop (length made.items) tail.old.changes.items }
@@ -130,12 +130,12 @@ pub(crate) fn advance(tail: &mut Tail, rows: &mut Rows, index: &mut ParameterInd
     }
 }
 
-// Writes a change into the rows and the index, where its row comes a second time. Takes no memory.
+// Writes a change into the rows and the index, where the row that is noted comes a second time. Takes no memory.
 fn advance_one(rows: &mut Rows, index: &mut ParameterIndex, waiting: Waiting, row: Option<Row>)
     requires place { has_place rows.old (key_of waiting) ≡ true }
     requires room { 1 ≤ index.old.spare }
     requires rises { index.old.last ≤ waiting.position }
-    requires row_is { row ≡ waiting.change.row }
+    requires row_is { row ≡ row_noted index.old.rules.definitions waiting }
     ensures rows { (key : Key) → row_at rows.new key ≡ with_row (row_at rows.old) waiting key }
     ensures places { (key : Key) → has_place rows.new key ≡ has_place rows.old key }
     ensures index_rules { index.new.rules ≡ index.old.rules }

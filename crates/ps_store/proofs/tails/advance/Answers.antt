@@ -1,5 +1,6 @@
 use Rattle.std.proofs.Common.{◌≡◌, ℕ, suc, ◌≤◌, Option, List, ◌∷◌, sym, ap, ◌∙◌, subst, length, take, drop, arith}
 use Rattle.ps_changes.specs.Source.{Key, Version}
+use Rattle.ps_rules.specs.declared.definitions.Definition.{Definition}
 use Rattle.ps_rules.specs.RuleSets.{RuleSet}
 use Rattle.ps_params.specs.Notes.{Note}
 use Rattle.ps_store.specs.declared.plans.Made.{Made}
@@ -24,14 +25,16 @@ steps-preserved c =
     let front : take (length c.steps.one-iterator.rest.items) old ≡ t ∷ take (length rest) left =
     ap (λ n. take n old) count ∙ ap (λ (ts : List Timed). take (suc (length rest)) ts) changes_are in
     let places : HasPlaces c.steps.rows (t ∷ take (length rest) left) = subst (HasPlaces c.steps.rows) front i.places in
-    let rows_are : AreRowsOf (c.in-Some.one ∷ rest) (t ∷ left) = subst (λ (ts : List Timed). AreRowsOf (c.in-Some.one ∷ rest) ts) changes_are (subst (λ (ms : List Made). AreRowsOf ms old) made_are i.rows_are) in
+    let definitions : List Definition = c.steps.index.rules.definitions in
+    let rows_are : AreRowsOf definitions (c.in-Some.one ∷ rest) (t ∷ left) =
+    subst (λ (ts : List Timed). AreRowsOf definitions (c.in-Some.one ∷ rest) ts) changes_are (subst (λ (ms : List Made). AreRowsOf definitions ms old) made_are i.rows_are) in
     let rise : NotFalling c.steps.index.last (t ∷ left) = subst (NotFalling c.steps.index.last) changes_are i.rise in
     let rows : row_at c.advance_one.new.rows ≡ with_row (row_at c.steps.rows) t = λ j q. c.advance_one.ensures.rows q j in
     record {
       tied = c.next-waiting.ensures.tied;
       count = omega (arith, i.count, count, ap length changes_are);
       places = places_along (take (length rest) left) c.steps.rows c.advance_one.new.rows (λ q. c.advance_one.ensures.places q) places.1;
-      rows_are = rows_are.1;
+      rows_are = subst (λ (r : RuleSet). AreRowsOf r.definitions rest left) (sym c.advance_one.ensures.index_rules) rows_are.1;
       room = omega (arith, i.room, count, c.advance_one.ensures.index_room);
       rise = subst (λ n. NotFalling n left) (sym c.advance_one.ensures.index_last) rise.1;
       changes = ap (λ (ts : List Timed). drop (suc (length rest)) ts) (sym changes_are) ∙ ap (λ n. drop n old) (sym count) ∙ i.changes;

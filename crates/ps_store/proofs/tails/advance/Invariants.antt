@@ -11,7 +11,7 @@ invariant-steps l = record {
   tied : Tied l.tail.changes.items (reached l.tail.reach);
   count : length l.one-iterator.rest.items ≤ length l.tail.changes.items;
   places : HasPlaces l.rows (take (length l.one-iterator.rest.items) l.tail.changes.items);
-  rows_are : AreRowsOf l.one-iterator.rest.items l.tail.changes.items;
+  rows_are : AreRowsOf l.index.rules.definitions l.one-iterator.rest.items l.tail.changes.items;
   room : length l.one-iterator.rest.items ≤ l.index.spare;
   rise : NotFalling l.index.last l.tail.changes.items;
   changes : drop (length l.one-iterator.rest.items) l.tail.changes.items ≡ drop (length l.fn.made.items) l.fn.tail.changes.items;
