@@ -1,9 +1,10 @@
 -- One more change in a plan.
-use Rattle.std.proofs.Common.{◌≡◌, ℕ, suc, ◌+◌, ◌≤◌, ◌<◌, Bool, true, false, cond, Option, Some, None, List, [], ◌∷◌, ◌++◌, refl, sym, ap, ◌∙◌, subst, length, map, fold, append_assoc, length-append, arith}
+use Rattle.std.proofs.Common.{◌≡◌, ℕ, suc, ◌+◌, ◌≤◌, ◌<◌, Bool, true, false, not, cond, Option, Some, None, List, [], ◌∷◌, ◌++◌, refl, sym, ap, ◌∙◌, subst, length, map, take, fold, get_or, append_assoc, append-nil, length-append, arith}
 use Rattle.std.specs.Prelude.{if◌then◌else◌, nat_lt}
 use Rattle.std.specs.FinMap.Entries.{find}
 use Rattle.std.specs.Ordering.{eq_by_cmp}
 use Rattle.std.proofs.lemmas.Bool.Decides.{nat_tests}
+use Rattle.std.proofs.lemmas.List.Elements.{filter_more}
 use Rattle.ps_changes.specs.Source.{Key, key_cmp}
 use Rattle.ps_rules.specs.declared.definitions.Definition.{Definition}
 use Rattle.ps_rules.specs.RuleSets.{RuleSet}
@@ -16,8 +17,10 @@ use Rattle.ps_store.specs.declared.plans.Refusal.TheVariants.{TooWide, OpsFull}
 use Rattle.ps_store.specs.declared.rows.Rows.{Rows}
 use Rattle.ps_store.specs.Ledgers.{Ledger, entries_after, next_ops, write_next}
 use Rattle.ps_store.specs.Noting.{row_noted}
-use Rattle.ps_store.specs.Originals.{Entered, Timed, key_of, after, entries_at, columns_of, standing_entries, removed, put, leaving, numbered}
-use Rattle.ps_store.specs.Plans.{PlanStands, seen_at}
+use Rattle.ps_store.specs.Originals.{Entered, Timed, key_of, after, entries_at, columns_of, standing_entries, stays, removed, put, leaving, numbered}
+use Rattle.ps_store.specs.Places.{Place, place_of, is_taken, places_left, removed_all}
+use Rattle.ps_store.specs.Plans.{PlanStands, IsStart, seen_at}
+use Rattle.ps_store.specs.Rows.{row_at}
 use Rattle.ps_store.specs.Runs.{refusal_of, ops_from, lasts_from}
 use Rattle.ps_store.specs.Tails.{ids, AreRowsOf}
 use Rattle.ps_store.proofs.Lanes.{fold_push, length_lasts, ops_push, lasts_push, next_rules, length_numbered}
@@ -54,6 +57,54 @@ rows_push definitions [] (x ∷ ts) m t e h same = absurd (omega (arith, e))
 rows_push definitions (y ∷ ms) [] m t e h same = absurd (omega (arith, e))
 rows_push definitions (y ∷ ms) (x ∷ ts) m t e h same = (h.0, rows_push definitions ms ts m t (omega (arith, e)) h.1 same)
 
+-- ---- places of entries
+
+-- what leaves by places is what leaves by entries
+left_by_places : (before after : List Placed) → places_left (map place_of before) after ≡ map place_of (leaving before after)
+left_by_places [] after = refl
+left_by_places (x ∷ before) after = by (stays after x)
+  where
+    by : (b : Bool) → cond (not b) (place_of x ∷ places_left (map place_of before) after) (places_left (map place_of before) after) ≡ map place_of (cond (not b) (x ∷ leaving before after) (leaving before after))
+    by true = left_by_places before after
+    by false = ap (λ ps. place_of x ∷ ps) (left_by_places before after)
+
+-- one more place is looked for
+left_more : (after : List Placed) (before : List Place) (i : ℕ) (x : Place) → i < length before → x ≡ get_or before i x
+    → places_left (take (i + 1) before) after ≡ places_left (take i before) after ++ cond (not (is_taken after x)) (x ∷ []) []
+left_more after before i x within is =
+    filter_more (λ place. not (is_taken after place)) before i x within ∙ ap (λ y. places_left (take i before) after ++ cond (not (is_taken after y)) (y ∷ []) []) (sym is)
+
+pub left_taken : (after : List Placed) (before : List Place) (i : ℕ) (x : Place) → i < length before → x ≡ get_or before i x → is_taken after x ≡ true
+    → places_left (take i before) after ≡ places_left (take (i + 1) before) after
+left_taken after before i x within is taken =
+    sym (left_more after before i x within is ∙ ap (λ b. places_left (take i before) after ++ cond (not b) (x ∷ []) []) taken ∙ append-nil (places_left (take i before) after))
+
+pub left_free : (after : List Placed) (before : List Place) (i : ℕ) (x : Place) → i < length before → x ≡ get_or before i x → is_taken after x ≡ false
+    → places_left (take i before) after ++ x ∷ [] ≡ places_left (take (i + 1) before) after
+left_free after before i x within is free =
+    sym (left_more after before i x within is ∙ ap (λ b. places_left (take i before) after ++ cond (not b) (x ∷ []) []) free)
+
+removed_by_places : (next : ℕ) (gone : List Placed) → removed_all next (map place_of gone) ≡ numbered removed next gone
+removed_by_places next [] = refl
+removed_by_places next (x ∷ gone) = ap (λ es. removed next x ∷ es) (removed_by_places (next + 1) gone)
+
+length_removed : (next : ℕ) (gone : List Place) → length (removed_all next gone) ≡ length gone
+length_removed next [] = refl
+length_removed next (x ∷ gone) = ap suc (length_removed (next + 1) gone)
+
+-- a plan of no change
+pub stands_none : (rules : RuleSet) (rows : Rows) (base : Ledger) (plan : Plan) → IsStart rules rows plan.last.0 base
+    → ((key : Key) → seen_at rules.definitions plan rows key ≡ map place_of (entries_at rules.definitions key (columns_of (row_at rows key))))
+    → plan.entered.items ≡ [] → plan.made.items ≡ [] → PlanStands rules rows plan base []
+stands_none rules rows base plan start seen entered made = record {
+  rules_are = start.rules_are;
+  entries = λ key. seen key ∙ ap (map place_of) (start.entries key);
+  last = start.last;
+  entered = entered;
+  lasts = ap ids made;
+  rows_are = subst (λ (ms : List Made). AreRowsOf rules.definitions ms []) (sym made) tt;
+}
+
 module _ (limits : Limits) (rules : RuleSet) (base : Ledger) (ts : List Timed) (t : Timed) (rules_are : base.force.rules ≡ rules) where
   abbrev now : Ledger
   now = fold write_next base ts
@@ -71,25 +122,33 @@ module _ (limits : Limits) (rules : RuleSet) (base : Ledger) (ts : List Timed) (
       ap (λ (n : ℕ). Some (TooWide n)) is
       ∙ sym (wide_from (nat_lt limits.entries (length (entries_after now t))) (nat_lt limits.ops (now.last + length (next_ops now t))) (is_past limits.entries (length (entries_after now t)) more) (Some (TooWide (limits.entries + 1))))
 
-  module _ (rows : Rows) (old : Plan) (h : PlanStands rules rows old base ts) (key : Key) (is_key : key ≡ key_of t) (before left gone : List Placed)
-      (is_before : before ≡ seen_at rules.definitions old rows key) (is_left : left ≡ entries_at rules.definitions key t.change.row) (is_gone : gone ≡ leaving before left) where
-    before_is : before ≡ standing_entries now.force.rules.definitions now.force.source (key_of t)
+  module _ (rows : Rows) (old : Plan) (h : PlanStands rules rows old base ts) (key : Key) (is_key : key ≡ key_of t) (left : List Placed) (gone : List Place)
+      (is_left : left ≡ entries_at rules.definitions key t.change.row) (is_gone : gone ≡ places_left (seen_at rules.definitions old rows key) left) where
+    abbrev standing : List Placed
+    standing = standing_entries now.force.rules.definitions now.force.source (key_of t)
+
+    before_is : seen_at rules.definitions old rows key ≡ map place_of standing
     before_is =
-        is_before ∙ h.entries key
-        ∙ ap (λ (q : Key). standing_entries rules.definitions now.force.source q) is_key
-        ∙ ap (λ (r : RuleSet). standing_entries r.definitions now.force.source (key_of t)) (sym now_rules)
+        h.entries key
+        ∙ ap (λ (q : Key). map place_of (standing_entries rules.definitions now.force.source q)) is_key
+        ∙ ap (λ (r : RuleSet). map place_of (standing_entries r.definitions now.force.source (key_of t))) (sym now_rules)
+
+    gone_is : gone ≡ map place_of (leaving standing left)
+    gone_is = is_gone ∙ ap (λ before. places_left before left) before_is ∙ left_by_places standing left
 
     left_is : left ≡ entries_after now t
     left_is = is_left ∙ ap (λ (q : Key). entries_at rules.definitions q t.change.row) is_key ∙ ap (λ (r : RuleSet). entries_at r.definitions (key_of t) t.change.row) (sym now_rules)
 
-    change_is : next_ops now t ≡ numbered removed (now.last + 1) gone ++ numbered put (now.last + 1 + length gone) left
-    change_is = sym (ap (λ g. numbered removed (now.last + 1) g ++ numbered put (now.last + 1 + length g) left) (is_gone ∙ ap (λ b. leaving b left) before_is)
-        ∙ ap (λ a. (let g = leaving (standing_entries now.force.rules.definitions now.force.source (key_of t)) a in numbered removed (now.last + 1) g ++ numbered put (now.last + 1 + length g) a)) left_is)
+    change_is : next_ops now t ≡ removed_all (now.last + 1) gone ++ numbered put (now.last + 1 + length gone) left
+    change_is = sym (ap (λ g. removed_all (now.last + 1) g ++ numbered put (now.last + 1 + length g) left) gone_is
+        ∙ ap (λ es. es ++ numbered put (now.last + 1 + length (map place_of (leaving standing left))) left) (removed_by_places (now.last + 1) (leaving standing left))
+        ∙ ap (λ n. numbered removed (now.last + 1) (leaving standing left) ++ numbered put (now.last + 1 + n) left) (length_map place_of (leaving standing left))
+        ∙ ap (λ a. (let g = leaving standing a in numbered removed (now.last + 1) g ++ numbered put (now.last + 1 + length g) a)) left_is)
 
     change_length : length (next_ops now t) ≡ length gone + length left
     change_length =
         ap length change_is
-        ∙ omega (arith, length-append (numbered removed (now.last + 1) gone) (numbered put (now.last + 1 + length gone) left), length_numbered removed (now.last + 1) gone, length_numbered put (now.last + 1 + length gone) left)
+        ∙ omega (arith, length-append (removed_all (now.last + 1) gone) (numbered put (now.last + 1 + length gone) left), length_removed (now.last + 1) gone, length_numbered put (now.last + 1 + length gone) left)
 
     narrow_is : length left ≤ limits.entries → nat_lt limits.entries (length (entries_after now t)) ≡ false
     narrow_is narrow = subst (λ (es : List Placed). nat_lt limits.entries (length es) ≡ false) left_is (not_past limits.entries (length left) narrow)
@@ -106,9 +165,9 @@ module _ (limits : Limits) (rules : RuleSet) (base : Ledger) (ts : List Timed) (
 
     -- the plan with the change
     pub stands_more : (new : Plan) (made : Made)
-        → ((other : Key) → seen_at rules.definitions new rows other ≡ (if eq_by_cmp key_cmp other key then left else seen_at rules.definitions old rows other))
+        → ((other : Key) → seen_at rules.definitions new rows other ≡ (if eq_by_cmp key_cmp other key then map place_of left else seen_at rules.definitions old rows other))
         → made.last.0 ≡ old.last.0 + (length gone + length left) → made.row ≡ row_noted rules.definitions t → new.last ≡ made.last
-        → new.entered.items ≡ old.entered.items ++ (numbered removed (old.last.0 + 1) gone ++ numbered put (old.last.0 + 1 + length gone) left)
+        → new.entered.items ≡ old.entered.items ++ (removed_all (old.last.0 + 1) gone ++ numbered put (old.last.0 + 1 + length gone) left)
         → new.made.items ≡ old.made.items ++ made ∷ []
         → PlanStands rules rows new base (ts ++ t ∷ [])
     stands_more new made seen last row same entered made_is =
@@ -117,11 +176,11 @@ module _ (limits : Limits) (rules : RuleSet) (base : Ledger) (ts : List Timed) (
         let count : length old.made.items ≡ length ts = sym (length_map (λ (m : Made). m.last.0) old.made.items) ∙ ap length h.lasts ∙ length_lasts ts base in
         record {
           rules_are = rules_are;
-          entries = λ other. seen other ∙ by (eq_by_cmp key_cmp other key) other refl ∙ ap (λ (l : Ledger). standing_entries rules.definitions l.force.source other) (sym next);
+          entries = λ other. seen other ∙ by (eq_by_cmp key_cmp other key) other refl ∙ ap (λ (l : Ledger). map place_of (standing_entries rules.definitions l.force.source other)) (sym next);
           last = ap (λ id. id.0) same ∙ last_is ∙ ap (λ (l : Ledger). l.last) (sym next);
           entered =
               entered
-              ∙ ap (λ n. old.entered.items ++ (numbered removed (n + 1) gone ++ numbered put (n + 1 + length gone) left)) h.last
+              ∙ ap (λ n. old.entered.items ++ (removed_all (n + 1) gone ++ numbered put (n + 1 + length gone) left)) h.last
               ∙ ap (λ ops. old.entered.items ++ ops) (sym change_is)
               ∙ ap (λ es. es ++ next_ops now t) h.entered
               ∙ sym (ops_push ts t base);
@@ -140,10 +199,10 @@ module _ (limits : Limits) (rules : RuleSet) (base : Ledger) (ts : List Timed) (
         after_is : (other : Key) → standing_entries rules.definitions (write_next now t).force.source other ≡ entries_at rules.definitions other (cond (eq_by_cmp key_cmp other (key_of t)) t.change.row (columns_of (find key_cmp other now.force.source)))
         after_is other = ap (entries_at rules.definitions other) (columns_after now.force.source t other)
 
-        by : (b : Bool) (other : Key) → eq_by_cmp key_cmp other key ≡ b → (if b then left else seen_at rules.definitions old rows other) ≡ standing_entries rules.definitions (write_next now t).force.source other
+        by : (b : Bool) (other : Key) → eq_by_cmp key_cmp other key ≡ b → (if b then map place_of left else seen_at rules.definitions old rows other) ≡ map place_of (standing_entries rules.definitions (write_next now t).force.source other)
         by true other e =
             let at : eq_by_cmp key_cmp other (key_of t) ≡ true = ap (λ (q : Key). eq_by_cmp key_cmp other q) (sym is_key) ∙ e in
-            there other at ∙ ap (λ b. entries_at rules.definitions other (cond b t.change.row (columns_of (find key_cmp other now.force.source)))) (sym at) ∙ sym (after_is other)
+            ap (map place_of) (there other at ∙ ap (λ b. entries_at rules.definitions other (cond b t.change.row (columns_of (find key_cmp other now.force.source)))) (sym at) ∙ sym (after_is other))
         by false other e =
             let at : eq_by_cmp key_cmp other (key_of t) ≡ false = ap (λ (q : Key). eq_by_cmp key_cmp other q) (sym is_key) ∙ e in
-            h.entries other ∙ ap (λ b. entries_at rules.definitions other (cond b t.change.row (columns_of (find key_cmp other now.force.source)))) (sym at) ∙ sym (after_is other)
+            h.entries other ∙ ap (map place_of) (ap (λ b. entries_at rules.definitions other (cond b t.change.row (columns_of (find key_cmp other now.force.source)))) (sym at) ∙ sym (after_is other))

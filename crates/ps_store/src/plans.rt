@@ -1,15 +1,16 @@
 //! The first phase of a write: what the changes make, over the live rows with the batch's own changes laid over them.
 
-ghost use Rattle.std.specs.Prelude.{◌≡◌, ◌+◌, ◌<◌, ◌≤◌, ◌^◌, ◌++◌, [], ◌∷◌, List, true, false, length, OnOk, IfOk, fold, if◌then◌else◌, take};
+ghost use Rattle.std.specs.Prelude.{◌≡◌, ◌+◌, ◌<◌, ◌≤◌, ◌^◌, ◌++◌, [], ◌∷◌, List, true, false, length, map, OnOk, IfOk, fold, if◌then◌else◌, take};
 ghost use Rattle.std.specs.Option.{option_copied};
 ghost use Rattle.std.specs.Ordering.{eq_by_cmp};
-ghost use Rattle.ps_changes.specs.Source.{Key, key_cmp};
+ghost use Rattle.ps_changes.specs.Source.{Key as KeySeen, key_cmp};
 ghost use Rattle.ps_rules.specs.RuleSets.{RuleSet};
 ghost use Rattle.ps_bucket_eval.specs.Entries.{IsPlaced};
 ghost use Rattle.ps_store.specs.Ledgers.{Ledger, write_next};
 ghost use Rattle.ps_store.specs.Limits.{AreWithin};
 ghost use Rattle.ps_store.specs.Noting.{row_noted};
-ghost use Rattle.ps_store.specs.Originals.{Timed, columns_of, entries_at as entries_of_key, removed, put, leaving as leaving_of, numbered};
+ghost use Rattle.ps_store.specs.Originals.{Timed, columns_of, entries_at as entries_of_key, put, numbered};
+ghost use Rattle.ps_store.specs.Places.{place_of, places_left, removed_all};
 ghost use Rattle.ps_store.specs.Plans.{PlanStands, IsStart, IsRun, with_change, seen_at};
 ghost use Rattle.ps_store.specs.Rows.{row_at, AreNarrow};
 ghost use Rattle.ps_store.specs.Runs.{refusal_of, run_from};
@@ -17,17 +18,20 @@ ghost use Rattle.ps_store.specs.declared.rows.Rows.{Rows as RowsSeen};
 
 use crate::entered::Entered;
 use crate::fixed::{Fixed, Limits};
-use crate::places::{has, places_of};
+use crate::places::{Place, copy_place, into_places, is_among, is_in, places_in_order, places_of};
 use crate::rows::{RowKey, Rows, copy_key};
 use crate::waiting::Waiting;
 use ps_bucket_eval::{PlaceFault, Placed, entries_of_row};
-use ps_bucket_log::Op;
+use ps_bucket_log::{Key, Op};
 use ps_changes::Row;
 use ps_checksum::{put_sum, remove_sum};
 use ps_params::reads_table;
 use ps_values::{Items, Memory, OpId};
 use std::alloc::Global;
 use std::collections::{BTreeMap, VecDeque};
+
+// Up to how many entries are gone through for each place that is looked for among them.
+const FEW: usize = 16;
 
 /// Why a change cannot be written.
 #[derive(Clone, Copy)]
@@ -45,8 +49,8 @@ pub(crate) struct Made {
     pub(crate) row: Option<Row>,
 }
 
-/// The entries that rows have after the changes so far.
-pub(crate) type Seen = BTreeMap<RowKey, Items<Placed>>;
+/// The places of the entries that rows have after the changes so far.
+pub(crate) type Seen = BTreeMap<RowKey, Items<Place>>;
 
 // The entries of a row, where there is one, unless they are more than one may have.
 fn entries_at(
@@ -71,87 +75,84 @@ fn entries_at(
     }
 }
 
-// The entries of a row that lives, none where there is none.
-fn entries_of_live(
+// The places of the entries of a row that lives, none where there is none.
+fn places_of_live(
     alloc: Global,
     fixed: &Fixed,
     rows: &Rows,
     key: &RowKey,
-) -> Result<Items<Placed>, Memory>
+) -> Result<Items<Place>, Memory>
     requires limits { AreWithin fixed.now.limits }
     requires narrow { AreNarrow fixed.now.rules.definitions fixed.now.limits.entries rows.now }
-    ensures { IfOk result (λ entries. entries ≡ entries_of_key fixed.now.rules.definitions key.now (columns_of (row_at rows.now key.now))) }
+    ensures { IfOk result (λ places. places ≡ map place_of (entries_of_key fixed.now.rules.definitions key.now (columns_of (row_at rows.now key.now)))) }
 {
     let Some(live) = rows.get(key) else {
         return Ok(Items::new(alloc));
     };
     match entries_at(alloc, fixed, key, Some(live.row())) {
-        Ok(entries) => Ok(entries),
+        Ok(entries) => into_places(alloc, entries),
         Err(PlaceFault::TooWide { .. }) => unreachable!(),
         Err(PlaceFault::Memory) => Err(Memory),
     }
 }
 
-// Equal entries.
-fn copied(alloc: Global, entries: &[Placed]) -> Result<Items<Placed>, Memory>
-    ensures { IfOk result (λ copies. copies ≡ entries.now) }
-{
-    let mut copies = Vec::new(alloc);
-    'entries: for entry in entries {
-        copies.push(copy_of(alloc, entry)?)?;
-    }
-    Ok(Items::from_vec(copies))
-}
-
-// An equal entry.
-fn copy_of(alloc: Global, entry: &Placed) -> Result<Placed, Memory>
-    ensures { IfOk result (λ copy. copy ≡ entry.now) }
-{
-    Ok(Placed {
-        bucket: entry.bucket.copy(alloc)?,
-        key: entry.key.copy(alloc)?,
-        content: entry.content.copy(alloc)?,
-        number: entry.number,
-    })
-}
-
-// The entries that a row has no more.
-fn leaving(alloc: Global, before: Items<Placed>, after: &[Placed]) -> Result<Items<Placed>, Memory>
-    ensures { IfOk result (λ entries. entries ≡ leaving_of before after.now) }
+// The places that a row has no more.
+fn leaving(alloc: Global, before: &[Place], after: &[Placed]) -> Result<Items<Place>, Memory>
+    ensures { IfOk result (λ left. left ≡ places_left before.now after.now) }
 {
     if before.is_empty() {
-        return Ok(before);
+        return Ok(Items::new(alloc));
     }
-    let places = places_of(alloc, after)?;
-    let mut entries = Vec::new(alloc);
-    'left: for entry in before.into_vec() {
-        if has(alloc, &places, &entry)? {
-            continue;
-        }
-        entries.push(entry)?;
+    if after.len() <= FEW {
+        return leaving_few(alloc, before, after);
     }
-    Ok(Items::from_vec(entries))
+    leaving_many(alloc, before, after)
 }
 
-// Adds the REMOVEs of entries, and gives the last id.
-fn remove_all(
-    entered: &mut Vec<Entered>,
-    last: OpId,
-    entries: Items<Placed>,
-) -> Result<OpId, Memory>
-    requires { last.0 + length entries < 2 ^ 64 }
-    ensures { IfOk result (λ next. (next.0 ≡ last.0 + length entries) × (entered.new.items ≡ entered.old.items ++ numbered removed (last.0 + 1) entries)) }
+// The places that are of none of a few entries, which are gone through for each: no text is copied to look it up.
+fn leaving_few(alloc: Global, before: &[Place], after: &[Placed]) -> Result<Items<Place>, Memory>
+    ensures { IfOk result (λ left. left ≡ places_left before.now after.now) }
+{
+    let mut left = Vec::new(alloc);
+    'places: for place in before {
+        if is_among(after, place) {
+            continue;
+        }
+        left.push(copy_place(alloc, place)?)?;
+    }
+    Ok(Items::from_vec(left))
+}
+
+// The places that are of none of many entries, whose places are put in order first.
+fn leaving_many(alloc: Global, before: &[Place], after: &[Placed]) -> Result<Items<Place>, Memory>
+    ensures { IfOk result (λ left. left ≡ places_left before.now after.now) }
+{
+    let taken = places_of(alloc, after)?;
+    let mut left = Vec::new(alloc);
+    'places: for place in before {
+        if is_in(&taken, place) {
+            continue;
+        }
+        left.push(copy_place(alloc, place)?)?;
+    }
+    Ok(Items::from_vec(left))
+}
+
+// Adds the REMOVEs of places, and gives the last id.
+fn remove_all(entered: &mut Vec<Entered>, last: OpId, places: Items<Place>) -> Result<OpId, Memory>
+    requires { last.0 + length places < 2 ^ 64 }
+    ensures { IfOk result (λ next. (next.0 ≡ last.0 + length places) × (entered.new.items ≡ entered.old.items ++ removed_all (last.0 + 1) places)) }
 {
     let mut id = last.0;
-    'entries: for entry in entries.into_vec() {
+    'places: for place in places.into_vec() {
         id += 1;
-        let Placed {
-            bucket,
-            key,
-            content: _,
-            number: _,
-        } = entry;
-        let sum = remove_sum(&key.subkey);
+        let ((bucket, kind), (object, subkey)) = place;
+        let sum = remove_sum(&subkey);
+        let key = Key {
+            kind,
+            id: object,
+            subkey,
+        };
         let op = Op::Remove {
             id: OpId(id),
             key,
@@ -190,9 +191,9 @@ fn put_all(entered: &mut Vec<Entered>, last: OpId, entries: Items<Placed>) -> Re
 
 /// Gives up the places of the rows that are gone. Takes no memory.
 pub(crate) fn tidy_all(rows: &mut Rows, seen: &Seen)
-    ensures { (key : Key) → row_at rows.new key ≡ row_at rows.old key }
+    ensures { (key : KeySeen) → row_at rows.new key ≡ row_at rows.old key }
 {
-    'places: for (key, _entries) in seen.iter() {
+    'places: for (key, _places) in seen.iter() {
         rows.tidy(key);
     }
 }
@@ -212,8 +213,8 @@ impl Plan {
         ensures last { result.last ≡ last }
         ensures entered { result.entered.items ≡ [] }
         ensures made { result.made.items ≡ [] }
-        ensures seen { (rules : RuleSet) (rows : RowsSeen) (key : Key)
-            → seen_at rules.definitions result rows key ≡ entries_of_key rules.definitions key (columns_of (row_at rows key)) }
+        ensures seen { (rules : RuleSet) (rows : RowsSeen) (key : KeySeen)
+            → seen_at rules.definitions result rows key ≡ map place_of (entries_of_key rules.definitions key (columns_of (row_at rows key))) }
     {
         Plan {
             seen: BTreeMap::new(alloc),
@@ -243,45 +244,49 @@ impl Plan {
         (seen, entered, made)
     }
 
-    // The entries of a row before the next change.
-    fn entries_before(
+    // The places that a row leaves, where it has some entries after the next change.
+    fn left_by(
         &self,
         alloc: Global,
         fixed: &Fixed,
         rows: &Rows,
         key: &RowKey,
-    ) -> Result<Items<Placed>, Memory>
+        after: &[Placed],
+    ) -> Result<Items<Place>, Memory>
         requires limits { AreWithin fixed.now.limits }
         requires narrow { AreNarrow fixed.now.rules.definitions fixed.now.limits.entries rows.now }
-        ensures { IfOk result (λ entries. entries ≡ seen_at fixed.now.rules.definitions self.now rows.now key.now) }
+        ensures { IfOk result (λ left. left ≡ places_left (seen_at fixed.now.rules.definitions self.now rows.now key.now) after.now) }
     {
         match self.seen.get(key) {
-            Some(entries) => copied(alloc, entries.as_slice()),
-            None => entries_of_live(alloc, fixed, rows, key),
+            Some(places) => leaving(alloc, places.as_slice(), after),
+            None => {
+                let places = places_of_live(alloc, fixed, rows, key)?;
+                leaving(alloc, places.as_slice(), after)
+            }
         }
     }
 
-    // Notes the entries that a row has after a change.
-    fn see(&mut self, key: RowKey, entries: Items<Placed>) -> Result<(), Memory>
+    // Notes the places of the entries that a row has after a change.
+    fn see(&mut self, key: RowKey, places: Items<Place>) -> Result<(), Memory>
         ensures last { self.new.last ≡ self.old.last }
         ensures entered { self.new.entered ≡ self.old.entered }
         ensures made { self.new.made ≡ self.old.made }
-        ensures seen { OnOk result ((rules : RuleSet) (rows : RowsSeen) (other : Key)
-            → seen_at rules.definitions self.new rows other ≡ (if eq_by_cmp key_cmp other key then entries else seen_at rules.definitions self.old rows other)) }
+        ensures seen { OnOk result ((rules : RuleSet) (rows : RowsSeen) (other : KeySeen)
+            → seen_at rules.definitions self.new rows other ≡ (if eq_by_cmp key_cmp other key then places else seen_at rules.definitions self.old rows other)) }
     {
-        self.seen.insert(key, entries)?;
+        self.seen.insert(key, places)?;
         Ok(())
     }
 
     // Puts the operations of a change behind the others.
-    fn enter(&mut self, gone: Items<Placed>, after: Items<Placed>) -> Result<OpId, Memory>
+    fn enter(&mut self, gone: Items<Place>, after: Items<Placed>) -> Result<OpId, Memory>
         requires { self.old.last.0 + (length gone + length after) < 2 ^ 64 }
         ensures seen { self.new.seen ≡ self.old.seen }
         ensures same { self.new.last ≡ self.old.last }
         ensures made { self.new.made ≡ self.old.made }
         ensures last { IfOk result (λ last. last.0 ≡ self.old.last.0 + (length gone + length after)) }
         ensures entered { OnOk result (self.new.entered.items ≡ self.old.entered.items
-            ++ (numbered removed (self.old.last.0 + 1) gone ++ numbered put (self.old.last.0 + 1 + length gone) after)) }
+            ++ (removed_all (self.old.last.0 + 1) gone ++ numbered put (self.old.last.0 + 1 + length gone) after)) }
     {
         let middle = remove_all(&mut self.entered, self.last, gone)?;
         put_all(&mut self.entered, middle, after)
@@ -307,15 +312,14 @@ impl Plan {
             Err(PlaceFault::TooWide { count }) => return Ok(Some(Refusal::TooWide { count })),
             Err(PlaceFault::Memory) => return Err(Memory),
         };
-        let before = self.entries_before(alloc, fixed, rows, &key)?;
-        let gone = leaving(alloc, before, after.as_slice())?;
+        let gone = self.left_by(alloc, fixed, rows, &key, after.as_slice())?;
         if !has_ids(&fixed.limits, self.last, gone.len(), after.len()) {
             return Ok(Some(Refusal::OpsFull));
         }
         let row = row_to_note(alloc, fixed, waiting)?;
-        let copies = copied(alloc, after.as_slice())?;
-        let last = self.enter(gone, copies)?;
-        self.see(key, after)?;
+        let places = places_in_order(alloc, after.as_slice())?;
+        let last = self.enter(gone, after)?;
+        self.see(key, places)?;
         self.made.push(Made { last, row })?;
         self.last = last;
         Ok(None)

@@ -1,5 +1,6 @@
 use Rattle.std.proofs.Common.{◌≡◌, ℕ, ◌+◌, ◌<◌, Option, Some, None, List, [], ◌∷◌, ◌++◌, refl, sym, ap, ◌∙◌, subst, length, take, drop, fold, get_or, arith, length-take}
 use Rattle.std.proofs.lemmas.List.{take_more, drop_more, drop_all, get_or-take}
+use Rattle.ps_values.specs.declared.ids.OpId.{OpId}
 use Rattle.ps_rules.specs.RuleSets.{RuleSet}
 use Rattle.ps_store.specs.declared.fixed.Limits.{Limits}
 use Rattle.ps_store.specs.declared.plans.Plan.{Plan}
@@ -8,9 +9,10 @@ use Rattle.ps_store.specs.declared.plans.Refusal.{Refusal}
 use Rattle.ps_store.specs.declared.rows.Rows.{Rows}
 use Rattle.ps_store.specs.Ledgers.{Ledger, write_next}
 use Rattle.ps_store.specs.Originals.{Timed}
-use Rattle.ps_store.specs.Plans.{PlanStands, IsRun, with_change}
+use Rattle.ps_store.specs.Plans.{PlanStands, IsStart, IsRun, with_change}
 use Rattle.ps_store.specs.Runs.{Run, refusal_of, stopped, run_from}
 use Rattle.ps_store.proofs.Lanes.{fold_push}
+use Rattle.ps_store.proofs.Planning.{stands_none}
 use Rattle.ps_store.proofs.plans.plan_run.Goals as goal
 
 -- the next change of those that are looked at
@@ -26,6 +28,15 @@ run_is : (limits : Limits) (l : Ledger) (k : ℕ) (ts rest : List Timed) (t : Ti
     → run_from limits l k ts ≡ stopped l k refusal (run_from limits (write_next l t) (k + 1) rest)
 run_is limits l k ts rest t refusal is why =
     ap (run_from limits l k) is ∙ ap (λ r. stopped l k r (run_from limits (write_next l t) (k + 1) rest)) (sym why)
+
+pub changes-init : goal.changes-init
+changes-init c = λ base start.
+    let rules : RuleSet = c.args.fixed.now.rules in
+    record {
+      plan = stands_none rules c.args.rows.now base c.new-plan.result (subst (λ (id : OpId). IsStart rules c.args.rows.now id.0 base) (sym c.new-plan.ensures.last) start)
+          (λ key. c.new-plan.ensures.seen rules c.args.rows.now key) c.new-plan.ensures.entered c.new-plan.ensures.made;
+      run = refl;
+    }
 
 pub changes-preserved : goal.changes-preserved
 changes-preserved c = λ base start.

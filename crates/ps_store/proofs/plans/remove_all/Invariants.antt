@@ -1,10 +1,10 @@
 use Rattle.std.proofs.Common.{◌≡◌, ◌+◌, ◌++◌, length}
-use Rattle.ps_store.specs.Originals.{removed, numbered}
+use Rattle.ps_store.specs.Places.{removed_all}
 use Rattle.ps_store.proofs.plans.remove_all.Given as goal
 
--- with the operations of the entries that are left, all are there
-abbrev pub invariant-entries : goal.invariant-entries
-invariant-entries l = record {
-  ids : l.id + length l.entry-iterator.rest.items ≡ l.fn.last.0 + length l.fn.entries;
-  entered : l.entered.items ++ numbered removed (l.id + 1) l.entry-iterator.rest.items ≡ l.fn.entered.items ++ numbered removed (l.fn.last.0 + 1) l.fn.entries;
+-- with the operations of the places that are left, all are there
+abbrev pub invariant-places : goal.invariant-places
+invariant-places l = record {
+  ids : l.id + length l.place-iterator.rest.items ≡ l.fn.last.0 + length l.fn.places;
+  entered : l.entered.items ++ removed_all (l.id + 1) l.place-iterator.rest.items ≡ l.fn.entered.items ++ removed_all (l.fn.last.0 + 1) l.fn.places;
 }

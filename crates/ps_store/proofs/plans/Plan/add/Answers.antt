@@ -1,4 +1,4 @@
-use Rattle.std.proofs.Common.{◌≡◌, ℕ, ◌+◌, ◌≤◌, ◌<◌, Option, List, [], ◌∷◌, ◌++◌, refl, sym, ap, ◌∙◌, subst, length, unwrap_or, arith}
+use Rattle.std.proofs.Common.{◌≡◌, ℕ, ◌+◌, ◌≤◌, ◌<◌, Option, List, [], ◌∷◌, ◌++◌, refl, sym, ap, ◌∙◌, subst, length, map, unwrap_or, arith}
 use Rattle.std.specs.Prelude.{if◌then◌else◌, Err}
 use Rattle.std.specs.BTreeMap.{get}
 use Rattle.std.specs.Option.{option_copied}
@@ -14,7 +14,9 @@ use Rattle.ps_bucket_eval.specs.Entries.{IsPlaced}
 use Rattle.ps_store.specs.declared.fixed.Limits.{Limits}
 use Rattle.ps_store.specs.declared.plans.Made.{Made}
 use Rattle.ps_store.specs.declared.plans.Plan.{Plan}
-use Rattle.ps_store.specs.Originals.{Timed, key_of, entries_at, columns_of, leaving, removed, put, numbered}
+use Rattle.ps_store.specs.Originals.{Timed, key_of, entries_at, columns_of}
+use Rattle.ps_store.specs.Places.{Place, place_of, places_left}
+use Rattle.ps_store.specs.Plans.{seen_at}
 use Rattle.ps_store.specs.Rows.{row_at}
 use Rattle.ps_store.proofs.Planning.{is_wide, is_full, is_fine, stands_more}
 use Rattle.ps_store.proofs.plans.Plan.add.Goals as goal
@@ -42,10 +44,11 @@ returns-then-not-has_ids c = λ base ts h.
     let said = c.in-Ok.ensures in
     let is_left : left ≡ entries_at rules.definitions key t.change.row = said.0 ∙ ap (entries_at rules.definitions key) row_is in
     let narrow : length left ≤ limits.entries = subst (λ (es : List Placed). length es ≤ limits.entries) (sym said.0) said.1 in
-    let is_gone : c.in_ok-gone.gone ≡ leaving c.in_ok-before.before left = c.in_ok-gone.ensures ∙ ap (leaving c.in_ok-before.before) c.as_slice.ensures in
+    let is_gone : c.in_ok-gone.gone ≡ places_left (seen_at rules.definitions c.args.self.now c.args.rows.now key) left =
+    c.in_ok-gone.ensures ∙ ap (places_left (seen_at rules.definitions c.args.self.now c.args.rows.now key)) c.as_slice.ensures in
     let full : limits.ops < c.args.self.now.last.0 + (c.len.result + c.len-2.result) = c.has_ids.ensures.full c.if-not-has_ids.true in
     let more : limits.ops < c.args.self.now.last.0 + (length c.in_ok-gone.gone + length left) = omega (arith, full, c.len.ensures, c.len-2.ensures) in (
-      is_full limits rules base ts t h.rules_are c.args.rows.now c.args.self.now h key c.in_ok-key.ensures c.in_ok-before.before left c.in_ok-gone.gone c.in_ok-before.ensures is_left is_gone narrow more,
+      is_full limits rules base ts t h.rules_are c.args.rows.now c.args.self.now h key c.in_ok-key.ensures left c.in_ok-gone.gone is_left is_gone narrow more,
       h,
     )
 
@@ -57,26 +60,27 @@ returns c = λ base ts h.
     let key : Key = c.in_ok-key.key in
     let old : Plan = c.args.self.now in
     let left : List Placed = c.in-Ok.entries in
-    let gone : List Placed = c.in_ok-gone.gone in
+    let gone : List Place = c.in_ok-gone.gone in
     let row_is : option_copied c.as_ref.result ≡ t.change.row = c.as_ref.ensures.value ∙ ap (λ (x : Change). x.row) c.change.ensures in
     let said = c.in-Ok.ensures in
     let is_left : left ≡ entries_at rules.definitions key t.change.row = said.0 ∙ ap (entries_at rules.definitions key) row_is in
     let narrow : length left ≤ limits.entries = subst (λ (es : List Placed). length es ≤ limits.entries) (sym said.0) said.1 in
-    let is_gone : gone ≡ leaving c.in_ok-before.before left = c.in_ok-gone.ensures ∙ ap (leaving c.in_ok-before.before) c.as_slice.ensures in
+    let is_gone : gone ≡ places_left (seen_at rules.definitions old c.args.rows.now key) left =
+    c.in_ok-gone.ensures ∙ ap (places_left (seen_at rules.definitions old c.args.rows.now key)) c.as_slice.ensures in
     let low : old.last.0 + (c.len.result + c.len-2.result) ≤ limits.ops = c.has_ids.ensures.left c.if-not-has_ids.false in
     let fits : old.last.0 + (length gone + length left) ≤ limits.ops = omega (arith, low, c.len.ensures, c.len-2.ensures) in
-    let copies : c.in_ok-copies.copies ≡ left = c.in_ok-copies.ensures ∙ c.as_slice-2.ensures in
+    let places : c.in_ok-places.places ≡ map place_of left = c.in_ok-places.ensures ∙ ap (map place_of) c.as_slice-2.ensures in
     let new : Plan = record { seen = c.see.new.self.seen; last = c.in_ok-last.last; entered = c.see.new.self.entered; made = c.push.new.self } in
     let made : Made = record { last = c.in_ok-last.last; row = c.in_ok-row.row } in
-    let last : made.last.0 ≡ old.last.0 + (length gone + length left) = omega (arith, c.in_ok-last.ensures.last, ap length copies) in (
-      is_fine limits rules base ts t h.rules_are c.args.rows.now old h key c.in_ok-key.ensures c.in_ok-before.before left gone c.in_ok-before.ensures is_left is_gone narrow fits,
-      stands_more limits rules base ts t h.rules_are c.args.rows.now old h key c.in_ok-key.ensures c.in_ok-before.before left gone c.in_ok-before.ensures is_left is_gone
+    let last : made.last.0 ≡ old.last.0 + (length gone + length left) = omega (arith, c.in_ok-last.ensures.last) in (
+      is_fine limits rules base ts t h.rules_are c.args.rows.now old h key c.in_ok-key.ensures left gone is_left is_gone narrow fits,
+      stands_more limits rules base ts t h.rules_are c.args.rows.now old h key c.in_ok-key.ensures left gone is_left is_gone
           new made
           (λ other. c.in_ok-see.ensures.seen rules c.args.rows.now other
-          ∙ ap (λ m. if eq_by_cmp key_cmp other key then left else unwrap_or (get key_cmp m other) (entries_at rules.definitions other (columns_of (row_at c.args.rows.now other)))) c.in_ok-last.ensures.seen)
+          ∙ ap (λ (ps : List Place). if eq_by_cmp key_cmp other key then ps else seen_at rules.definitions c.enter.new.self c.args.rows.now other) places
+          ∙ ap (λ m. if eq_by_cmp key_cmp other key then map place_of left else unwrap_or (get key_cmp m other) (map place_of (entries_at rules.definitions other (columns_of (row_at c.args.rows.now other))))) c.in_ok-last.ensures.seen)
           last c.in_ok-row.ensures refl
           (ap (λ v. v.items) c.in_ok-see.ensures.entered
-          ∙ c.in_ok-last.ensures.entered
-          ∙ ap (λ (es : List Placed). old.entered.items ++ (numbered removed (old.last.0 + 1) gone ++ numbered put (old.last.0 + 1 + length gone) es)) copies)
+          ∙ c.in_ok-last.ensures.entered)
           (c.in_ok-push.ensures.items ∙ ap (λ v. v.items ++ made ∷ []) (c.in_ok-see.ensures.made ∙ c.in_ok-last.ensures.made)),
     )
