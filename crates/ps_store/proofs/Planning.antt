@@ -60,13 +60,14 @@ rows_push definitions (y ∷ ms) (x ∷ ts) m t e h same = (h.0, rows_push defin
 -- ---- places of entries
 
 -- what leaves by places is what leaves by entries
-left_by_places : (before after : List Placed) → places_left (map place_of before) after ≡ map place_of (leaving before after)
-left_by_places [] after = refl
-left_by_places (x ∷ before) after = by (stays after x)
+left_by_places : (before left : List Placed) → places_left (map place_of before) left ≡ map place_of (leaving before left)
+left_by_places [] left = refl
+left_by_places (x ∷ before) left = by (stays left x) (left_by_places before left)
   where
-    by : (b : Bool) → cond (not b) (place_of x ∷ places_left (map place_of before) after) (places_left (map place_of before) after) ≡ map place_of (cond (not b) (x ∷ leaving before after) (leaving before after))
-    by true = left_by_places before after
-    by false = ap (λ ps. place_of x ∷ ps) (left_by_places before after)
+    by : (b : Bool) → places_left (map place_of before) left ≡ map place_of (leaving before left)
+        → cond (not b) (place_of x ∷ places_left (map place_of before) left) (places_left (map place_of before) left) ≡ map place_of (cond (not b) (x ∷ leaving before left) (leaving before left))
+    by true rest = rest
+    by false rest = ap (λ ps. place_of x ∷ ps) rest
 
 -- one more place is looked for
 left_more : (after : List Placed) (before : List Place) (i : ℕ) (x : Place) → i < length before → x ≡ get_or before i x
