@@ -141,10 +141,10 @@ pub(crate) fn answer<T: Threads>(rt: HostRuntime, threads: &T, words: &[&str]) -
         );
     };
     let alloc = rt.alloc();
-    let outcome = match thread::Builder::new()
-        .stack_size(task.stack as usize)
-        .spawn(threads, move || outcome_of(alloc, task.shape, task.count, task.work))
-    {
+    let outcome = match thread::Builder::new().stack_size(task.stack as usize).spawn(
+        threads,
+        move || outcome_of(alloc, task.shape, task.count, task.work),
+    ) {
         Ok(handle) => handle.join(threads),
         Err(_) => "no thread",
     };
