@@ -30,6 +30,26 @@ use words::{Stop, cut, number, push_spelled};
 // One definition of all rows of one table.
 const GLOBAL: &str = "bucket_definitions:\n  global:\n    data:\n      - SELECT * FROM t\n";
 
+// What answers beside the store: the rules of the next one, what connections are answered by, and the request so far.
+#[derive(Drop)]
+struct Service {
+    rules: String,
+    site: Site,
+    request: Vec<u8>,
+}
+
+// Rules of one definition, no keys, and no request.
+fn new_service(alloc: Global) -> Result<Service, Stop> {
+    Ok(Service {
+        rules: String::from_str(alloc, GLOBAL)?,
+        site: Site {
+            keys: read_keys(alloc, b"{\"keys\":[]}")?,
+            until_drained: true,
+        },
+        request: Vec::new(alloc),
+    })
+}
+
 // Adds an Authorization field.
 fn push_token(alloc: Global, keys: &Keys, rest: &str, request: &mut Vec<u8>) -> Result<(), Stop> {
     let (word, rest) = cut(rest);
@@ -122,48 +142,76 @@ fn answer(
     Ok(out.push_str("\n")?)
 }
 
-fn answer_all(rt: &HostRuntime) -> Result<(), Stop> {
+// Sets the keys or the rules of the next store; false where the word names neither.
+fn is_set(alloc: Global, service: &mut Service, word: &str, rest: &str) -> Result<bool, Stop> {
+    match word {
+        "keys" => service.site.keys = read_keys(alloc, rest.as_bytes())?,
+        "rules" => service.rules = text_of(alloc, rest)?,
+        _ => return Ok(false),
+    }
+    Ok(true)
+}
+
+// Puts a new store in the place of the old one.
+fn renew(alloc: Global, rules: &str, limits: &str, store: &mut Store) -> Result<(), Stop>
+    requires { IsStore store.old }
+    ensures { IsStore store.new }
+{
+    *store = stores::store_of(alloc, rules, limits)?;
+    Ok(())
+}
+
+// Does what a line says, and prints its answer where it has one.
+fn take_line(
+    alloc: Global,
+    service: &mut Service,
+    store: &mut Store,
+    line: &str,
+    out: &mut String,
+) -> Result<(), Stop>
+    requires { IsStore store.old }
+    ensures { IsStore store.new }
+{
+    let (word, rest) = cut(line);
+    if word == "store" {
+        return renew(alloc, service.rules.as_str(), rest, store);
+    }
+    if is_set(alloc, service, word, rest)? {
+        return Ok(());
+    }
+    if is_added(alloc, &service.site.keys, word, rest, &mut service.request)? {
+        return Ok(());
+    }
+    if is_changed(alloc, store, word, rest)? {
+        return Ok(());
+    }
+    answer(
+        alloc,
+        &service.site,
+        store,
+        service.request.as_slice(),
+        line,
+        out,
+    )
+}
+
+fn answer_lines(rt: &HostRuntime, service: &mut Service, store: &mut Store) -> Result<(), Stop>
+    requires { IsStore store.old }
+{
     let alloc = rt.alloc();
-    let mut rules = String::from_str(alloc, GLOBAL)?;
-    let mut store = stores::store_of(alloc, rules.as_str(), "")?;
-    let mut site = Site {
-        keys: read_keys(alloc, b"{\"keys\":[]}")?,
-        until_drained: true,
-    };
-    let mut request = Vec::new(alloc);
     'lines: for line in rt.lines(alloc) {
         let line = line?;
-        let (word, rest) = cut(line.as_str());
-        if word == "keys" {
-            site.keys = read_keys(alloc, rest.as_bytes())?;
-            continue;
-        }
-        if word == "rules" {
-            rules = text_of(alloc, rest)?;
-            continue;
-        }
-        if word == "store" {
-            store = stores::store_of(alloc, rules.as_str(), rest)?;
-            continue;
-        }
-        if is_added(alloc, &site.keys, word, rest, &mut request)? {
-            continue;
-        }
-        if is_changed(alloc, &mut store, word, rest)? {
-            continue;
-        }
         let mut out = String::new(alloc);
-        answer(
-            alloc,
-            &site,
-            &mut store,
-            request.as_slice(),
-            line.as_str(),
-            &mut out,
-        )?;
+        take_line(alloc, service, store, line.as_str(), &mut out)?;
         print!(rt; "{}", out.as_str())?;
     }
     Ok(())
+}
+
+fn answer_all(rt: &HostRuntime) -> Result<(), Stop> {
+    let mut service = new_service(rt.alloc())?;
+    let mut store = stores::store_of(rt.alloc(), service.rules.as_str(), "")?;
+    answer_lines(rt, &mut service, &mut store)
 }
 
 fn main(rt: HostRuntime) -> Result<(), &'static str> {

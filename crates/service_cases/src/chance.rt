@@ -4,6 +4,9 @@ use crate::commands::rows;
 use crate::granting::due_text;
 use crate::reading::{asker_of, rules_of, transactions_of};
 use crate::words::{Stop, cut, number};
+use ps_changes::Transaction;
+use ps_rules::Rules;
+use ps_sql_eval::Asker;
 use ps_values::Memory;
 use std::alloc::Global;
 
@@ -140,7 +143,17 @@ struct Outcome {
     without_rows: u64,
 }
 
-// The lines of the rows that the definitions grant.
+// The lines of the rows that the definitions grant an asker.
+fn due_rows(
+    alloc: Global,
+    rules: &Rules,
+    asker: &Asker,
+    transactions: &[Transaction],
+) -> Result<String, Stop> {
+    Ok(due_text(alloc, rules, asker, transactions)?)
+}
+
+// The same by the rules and changes of texts.
 fn wanted_rows(
     alloc: Global,
     rules: &str,
@@ -148,10 +161,10 @@ fn wanted_rows(
     user: &str,
     parameters: &str,
 ) -> Result<String, Stop> {
-    let rules = rules_of(alloc, rules)?;
-    let transactions = transactions_of(alloc, changes)?;
     let asker = asker_of(alloc, user, parameters)?;
-    Ok(due_text(alloc, &rules, &asker, transactions.as_slice())?)
+    let transactions = transactions_of(alloc, changes)?;
+    let rules = rules_of(alloc, rules)?;
+    due_rows(alloc, &rules, &asker, transactions.as_slice())
 }
 
 // What the program prints.

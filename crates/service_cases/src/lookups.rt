@@ -74,8 +74,8 @@ fn names_for(
     forgotten: Position,
     position: Position,
 ) -> Result<Items<Text>, Stop> {
-    let rules = rules_of(alloc, rules)?;
     let asker = asker_of(alloc, user, parameters)?;
+    let rules = rules_of(alloc, rules)?;
     names_at(alloc, &rules, changes, &asker, forgotten, position)
 }
 

@@ -51,6 +51,14 @@ fn write_change(alloc: Global, rules: &Rules, line: &str, out: &mut String) -> R
     }
 }
 
+// The entries of the rows that lines put.
+fn write_changes(alloc: Global, rules: &Rules, lines: &str, out: &mut String) -> Result<(), Stop> {
+    'lines: for line in lines.lines() {
+        write_change(alloc, rules, line, out)?;
+    }
+    Ok(())
+}
+
 /// The entries of the rows that a text's lines put, with at most ten of each. Before those of a row stands its id.
 pub fn write_entries(
     alloc: Global,
@@ -59,12 +67,10 @@ pub fn write_entries(
     out: &mut String,
 ) -> Result<(), Stop> {
     let (rules, changes) = cut(words);
-    let rules = rules_of(alloc, texts.text(rules)?)?;
+    let (rules, changes) = (texts.text(rules)?, texts.text(changes)?);
     out.push_str("entries")?;
-    'lines: for line in texts.text(changes)?.lines() {
-        write_change(alloc, &rules, line, out)?;
-    }
-    Ok(())
+    let rules = rules_of(alloc, rules)?;
+    write_changes(alloc, &rules, changes, out)
 }
 
 // The numbers from 0 on, so many, with commas between them.
@@ -113,17 +119,23 @@ fn write_last(out: &mut String, placed: &[Placed]) -> Result<(), Stop> {
     Ok(write!(out, "{} {last}", placed.len())?)
 }
 
-/// What comes of the row with lists of so many elements, where 1,000 entries are asked for: how many there are and the
-/// last one's bucket, or the count at which they were too many.
-pub fn write_wide(alloc: Global, texts: &Texts, words: &str, out: &mut String) -> Result<(), Stop> {
-    let (rules, count) = cut(words);
-    let rules = rules_of(alloc, texts.text(rules)?)?;
-    let row = wide_row(alloc, count.parse::<u32>()?)?;
-    match wide_entries(alloc, &rules, &row) {
+// What comes of the row with such lists.
+fn write_wide_row(alloc: Global, rules: &Rules, row: &Row, out: &mut String) -> Result<(), Stop> {
+    match wide_entries(alloc, rules, row) {
         Ok(placed) => write_last(out, placed.as_slice()),
         Err(PlaceFault::TooWide { count }) => Ok(write!(out, "too wide {count}")?),
         Err(PlaceFault::Memory) => Err(Memory)?,
     }
+}
+
+/// What comes of the row with lists of so many elements, where 1,000 entries are asked for: how many there are and the
+/// last one's bucket, or the count at which they were too many.
+pub fn write_wide(alloc: Global, texts: &Texts, words: &str, out: &mut String) -> Result<(), Stop> {
+    let (rules, count) = cut(words);
+    let rules = texts.text(rules)?;
+    let row = wide_row(alloc, count.parse::<u32>()?)?;
+    let rules = rules_of(alloc, rules)?;
+    write_wide_row(alloc, &rules, &row, out)
 }
 
 fn value_of(alloc: Global, word: &str) -> Result<Value, Stop> {

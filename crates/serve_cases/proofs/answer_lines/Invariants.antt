@@ -1,5 +1,5 @@
 use Rattle.serve_cases.specs.Standing.{IsStore}
-use Rattle.serve_cases.proofs.answer_all.Given as goal
+use Rattle.serve_cases.proofs.answer_lines.Given as goal
 
 -- the store stays one
 abbrev pub invariant-lines : goal.invariant-lines
