@@ -1,3 +1,4 @@
+pub mod Asking
 pub mod Behind
 pub mod Falling
 pub mod Filled
