@@ -1,4 +1,4 @@
-use Rattle.speed.proofs.Lines.{one_more}
+use Rattle.speed.proofs.Newest.{one_more}
 use Rattle.speed.proofs.lines.puts.Goals as goal
 
 pub ops-preserved : goal.ops-preserved
