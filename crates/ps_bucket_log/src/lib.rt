@@ -7,6 +7,7 @@ mod logs;
 mod ops;
 mod places;
 mod plain_logs;
+mod takes;
 
 pub use batches::Batch;
 pub use laws::{
@@ -19,3 +20,4 @@ pub use laws::{
 pub use logs::Log;
 pub use ops::{Key, Op};
 pub use plain_logs::BucketLog;
+pub use takes::{Taken, TakenBucket};

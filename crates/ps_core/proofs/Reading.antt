@@ -3,7 +3,7 @@ use Rattle.std.proofs.Common.{◌≡◌, ℕ, Option, Some, None, List, false, t
 use Rattle.std.specs.Prelude.{option_map, option_and_then}
 use Rattle.ps_values.specs.declared.ids.OpId.{OpId}
 use Rattle.ps_bucket_log.specs.declared.batches.Batch.{Batch}
-use Rattle.ps_store.specs.declared.readings.TakenBucket.{TakenBucket}
+use Rattle.ps_bucket_log.specs.declared.takes.TakenBucket.{TakenBucket}
 use Rattle.ps_store.specs.Courses.{Course}
 use Rattle.ps_session.specs.declared.actions.Action.{Action}
 use Rattle.ps_session.specs.declared.actions.Action.TheVariants.{Take, Read, Complete, Wait}

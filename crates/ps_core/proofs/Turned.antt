@@ -16,7 +16,7 @@ use Rattle.ps_params.specs.Names.{AreTold}
 use Rattle.ps_sql_eval.specs.declared.askers.Asker.{Asker}
 use Rattle.ps_sql_eval.specs.Evaluated.{asker_of}
 use Rattle.ps_store.specs.declared.fixed.Fixed.{Fixed}
-use Rattle.ps_store.specs.declared.readings.Taken.{Taken}
+use Rattle.ps_bucket_log.specs.declared.takes.Taken.{Taken}
 use Rattle.ps_store.specs.declared.stores.Store.{Store}
 use Rattle.ps_store.specs.Courses.{Course}
 use Rattle.ps_store.specs.CourseLaws.{IsLawful, CoursesAreLawful, EndsAreWhole}

@@ -12,8 +12,8 @@ use Rattle.ps_sql_eval.specs.Evaluated.{asker_of}
 use Rattle.ps_client.specs.Clients.{PlainClient, taken}
 use Rattle.ps_store.specs.declared.events.Event.{Event}
 use Rattle.ps_store.specs.declared.fixed.Fixed.{Fixed}
-use Rattle.ps_store.specs.declared.readings.Taken.{Taken}
-use Rattle.ps_store.specs.declared.readings.TakenBucket.{TakenBucket}
+use Rattle.ps_bucket_log.specs.declared.takes.Taken.{Taken}
+use Rattle.ps_bucket_log.specs.declared.takes.TakenBucket.{TakenBucket}
 use Rattle.ps_store.specs.Courses.{Course, ledger_at}
 use Rattle.ps_store.specs.CourseLaws.{IsLawful, PlacesStay}
 use Rattle.ps_store.specs.Ledgers.{Ledger, IsLegal}

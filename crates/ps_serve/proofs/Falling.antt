@@ -1,7 +1,7 @@
 -- What is left to send falls with each turn, where the store stands still.
 use Rattle.std.proofs.Common.{◌≡◌, ◌≢◌, ℕ, ◌<◌, suc, Option, Some, None, refl, sym, ap, subst, ◌∙◌, arith}
 use Rattle.std.specs.Prelude.{option_map}
-use Rattle.ps_store.specs.declared.readings.TakenBucket.{TakenBucket}
+use Rattle.ps_bucket_log.specs.declared.takes.TakenBucket.{TakenBucket}
 use Rattle.ps_store.specs.Courses.{Course}
 use Rattle.ps_store.specs.CourseLaws.{IsLawful}
 use Rattle.ps_session.specs.declared.actions.Action.TheVariants.{Read}

@@ -12,7 +12,7 @@ use Rattle.ps_sql_eval.specs.Evaluated.{asker_of}
 use Rattle.ps_store.specs.declared.events.Event.{Event}
 use Rattle.ps_store.specs.declared.fixed.Fixed.{Fixed}
 use Rattle.ps_store.specs.declared.stores.Store.{Store}
-use Rattle.ps_store.specs.declared.readings.Taken.{Taken}
+use Rattle.ps_bucket_log.specs.declared.takes.Taken.{Taken}
 use Rattle.ps_store.specs.Ledgers.{Ledger, ledger_of}
 use Rattle.ps_store.specs.Readings.{IsTaken, take_of, taken_names, batch_of}
 use Rattle.ps_store.specs.Courses.{Course, course_of}

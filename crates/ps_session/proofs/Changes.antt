@@ -4,7 +4,7 @@ use Rattle.std.specs.Prelude.{bytes_eq, is_some, slice_get}
 use Rattle.std.proofs.lemmas.Bool.{cases_Bool}
 use Rattle.std.proofs.lemmas.List.{get_or-map}
 use Rattle.ps_lines.specs.declared.lines.Entry.{Entry}
-use Rattle.ps_store.specs.declared.readings.TakenBucket.{TakenBucket}
+use Rattle.ps_bucket_log.specs.declared.takes.TakenBucket.{TakenBucket}
 use Rattle.ps_session.specs.Takes.{bucket_in, is_in, same_bucket, same_buckets, removed, updated, is_as, entry_of}
 use Rattle.ps_session.specs.Matches.{match_from, match_of, is_as_found}
 

@@ -8,8 +8,8 @@ use Rattle.ps_bucket_log.specs.declared.ops.Op.{Op}
 use Rattle.ps_bucket_log.specs.declared.batches.Batch.{Batch}
 use Rattle.ps_bucket_log.specs.Ops.{id_of, place_after}
 use Rattle.ps_bucket_log.specs.Logs.{IsRising}
-use Rattle.ps_store.specs.declared.readings.Taken.{Taken}
-use Rattle.ps_store.specs.declared.readings.TakenBucket.{TakenBucket}
+use Rattle.ps_bucket_log.specs.declared.takes.Taken.{Taken}
+use Rattle.ps_bucket_log.specs.declared.takes.TakenBucket.{TakenBucket}
 use Rattle.ps_session.specs.declared.phases.Phase.TheVariants.{Start, Download}
 use Rattle.ps_session.specs.Downloads.{left_of, SendsOn, ReadsSendOn}
 use Rattle.ps_session.specs.Sessions.{SessionState, first_behind, behind, read_in, read_of, phase_after, with_place}

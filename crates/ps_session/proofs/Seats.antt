@@ -11,7 +11,7 @@ use Rattle.std.proofs.lemmas.Cmp.{same_from_slice_cmp, nat_list_eq_equiv}
 use Rattle.std.proofs.Math.Nat.{zero-add}
 use Rattle.ps_values.specs.declared.ids.OpId.{OpId}
 use Rattle.ps_lines.specs.declared.bodies.Known.{Known}
-use Rattle.ps_store.specs.declared.readings.TakenBucket.{TakenBucket}
+use Rattle.ps_bucket_log.specs.declared.takes.TakenBucket.{TakenBucket}
 use Rattle.ps_session.specs.Takes.{place_in}
 use Rattle.ps_session.specs.Sessions.{known_in, first_behind, places_in, with_place}
 use Rattle.ps_session.specs.Kept.{place_of, done_front}

@@ -8,8 +8,8 @@ use Rattle.ps_values.specs.declared.ids.OpId.{OpId}
 use Rattle.ps_bucket_log.specs.declared.batches.Batch.{Batch}
 use Rattle.ps_bucket_log.specs.Ops.{place_after}
 use Rattle.ps_lines.specs.declared.lines.Line.TheVariants.{Data}
-use Rattle.ps_store.specs.declared.readings.Taken.{Taken}
-use Rattle.ps_store.specs.declared.readings.TakenBucket.{TakenBucket}
+use Rattle.ps_bucket_log.specs.declared.takes.Taken.{Taken}
+use Rattle.ps_bucket_log.specs.declared.takes.TakenBucket.{TakenBucket}
 use Rattle.ps_session.specs.declared.actions.Action.TheVariants.{Read, Complete}
 use Rattle.ps_session.specs.declared.phases.Phase.{Phase}
 use Rattle.ps_session.specs.declared.phases.Phase.TheVariants.{Start, Download, Void, Done}

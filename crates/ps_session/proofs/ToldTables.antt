@@ -12,8 +12,8 @@ use Rattle.std.proofs.lemmas.Map.Entries.{lookup-filter-keys}
 use Rattle.std.proofs.lemmas.Slice.Eq.{bytes_eq-Decides}
 use Rattle.ps_lines.specs.declared.lines.Entry.{Entry}
 use Rattle.ps_client.specs.Tables.{Entries, told, is_told, is_one_of, with_entry, with_entries, without, last_entry}
-use Rattle.ps_store.specs.declared.readings.Taken.{Taken}
-use Rattle.ps_store.specs.declared.readings.TakenBucket.{TakenBucket}
+use Rattle.ps_bucket_log.specs.declared.takes.Taken.{Taken}
+use Rattle.ps_bucket_log.specs.declared.takes.TakenBucket.{TakenBucket}
 use Rattle.ps_store.specs.Courses.{bucket_in, is_in}
 use Rattle.ps_store.specs.CourseLaws.{AreApart}
 use Rattle.ps_session.specs.Takes.{name_of, entry_of, same_bucket, same_buckets, same_number, is_unchanged, removed, is_as, updated}

@@ -29,8 +29,8 @@ use Rattle.ps_client.specs.declared.streams.Stream.TheVariants.{Open}
 use Rattle.ps_client.specs.Tables.{is_told, is_one_of, with_entries, without, differs, difference, differing}
 use Rattle.ps_client.specs.Clients.{table_of, comes_next, held_by_target, held_by, held}
 use Rattle.ps_client.specs.Taking.{Rows, AreHeld}
-use Rattle.ps_store.specs.declared.readings.Taken.{Taken}
-use Rattle.ps_store.specs.declared.readings.TakenBucket.{TakenBucket}
+use Rattle.ps_bucket_log.specs.declared.takes.Taken.{Taken}
+use Rattle.ps_bucket_log.specs.declared.takes.TakenBucket.{TakenBucket}
 use Rattle.ps_store.specs.Courses.{Course, bucket_in, is_in}
 use Rattle.ps_store.specs.CourseLaws.{IsLawful, IsHonestAt, due_bucket, HoldsTaken}
 use Rattle.ps_store.specs.Latest.{IsLatestData, ShowsLatest}

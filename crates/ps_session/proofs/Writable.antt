@@ -9,8 +9,8 @@ use Rattle.ps_bucket_log.specs.Ops.{id_of, place_after, newest}
 use Rattle.ps_bucket_log.specs.Logs.{IsRising}
 use Rattle.ps_lines.specs.declared.lines.Line.TheVariants.{Data}
 use Rattle.ps_lines.specs.Writing.{IsWritable}
-use Rattle.ps_store.specs.declared.readings.Taken.{Taken}
-use Rattle.ps_store.specs.declared.readings.TakenBucket.{TakenBucket}
+use Rattle.ps_bucket_log.specs.declared.takes.Taken.{Taken}
+use Rattle.ps_bucket_log.specs.declared.takes.TakenBucket.{TakenBucket}
 use Rattle.ps_store.specs.Courses.{Course, bucket_in}
 use Rattle.ps_store.specs.CourseLaws.{IsLawful}
 use Rattle.ps_session.specs.declared.phases.Phase.{Phase}

@@ -4,7 +4,7 @@ use Rattle.std.specs.Cmp.Lexicographic.{slice_cmp}
 use Rattle.std.specs.Ordering.{nat_cmp, is_lt}
 use Rattle.ps_values.specs.declared.ids.OpId.{OpId}
 use Rattle.ps_lines.specs.declared.bodies.Known.{Known}
-use Rattle.ps_store.specs.declared.readings.TakenBucket.{TakenBucket}
+use Rattle.ps_bucket_log.specs.declared.takes.TakenBucket.{TakenBucket}
 use Rattle.ps_session.specs.Takes.{is_as}
 use Rattle.ps_session.specs.Sessions.{requested_in}
 

@@ -4,7 +4,7 @@ use Rattle.ps_bucket_log.specs.declared.batches.Batch.{Batch}
 use Rattle.ps_lines.specs.declared.lines.Line.{Line}
 use Rattle.ps_lines.specs.declared.lines.Line.TheVariants.{Expires}
 use Rattle.ps_params.specs.Names.{AreTold}
-use Rattle.ps_store.specs.declared.readings.TakenBucket.{TakenBucket}
+use Rattle.ps_bucket_log.specs.declared.takes.TakenBucket.{TakenBucket}
 use Rattle.ps_store.specs.Courses.{Course}
 use Rattle.ps_store.specs.Readings.{taken_names}
 use Rattle.ps_session.specs.declared.phases.Phase.{Phase}

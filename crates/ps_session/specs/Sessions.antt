@@ -7,8 +7,8 @@ use Rattle.ps_bucket_log.specs.Ops.{place_after}
 use Rattle.ps_lines.specs.declared.bodies.Known.{Known}
 use Rattle.ps_lines.specs.declared.lines.Line.{Line}
 use Rattle.ps_lines.specs.declared.lines.Line.TheVariants.{Data, Complete as CompleteLine}
-use Rattle.ps_store.specs.declared.readings.Taken.{Taken}
-use Rattle.ps_store.specs.declared.readings.TakenBucket.{TakenBucket}
+use Rattle.ps_bucket_log.specs.declared.takes.Taken.{Taken}
+use Rattle.ps_bucket_log.specs.declared.takes.TakenBucket.{TakenBucket}
 use Rattle.ps_session.specs.declared.actions.Action.{Action}
 use Rattle.ps_session.specs.declared.actions.Action.TheVariants.{Take, Read, Complete, Wait}
 use Rattle.ps_session.specs.declared.phases.Phase.{Phase}

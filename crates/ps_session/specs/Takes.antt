@@ -6,8 +6,8 @@ use Rattle.std.specs.Ordering.{nat_cmp}
 use Rattle.ps_lines.specs.declared.lines.Entry.{Entry}
 use Rattle.ps_lines.specs.declared.lines.Line.{Line}
 use Rattle.ps_lines.specs.declared.lines.Line.TheVariants.{Checkpoint, Diff}
-use Rattle.ps_store.specs.declared.readings.Taken.{Taken}
-use Rattle.ps_store.specs.declared.readings.TakenBucket.{TakenBucket}
+use Rattle.ps_bucket_log.specs.declared.takes.Taken.{Taken}
+use Rattle.ps_bucket_log.specs.declared.takes.TakenBucket.{TakenBucket}
 
 -- ---- buckets by name
 

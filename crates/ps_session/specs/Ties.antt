@@ -6,8 +6,8 @@ use Rattle.ps_client.specs.declared.streams.Stream.{Stream}
 use Rattle.ps_client.specs.declared.streams.Stream.TheVariants.{Asked, Open}
 use Rattle.ps_client.specs.Clients.{PlainClient, taken}
 use Rattle.ps_client.specs.Tables.{Entries, told}
-use Rattle.ps_store.specs.declared.readings.Taken.{Taken}
-use Rattle.ps_store.specs.declared.readings.TakenBucket.{TakenBucket}
+use Rattle.ps_bucket_log.specs.declared.takes.Taken.{Taken}
+use Rattle.ps_bucket_log.specs.declared.takes.TakenBucket.{TakenBucket}
 use Rattle.ps_store.specs.Courses.{Course, bucket_in, is_in}
 use Rattle.ps_session.specs.declared.phases.Phase.{Phase}
 use Rattle.ps_session.specs.declared.phases.Phase.TheVariants.{Start, Download, Void, Done}

@@ -3,8 +3,8 @@
 ghost use Rattle.std.specs.Prelude.{◌≡◌, map, IfOk};
 ghost use Rattle.ps_session.specs.Takes.{entry_of, first_line};
 
+use ps_bucket_log::{Taken, TakenBucket};
 use ps_lines::{Entry, Line};
-use ps_store::{Taken, TakenBucket};
 use ps_values::{Items, Memory};
 use std::alloc::Global;
 

@@ -4,7 +4,7 @@ ghost use Rattle.std.specs.Prelude.{◌≡◌, ◌+◌, ◌≤◌, drop, map, le
 ghost use Rattle.ps_session.specs.Takes.{NamesRise};
 ghost use Rattle.ps_session.specs.Matches.{match_of, below_front, match_at};
 
-use ps_store::TakenBucket;
+use ps_bucket_log::TakenBucket;
 use ps_values::{Memory, Text};
 use std::alloc::Global;
 

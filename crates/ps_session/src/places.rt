@@ -9,8 +9,8 @@ ghost use Rattle.ps_session.specs.Sessions.{known_in};
 ghost use Rattle.ps_session.specs.Kept.{done_front};
 ghost use Rattle.ps_session.specs.Matches.{requested_place, place_at};
 
+use ps_bucket_log::TakenBucket;
 use ps_lines::Known;
-use ps_store::TakenBucket;
 use ps_values::{Memory, OpId, Text};
 use std::alloc::Global;
 use std::collections::BTreeMap;

@@ -27,7 +27,7 @@ use Rattle.ps_bucket_eval.specs.Buckets.{bucket_name_of}
 use Rattle.ps_params.specs.Names.{definition_names, bucket_names, IsTold, AreTold}
 use Rattle.ps_store.specs.declared.events.Event.{Event}
 use Rattle.ps_store.specs.declared.events.Event.TheVariants.{WriteCheckpoint}
-use Rattle.ps_store.specs.declared.readings.TakenBucket.{TakenBucket}
+use Rattle.ps_bucket_log.specs.declared.takes.TakenBucket.{TakenBucket}
 use Rattle.ps_store.specs.CourseLaws.{IsLawful, AreApart, HoldsTaken, PlacesStay, EndsAreWhole}
 use Rattle.ps_store.specs.Courses.{Course, Upload, ledger_at, course_of, upload_of, uploads_from, uploads_of, bucket_in, is_in}
 use Rattle.ps_store.specs.Laws.{Rises as RisesFrom, HaveNumbers, AreSqlVectors, IsBucketOf}

@@ -14,7 +14,7 @@ use Rattle.ps_bucket_log.specs.Batches.{batch_of}
 use Rattle.ps_bucket_log.specs.Laws.{StaysHonest, StaysHonestUpTo, WholeAtNewest, FreshIsHonest, HonestLater, AddsNothing, StandsForItself, StandingIsLog, WithinLevel, TargetWithinLevel, SameSums, TotalIsSum, BatchRises, ReadsLongestFront, ReadsOn}
 use Rattle.ps_changes.specs.declared.shown.Shown.{Shown}
 use Rattle.ps_params.specs.Names.{AreTold}
-use Rattle.ps_store.specs.declared.readings.TakenBucket.{TakenBucket}
+use Rattle.ps_bucket_log.specs.declared.takes.TakenBucket.{TakenBucket}
 use Rattle.ps_store.specs.Courses.{Course, bucket_in}
 use Rattle.ps_store.specs.CourseLaws.{IsLawful, StayHonest, BatchesKeepHonest, Stays, Covers, AreApart, HoldsTaken, due_bucket}
 use Rattle.ps_store.specs.Latest.{ShowsLatest}

@@ -9,8 +9,8 @@ use Rattle.ps_sql.specs.Meaning.{Asker}
 use Rattle.ps_rules.specs.RuleSets.{RuleSet}
 use Rattle.ps_grant.specs.Latest as grants
 use Rattle.ps_store.specs.declared.events.Event.{Event}
-use Rattle.ps_store.specs.declared.readings.Taken.{Taken}
-use Rattle.ps_store.specs.declared.readings.TakenBucket.{TakenBucket}
+use Rattle.ps_bucket_log.specs.declared.takes.Taken.{Taken}
+use Rattle.ps_bucket_log.specs.declared.takes.TakenBucket.{TakenBucket}
 use Rattle.ps_store.specs.Ledgers.{Ledger, ledger_of}
 use Rattle.ps_store.specs.Originals.{in_bucket}
 use Rattle.ps_store.specs.Readings.{heads_for, take_of, batch_of}

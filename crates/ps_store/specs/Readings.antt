@@ -16,8 +16,8 @@ use Rattle.ps_params.specs.Names.{bucket_names, AreTold}
 use Rattle.ps_store.specs.declared.events.Event.{Event}
 use Rattle.ps_store.specs.declared.fixed.Fixed.{Fixed}
 use Rattle.ps_store.specs.declared.fixed.Limits.{Limits}
-use Rattle.ps_store.specs.declared.readings.Taken.{Taken}
-use Rattle.ps_store.specs.declared.readings.TakenBucket.{TakenBucket}
+use Rattle.ps_bucket_log.specs.declared.takes.Taken.{Taken}
+use Rattle.ps_bucket_log.specs.declared.takes.TakenBucket.{TakenBucket}
 use Rattle.ps_store.specs.declared.readings.TakeFault.{TakeFault}
 use Rattle.ps_store.specs.declared.readings.TakeFault.TheVariants.{TooManyBuckets, Memory}
 use Rattle.ps_store.specs.Ledgers.{Ledger, head_of, heads_in, ledger_of}

@@ -35,7 +35,7 @@ pub use laws::{
     uploads_are_covered,
 };
 pub use numbers::have_numbers;
-pub use readings::{TakeFault, Taken, TakenBucket};
+pub use readings::TakeFault;
 pub use replicas::{Replica, replicate};
 pub use stores::{Checkpoint, Store, Wrote};
 pub use totals::Totals;

@@ -15,8 +15,7 @@ ghost use Rattle.ps_store.specs.Readings.{bucket_upto};
 ghost use Rattle.ps_store.specs.StoreLogs.{wanted, log_at, room_at, HasRoom, has_ops, first_ops, AreRising, Continue};
 
 use crate::entered::Entered;
-use crate::readings::TakenBucket;
-use ps_bucket_log::{Batch, BucketLog, Log, Op};
+use ps_bucket_log::{Batch, BucketLog, Log, Op, TakenBucket};
 use ps_checksum::Sum;
 use ps_compact::{Report, compact};
 use ps_values::{Items, Memory, OpId, Text};

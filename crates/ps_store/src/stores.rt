@@ -22,14 +22,14 @@ use crate::fixed::{Fixed, Limits};
 use crate::laws::logs_stand_for_originals;
 use crate::logs::Logs;
 use crate::plans::{Plan, Planned, Refusal, plan_run, tidy_all};
-use crate::readings::{TakeFault, Taken};
+use crate::readings::TakeFault;
 use crate::rooms::rooms_for;
 use crate::rows::Rows;
 use crate::tails::{Tail, advance};
 use crate::totals::{Totals, sum_of};
 use crate::waiting::Waiting;
 use ps_bucket_log::{
-    Batch, standing_logs_have_the_sums_of_their_originals, standing_logs_stay_standing,
+    Batch, Taken, standing_logs_have_the_sums_of_their_originals, standing_logs_stay_standing,
 };
 use ps_changes::{Change, Transaction};
 use ps_compact::Report;

@@ -15,7 +15,7 @@ use Rattle.ps_client.specs.Requests.{IsRequest}
 use Rattle.ps_store.specs.declared.events.Event.{Event}
 use Rattle.ps_store.specs.declared.fixed.Fixed.{Fixed}
 use Rattle.ps_store.specs.declared.stores.Store.{Store}
-use Rattle.ps_store.specs.declared.readings.Taken.{Taken}
+use Rattle.ps_bucket_log.specs.declared.takes.Taken.{Taken}
 use Rattle.ps_store.specs.Ledgers.{ledger_of}
 use Rattle.ps_store.specs.Readings.{IsTaken, taken_names, names_of, bucket_upto, batch_of}
 use Rattle.ps_store.specs.Courses.{Course, course_of}

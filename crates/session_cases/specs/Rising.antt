@@ -4,7 +4,7 @@ use Rattle.std.specs.Cmp.Lexicographic.{slice_cmp}
 use Rattle.std.specs.List.{AllByRecursion}
 use Rattle.std.specs.Ordering.{nat_cmp}
 use Rattle.std.specs.declared.cmp.Ordering.TheVariants.{Less}
-use Rattle.ps_store.specs.declared.readings.TakenBucket.{TakenBucket}
+use Rattle.ps_bucket_log.specs.declared.takes.TakenBucket.{TakenBucket}
 use Rattle.ps_session.specs.Takes.{name_of}
 
 abbrev pub RiseOn : List TakenBucket → Type 0

@@ -9,7 +9,7 @@ ghost use Rattle.std.specs.declared.cmp.Ordering.TheVariants.{Less};
 ghost use Rattle.ps_session.specs.Takes.{NamesRise, name_of};
 ghost use Rattle.session_cases.specs.Rising.{RiseOn};
 
-use ps_store::TakenBucket;
+use ps_bucket_log::TakenBucket;
 use ps_values::Text;
 
 // Whether a name is below those of all.

@@ -1,9 +1,8 @@
 //! The words of a case.
 
-use ps_bucket_log::Op;
+use ps_bucket_log::{Op, Taken, TakenBucket};
 use ps_checksum::Sum;
 use ps_lines::Known;
-use ps_store::{Taken, TakenBucket};
 use ps_values::{Items, OpId, Position, Text};
 use std::alloc::Global;
 use std::test::Fail;

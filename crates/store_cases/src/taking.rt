@@ -3,9 +3,9 @@
 ghost use Rattle.store_cases.specs.Standing.{IsStore};
 
 use crate::words::{Stop, cut};
-use ps_bucket_log::{Batch, Op};
+use ps_bucket_log::{Batch, Op, Taken, TakenBucket};
 use ps_sql_eval::Asker;
-use ps_store::{Store, TakeFault, Taken, TakenBucket};
+use ps_store::{Store, TakeFault};
 use ps_values::{Memory, OpId, Text};
 use std::alloc::Global;
 
