@@ -1,4 +1,4 @@
--- The source is in the order of its keys, and a change is seen at its own key alone.
+-- What keys keep: they are in a total order, the source stands in it, and a change is seen at its own key alone.
 use Rattle.std.proofs.Common.{◌≡◌, ℕ, ◌+◌, Bool, true, false, not, cond, List, [], ◌∷◌, Option, Some, None, option_map, refl, sym, ap, ◌∙◌}
 use Rattle.std.specs.Prelude.{T}
 use Rattle.std.specs.Ordering.{nat_cmp, is_eq, eq_by_cmp}
