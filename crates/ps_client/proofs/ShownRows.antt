@@ -20,7 +20,7 @@ use Rattle.ps_values.specs.Documents.{document_of}
 use Rattle.ps_changes.specs.declared.changes.Change.{Change}
 use Rattle.ps_changes.specs.declared.shown.Shown.{Shown}
 use Rattle.ps_changes.specs.Source.{Key as Object, key_cmp}
-use Rattle.ps_changes.proofs.Sources.{keys_total}
+use Rattle.ps_changes.specs.Keys.{keys_total}
 use Rattle.ps_client_log.specs.Kept.{Kept, shown_in}
 use Rattle.ps_client_log.specs.Lending.{LentObject, object_at, lent_cmp}
 use Rattle.ps_client_log.specs.Rows.{HeldCopy, Holds, object_of, IsLatestContent, by_object, AreInOrder, row_at}

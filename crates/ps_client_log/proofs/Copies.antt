@@ -19,7 +19,7 @@ use Rattle.ps_bucket_log.specs.declared.ops.Op.{Op}
 use Rattle.ps_bucket_log.specs.Buckets.{Bucket, fresh}
 use Rattle.ps_changes.specs.declared.shown.Shown.{Shown}
 use Rattle.ps_changes.specs.Source.{Key as Object, key_cmp}
-use Rattle.ps_changes.proofs.Sources.{keys_total, keys_exact}
+use Rattle.ps_changes.specs.Keys.{keys_total, keys_exact}
 use Rattle.ps_client_log.specs.declared.holdings.Holdings.{Holdings}
 use Rattle.ps_client_log.specs.declared.images.Entry.{Entry}
 use Rattle.ps_client_log.specs.declared.images.Image.{Image}

@@ -8,7 +8,7 @@ use Rattle.std.specs.Ordering.{eq_by_cmp}
 use Rattle.ps_changes.specs.declared.changes.Change.{Change}
 use Rattle.ps_changes.specs.declared.changes.Transaction.{Transaction}
 use Rattle.ps_changes.specs.Source.{Key, key_cmp, Version, Source, after_row, after_changes, after_transactions, source_at}
-use Rattle.ps_changes.proofs.Sources.{keys_total}
+use Rattle.ps_changes.specs.Keys.{keys_total}
 use Rattle.ps_grant.specs.declared.sourcing.Version.{Version as Held}
 use Rattle.ps_grant.specs.declared.copies.Granted.{Granted}
 use Rattle.ps_grant.specs.Mapped.{version_of}

@@ -14,7 +14,7 @@ use Rattle.ps_values.specs.declared.columns.Column.{Column}
 use Rattle.ps_changes.specs.declared.changes.Change.{Change}
 use Rattle.ps_changes.specs.declared.changes.Transaction.{Transaction}
 use Rattle.ps_changes.specs.Source.{Key, key_cmp, Version, Source, after_row, after_changes, after_transactions, source_at}
-use Rattle.ps_changes.proofs.Sources.{keys_total, keys_exact, find-after_row, sorted-after_transactions}
+use Rattle.ps_changes.specs.Keys.{keys_total, keys_exact, find-after_row, sorted-after_transactions}
 use Rattle.ps_rules.specs.declared.definitions.Definition.{Definition}
 use Rattle.ps_rules.specs.Vectors.{SourceRow}
 use Rattle.ps_params.specs.Notes.{Note, counts_for, row_after, row_at}

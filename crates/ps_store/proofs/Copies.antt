@@ -17,7 +17,7 @@ use Rattle.ps_values.specs.declared.values.Truth.TheVariants.{True, False, Unkno
 use Rattle.ps_values.specs.Values.{truth_of}
 use Rattle.ps_values.specs.Documents.{document_of}
 use Rattle.ps_changes.specs.Source.{Key, key_cmp, Version, Source}
-use Rattle.ps_store.proofs.RowKeys.{keys_total, keys_exact}
+use Rattle.ps_changes.specs.Keys.{keys_total, keys_exact}
 use Rattle.ps_sql.specs.declared.expressions.Expr.{Expr}
 use Rattle.ps_sql.specs.declared.queries.Output.{Output}
 use Rattle.ps_sql.specs.declared.queries.DataQuery.{DataQuery}

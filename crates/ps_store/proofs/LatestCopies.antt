@@ -7,7 +7,7 @@ use Rattle.std.proofs.lemmas.Bool.{eqb-true}
 use Rattle.std.proofs.lemmas.Cmp.{tied_itself}
 use Rattle.std.proofs.lemmas.Option.{same_Some}
 use Rattle.ps_changes.specs.Source.{Key, key_cmp}
-use Rattle.ps_store.proofs.RowKeys.{keys_total, keys_exact}
+use Rattle.ps_changes.specs.Keys.{keys_total, keys_exact}
 use Rattle.ps_grant.specs.declared.copies.Granted.{Granted}
 use Rattle.ps_grant.specs.Latest.{object_of, is_later, Rows, is_superseded, kept, latest_after}
 use Rattle.ps_store.proofs.Members.{Has}

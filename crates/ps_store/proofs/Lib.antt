@@ -34,7 +34,6 @@ pub mod Recording
 pub mod Refusing
 pub mod Replays
 pub mod Replicating
-pub mod RowKeys
 pub mod Sources
 pub mod Standings
 pub mod Stepping

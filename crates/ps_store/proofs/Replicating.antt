@@ -10,7 +10,7 @@ use Rattle.ps_values.specs.declared.columns.Column.{Column}
 use Rattle.ps_changes.specs.declared.changes.Change.{Change}
 use Rattle.ps_changes.specs.declared.changes.Transaction.{Transaction}
 use Rattle.ps_changes.specs.Source.{Key, key_cmp, Source, Version}
-use Rattle.ps_changes.proofs.Sources.{keys_total}
+use Rattle.ps_changes.specs.Keys.{keys_total}
 use Rattle.ps_rules.specs.declared.definitions.Definition.{Definition}
 use Rattle.ps_rules.specs.RuleSets.{RuleSet}
 use Rattle.ps_bucket_eval.specs.declared.placed.Placed.{Placed}

@@ -13,7 +13,7 @@ use Rattle.ps_bucket_log.specs.declared.ops.Op.{Op}
 use Rattle.ps_bucket_log.specs.Ops.{id_of}
 use Rattle.ps_bucket_log.specs.Buckets.{bucket_of, fresh}
 use Rattle.ps_changes.specs.Source.{Key, key_cmp, Version, Source}
-use Rattle.ps_store.proofs.RowKeys.{keys_total, keys_exact, find-after_row}
+use Rattle.ps_changes.specs.Keys.{keys_total, keys_exact, find-after_row}
 use Rattle.ps_rules.specs.declared.definitions.Definition.{Definition}
 use Rattle.ps_rules.specs.RuleSets.{rises_past, numbers_of}
 use Rattle.ps_bucket_eval.specs.declared.placed.Placed.{Placed}
