@@ -14,7 +14,7 @@ use Rattle.ps_store.specs.Laws.{last_position}
 use Rattle.ps_store.specs.Ledgers.{Ledger, ledger_of}
 use Rattle.ps_store.specs.Limits.{usual_limits}
 use Rattle.ps_store.specs.Readings.{names_of, AreTooMany}
-use Rattle.ps_sync.specs.Syncing.{AreSynced}
+use Rattle.ps_commands.specs.Syncing.{AreSynced}
 use Rattle.ps_commands.specs.Dues.{due, own_buckets}
 use Rattle.ps_commands.specs.ReadingChanges.{usual, HasCommitted}
 

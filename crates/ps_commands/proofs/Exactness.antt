@@ -25,7 +25,7 @@ use Rattle.ps_commands.specs.Compacting.{compact_text}
 use Rattle.ps_commands.specs.Generating.{generated}
 use Rattle.ps_commands.specs.Replaying.{Game}
 use Rattle.ps_commands.specs.RulesFaults.{rules_of_file}
-use Rattle.ps_effects.specs.Texts.{rows_text}
+use Rattle.ps_core.specs.Texts.{rows_text}
 
 same_value : {A : Type 0} (o : Option A) (a b : A) → o ≡ Some a → o ≡ Some b → a ≡ b
 same_value o a b h g = let e : Some a ≡ Some b = sym h ∙ g in cc

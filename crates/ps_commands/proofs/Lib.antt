@@ -1,3 +1,12 @@
+pub mod Leading
+pub mod SyncAnswers
+pub mod Passing
+pub mod Turns
+pub mod Rereading
+pub mod Ending
+pub mod Results
+pub mod ScriptLines
+pub mod Spelling
 pub mod AllLines
 pub mod Causes
 pub mod Committing

@@ -4,7 +4,7 @@ use Rattle.std.specs.declared.alloc.Global.{Global}
 use Rattle.ps_io.specs.Contents.{Contents}
 use Rattle.ps_changes.specs.declared.changes.Transaction.{Transaction}
 use Rattle.ps_rules.specs.RuleSets.{RuleSet}
-use Rattle.ps_replay.specs.Replays.{Output, StopsAt}
+use Rattle.ps_commands.specs.Replays.{Output, StopsAt}
 use Rattle.ps_script.specs.declared.faults.ScriptFault.{ScriptFault}
 use Rattle.ps_script.specs.declared.faults.ScriptFault.TheVariants as scripts
 use Rattle.ps_commands.specs.declared.faults.Fault.{Fault}

@@ -21,7 +21,7 @@ use Rattle.ps_store.specs.Limits.{greatest, usual_limits}
 use Rattle.ps_store.specs.Readings.{names_of, AreTooMany}
 use Rattle.ps_store.specs.Stores.{StoreStandsFor}
 use Rattle.ps_store.specs.Totals.{totals_of}
-use Rattle.ps_sync.specs.Syncing.{AreSynced}
+use Rattle.ps_commands.specs.Syncing.{AreSynced}
 use Rattle.ps_commands.specs.declared.compacting.Compacted.{Compacted}
 use Rattle.ps_commands.specs.declared.faults.Fault.{Fault}
 use Rattle.ps_commands.specs.declared.faults.Fault.TheVariants.{Usage, Rules, Change, PastLimit, TooManyBuckets, Claims, Keys, TooLong, CannotRead, CannotWrite, Script, Memory}

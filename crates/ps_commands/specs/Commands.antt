@@ -32,7 +32,7 @@ use Rattle.ps_commands.specs.Generating.{generated}
 use Rattle.ps_commands.specs.Replaying.{Game, GivesAll, GivesSome, GivesUntil}
 use Rattle.ps_commands.specs.RulesFaults.{rules_of_file, cause_text}
 use Rattle.ps_commands.specs.Texts.{lines_text}
-use Rattle.ps_effects.specs.Texts.{rows_text}
+use Rattle.ps_core.specs.Texts.{rows_text}
 
 -- ---- words
 

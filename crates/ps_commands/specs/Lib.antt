@@ -12,3 +12,7 @@ pub mod Replaying
 pub mod RulesFaults
 pub mod Saying
 pub mod Texts
+pub mod Syncing
+pub mod Turning
+pub mod Scripts
+pub mod Replays

@@ -22,7 +22,7 @@ use Rattle.ps_claims.specs.Claims.{asker_of_claims}
 use Rattle.ps_commands.specs.Commands.{HoldsWithin, key_of_file}
 use Rattle.ps_commands.specs.Dues.{due, own_buckets}
 use Rattle.ps_commands.specs.RulesFaults.{rules_of_file}
-use Rattle.ps_effects.specs.Texts.{rows_text}
+use Rattle.ps_core.specs.Texts.{rows_text}
 
 -- loading a file within a limit: what was found in its bytes, why its bytes are refused, that it is longer, or that the files failed
 abbrev pub Loads : {X : Type 0} → Option Contents → List ℕ → ℕ → ℕ → ℕ → (X → List ℕ → Type 0) → (Fault → List ℕ → Type 0) → Result X Fault → Type 0

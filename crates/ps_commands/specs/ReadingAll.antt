@@ -3,7 +3,7 @@ use Rattle.std.specs.Prelude.{◌≡◌, ℕ, ◌+◌, ◌≤◌, List, length, 
 use Rattle.std.specs.Borrow.{Bor}
 use Rattle.std.specs.declared.alloc.Global.{Global}
 use Rattle.ps_changes.specs.declared.changes.Transaction.{Transaction}
-use Rattle.ps_play.specs.Scripts.{AreLow}
+use Rattle.ps_core.specs.Scripts.{AreLow}
 use Rattle.ps_commands.specs.declared.faults.Fault.{Fault}
 use Rattle.ps_commands.specs.declared.faults.Fault.TheVariants.{Usage, Rules, Change, PastLimit, TooManyBuckets, Claims, Keys, TooLong, CannotRead, CannotWrite, Script, Memory}
 use Rattle.ps_commands.specs.ChangeFiles.{all_from, all_transactions_of}

@@ -9,9 +9,9 @@ use Rattle.ps_script.specs.declared.faults.ScriptFault.TheVariants as scripts
 use Rattle.ps_script.specs.Lines.{lines_of}
 use Rattle.ps_store.specs.declared.fixed.Fixed.{Fixed}
 use Rattle.ps_store.specs.Limits.{usual_limits}
-use Rattle.ps_play.specs.Plays.{Play, first_play}
-use Rattle.ps_replay.specs.Scripts.{PlaysLines, RefusesLine}
-use Rattle.ps_replay.specs.Replays.{Output, PlaysSome}
+use Rattle.ps_core.specs.Plays.{Play, first_play}
+use Rattle.ps_commands.specs.Scripts.{PlaysLines, RefusesLine}
+use Rattle.ps_commands.specs.Replays.{Output, PlaysSome}
 use Rattle.ps_commands.specs.declared.faults.Fault.{Fault}
 use Rattle.ps_commands.specs.declared.faults.Fault.TheVariants.{Usage, Rules, Change, PastLimit, TooManyBuckets, Claims, Keys, TooLong, CannotRead, CannotWrite, Script, Memory}
 use Rattle.ps_commands.specs.declared.faults.ScriptCause.{ScriptCause}

@@ -9,7 +9,7 @@ use crate::faults::Fault;
 use ps_changes::Shown;
 use ps_sql_eval::Asker;
 use ps_store::{Store, TakeFault, ledgers_tell_histories};
-use ps_sync::synced_rows;
+use crate::syncing::synced_rows;
 use ps_values::Items;
 use std::alloc::Global;
 

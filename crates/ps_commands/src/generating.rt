@@ -19,7 +19,7 @@ use ps_gen::{make_input, make_rules};
 use ps_rules::Rules;
 use ps_sql_eval::Asker;
 use ps_store::{Limits, Store, TakeFault, Totals, have_numbers, ledgers_tell_histories};
-use ps_sync::synced_rows;
+use crate::syncing::synced_rows;
 use ps_values::{Items, Memory, Text};
 use std::alloc::Global;
 

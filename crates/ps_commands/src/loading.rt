@@ -9,7 +9,7 @@ use crate::faults::Fault;
 use crate::rules_faults::read_rules_file;
 use crate::signing::choose_key;
 use ps_claims::read_claims;
-use ps_effects::print_rows;
+use ps_core::print_rows;
 use ps_io::{FileFault, Files};
 use ps_rules::Rules;
 use ps_sql_eval::Asker;

@@ -1,16 +1,17 @@
 //! The command `replay`.
 
 ghost use Rattle.std.specs.Prelude.{◌≡◌, ◌<◌, ◌^◌, ℕ, List, [], ◌∷◌, true, false, bytes_eq, codes, length};
-ghost use Rattle.ps_play.specs.Scripts.{AreLow};
+ghost use Rattle.ps_core.specs.Scripts.{AreLow};
 ghost use Rattle.ps_commands.specs.Commands.{Outcome};
 ghost use Rattle.ps_commands.specs.Replaying.{PlaysOut, stopped_by};
 
-use crate::faults::{Fault, ScriptCause};
+use crate::replay_faults::{Fault, ScriptCause};
 use crate::loading::{FILE_LIMIT, load, load_rules};
 use crate::reading_all::load_transactions;
 use ps_changes::Transaction;
 use ps_io::{Files, Sink};
-use ps_replay::{ReplayFault, replay};
+use crate::replay_faults::ReplayFault;
+use crate::playing::replay;
 use ps_rules::Rules;
 use ps_script::ScriptFault;
 use ps_values::Text;

@@ -31,21 +31,21 @@ use Rattle.ps_sql_eval.specs.declared.askers.Asker.{Asker}
 use Rattle.ps_store.specs.declared.events.Event.{Event as StoreEvent}
 use Rattle.ps_store.specs.declared.fixed.Fixed.{Fixed}
 use Rattle.ps_store.specs.declared.stores.Store.{Store}
-use Rattle.ps_session.specs.Headline.{AreListed}
+use Rattle.ps_core.specs.Headline.{AreListed}
 use Rattle.ps_session.specs.Kept.{state_of}
-use Rattle.ps_session.specs.Lives.{Link, Idle, Streaming}
-use Rattle.ps_session.specs.Runs.{Made}
+use Rattle.ps_core.specs.Lives.{Link, Idle, Streaming}
+use Rattle.ps_core.specs.Runs.{Made}
 use Rattle.ps_session.specs.Sessions.{SessionState}
-use Rattle.ps_effects.specs.declared.effects.Effect.TheVariants as effects
-use Rattle.ps_play.specs.Plays.{Play, Outcome, says}
-use Rattle.ps_play.specs.Plays as plays
-use Rattle.ps_play.specs.ReaderEvents.{ShowsAfter, TakesLine, link_after_answer, took_effect, took_outcome}
-use Rattle.ps_play.specs.Steps.{TakesOn}
+use Rattle.ps_core.specs.declared.effects.Effect.TheVariants as effects
+use Rattle.ps_core.specs.Plays.{Play, Outcome, says}
+use Rattle.ps_core.specs.Plays as plays
+use Rattle.ps_core.specs.ReaderEvents.{ShowsAfter, TakesLine, link_after_answer, took_effect, took_outcome}
+use Rattle.ps_core.specs.PlaySteps.{TakesOn}
 use Rattle.ps_core.specs.declared.readers.Reader.{Reader}
 use Rattle.ps_core.specs.declared.readers.Stream.{Stream}
 use Rattle.ps_core.specs.declared.taking.Answer.{Answer}
 use Rattle.ps_core.specs.Answers.{CanFault, IsAnswered, IsRefusing, ends, refused_by, said_by}
-use Rattle.ps_effects.specs.Texts.{IsPrintable}
+use Rattle.ps_core.specs.Texts.{IsPrintable}
 use Rattle.ps_core.specs.Parts.{CameTo, IsAt}
 use Rattle.ps_core.specs.Worlds.{AreWaiting, LinkStandsFor, StreamStandsFor, bytes_of}
 use Rattle.ps_core.proofs.Visited.{HasLink, became, said_to, streams_so}

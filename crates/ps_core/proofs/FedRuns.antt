@@ -7,13 +7,13 @@ use Rattle.ps_store.specs.declared.events.Event.TheVariants.{Feed}
 use Rattle.ps_store.specs.declared.fixed.Fixed.{Fixed}
 use Rattle.ps_store.specs.declared.stores.Store.{Store}
 use Rattle.ps_store.specs.Stores.{StoreStandsFor}
-use Rattle.ps_effects.specs.declared.effects.Effect.{Effect}
-use Rattle.ps_effects.specs.declared.effects.Effect.TheVariants.{Fed}
-use Rattle.ps_play.specs.Plays.{Play, Outcome}
-use Rattle.ps_play.specs.StoreEvents.{fed_or, fed_outcome, feeding, feeds}
-use Rattle.ps_effects.specs.Texts.{IsPrintable}
+use Rattle.ps_core.specs.declared.effects.Effect.{Effect}
+use Rattle.ps_core.specs.declared.effects.Effect.TheVariants.{Fed}
+use Rattle.ps_core.specs.Plays.{Play, Outcome}
+use Rattle.ps_core.specs.StoreEvents.{fed_or, fed_outcome, feeding, feeds}
+use Rattle.ps_core.specs.Texts.{IsPrintable}
 use Rattle.ps_core.specs.Feeding.{Ends, FedAll, FedFirst, FeedsAll, IsLeft}
-use Rattle.ps_play.specs.Scripts.{AreLow}
+use Rattle.ps_core.specs.Scripts.{AreLow}
 
 -- so many were fed, and to feed those that are due from here gives what feeding all gives
 pub record Going (fixed : Fixed) (play : Play) (most count : ℕ) (store : Store) (left : List Transaction) : Type 0 where

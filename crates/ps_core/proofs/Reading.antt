@@ -9,10 +9,10 @@ use Rattle.ps_session.specs.declared.actions.Action.{Action}
 use Rattle.ps_session.specs.declared.actions.Action.TheVariants.{Take, Read, Complete, Wait}
 use Rattle.ps_session.specs.declared.phases.Phase.{Phase}
 use Rattle.ps_session.specs.declared.phases.Phase.TheVariants.{Start, Download, Void, Done}
-use Rattle.ps_session.specs.Runs.{batch_at}
+use Rattle.ps_core.specs.Runs.{batch_at}
 use Rattle.ps_session.specs.Sessions.{SessionState, IsReadAt, IsReading, IsTaking, action_in, behind, download_action, next_action}
 use Rattle.ps_session.specs.Takes.{name_of}
-use Rattle.ps_play.specs.ReaderEvents.{passed_in, takes_in}
+use Rattle.ps_core.specs.ReaderEvents.{passed_in, takes_in}
 
 -- ---- a take
 

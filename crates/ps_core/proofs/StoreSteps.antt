@@ -28,12 +28,12 @@ use Rattle.ps_store.specs.Originals.{Timed, in_bucket}
 use Rattle.ps_store.specs.Runs.{refusal_of, run_from, stopped}
 use Rattle.ps_store.specs.Stores.{Commits, Compacts, StoreStandsFor, Writes, next_run}
 use Rattle.ps_store.specs.Totals.{totals_of}
-use Rattle.ps_effects.specs.declared.effects.Effect.{Effect}
-use Rattle.ps_effects.specs.declared.effects.Effect.TheVariants as effects
-use Rattle.ps_play.specs.Plays.{Play, happens, ledger, says}
-use Rattle.ps_play.specs.Steps.{Comes, uncounted}
-use Rattle.ps_play.specs.StoreEvents.{compacts_over, unwritten_effect}
-use Rattle.ps_effects.specs.Texts.{IsPrintable}
+use Rattle.ps_core.specs.declared.effects.Effect.{Effect}
+use Rattle.ps_core.specs.declared.effects.Effect.TheVariants as effects
+use Rattle.ps_core.specs.Plays.{Play, happens, ledger, says}
+use Rattle.ps_core.specs.PlaySteps.{Comes, uncounted}
+use Rattle.ps_core.specs.StoreEvents.{compacts_over, unwritten_effect}
+use Rattle.ps_core.specs.Texts.{IsPrintable}
 use Rattle.ps_core.specs.Parts.{CameStill}
 use Rattle.ps_core.proofs.Histories.{could_come}
 

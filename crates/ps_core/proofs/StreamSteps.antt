@@ -12,18 +12,18 @@ use Rattle.ps_client.specs.Requests.{IsRequest}
 use Rattle.ps_client.specs.States.{state}
 use Rattle.ps_store.specs.declared.fixed.Fixed.{Fixed}
 use Rattle.ps_store.specs.declared.stores.Store.{Store}
-use Rattle.ps_session.specs.Calls.{BeginsUntaken, RequestsAskOn}
-use Rattle.ps_session.specs.Headline.{AsksOn}
+use Rattle.ps_core.specs.Calls.{BeginsUntaken, RequestsAskOn}
+use Rattle.ps_core.specs.Headline.{AsksOn}
 use Rattle.ps_session.specs.Kept.{state_of}
-use Rattle.ps_session.specs.Lives.{Link, Idle, Streaming}
-use Rattle.ps_session.specs.Runs.{Made, turn}
+use Rattle.ps_core.specs.Lives.{Link, Idle, Streaming}
+use Rattle.ps_core.specs.Runs.{Made, turn}
 use Rattle.ps_session.specs.Sessions.{SessionState, begin, requested_in}
-use Rattle.ps_effects.specs.declared.effects.Effect.{Effect}
-use Rattle.ps_effects.specs.declared.effects.Effect.TheVariants as effects
-use Rattle.ps_play.specs.Plays.{Play, course, place}
-use Rattle.ps_play.specs.Plays as plays
-use Rattle.ps_play.specs.ReaderEvents.{Turns, becomes, cut, opened, passed_in, takes_in, turn_effect, turned}
-use Rattle.ps_play.specs.Steps.{TurnsOn, idle, unknown, unknown_or_idle}
+use Rattle.ps_core.specs.declared.effects.Effect.{Effect}
+use Rattle.ps_core.specs.declared.effects.Effect.TheVariants as effects
+use Rattle.ps_core.specs.Plays.{Play, course, place}
+use Rattle.ps_core.specs.Plays as plays
+use Rattle.ps_core.specs.ReaderEvents.{Turns, becomes, cut, opened, passed_in, takes_in, turn_effect, turned}
+use Rattle.ps_core.specs.PlaySteps.{TurnsOn, idle, unknown, unknown_or_idle}
 use Rattle.ps_core.specs.declared.readers.Reader.{Reader}
 use Rattle.ps_core.specs.declared.readers.Stream.{Stream}
 use Rattle.ps_core.specs.Parts.{CameTo, IsAt}

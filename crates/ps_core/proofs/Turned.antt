@@ -25,17 +25,17 @@ use Rattle.ps_store.specs.Readings.{AreTooMany, IsTaken, Takes, batch_of, bucket
 use Rattle.ps_session.specs.declared.actions.Action.TheVariants.{Read, Complete}
 use Rattle.ps_session.specs.declared.phases.Phase.{Phase}
 use Rattle.ps_session.specs.declared.phases.Phase.TheVariants.{Start, Download, Void, Done}
-use Rattle.ps_session.specs.Calls.{FinishesAreTurns, LinesAreWritable, ReadsAreTurns, ReadsGiveSomething, TakesAreTurns, TurnsKeepTaken}
+use Rattle.ps_core.specs.Calls.{FinishesAreTurns, LinesAreWritable, ReadsAreTurns, ReadsGiveSomething, TakesAreTurns, TurnsKeepTaken}
 use Rattle.ps_session.specs.Kept.{state_of}
-use Rattle.ps_session.specs.Runs.{Made, IsToldIn, at_after, made_by, turn}
+use Rattle.ps_core.specs.Runs.{Made, IsToldIn, at_after, made_by, turn}
 use Rattle.ps_session.specs.Sessions as sessions
 use Rattle.ps_session.specs.Sessions.{SessionState, IsTaking, behind, finished, next_action, read, took}
 use Rattle.ps_session.specs.Takes.{name_of}
-use Rattle.ps_effects.specs.declared.effects.Effect.{Effect}
-use Rattle.ps_play.specs.Plays.{Play, course, place}
-use Rattle.ps_play.specs.ReaderEvents.{passed_in, takes_in, turn_effect}
+use Rattle.ps_core.specs.declared.effects.Effect.{Effect}
+use Rattle.ps_core.specs.Plays.{Play, course, place}
+use Rattle.ps_core.specs.ReaderEvents.{passed_in, takes_in, turn_effect}
 use Rattle.ps_core.specs.declared.readers.Stream.{Stream}
-use Rattle.ps_effects.specs.Texts.{IsPrintable}
+use Rattle.ps_core.specs.Texts.{IsPrintable}
 use Rattle.ps_core.specs.Streams.{IsStream, IsTooMuch, Turned, Turns}
 use Rattle.ps_core.specs.Worlds.{AreWaiting, bytes_of}
 use Rattle.ps_core.proofs.Reading.{takes, take_passes_none, read_takes_not, read_passes, end_takes_not, end_passes_none}

@@ -10,17 +10,17 @@ use Rattle.ps_store.specs.declared.events.Event.{Event}
 use Rattle.ps_store.specs.declared.fixed.Fixed.{Fixed}
 use Rattle.ps_store.specs.declared.stores.Store.{Store}
 use Rattle.ps_store.specs.Stores.{StoreStandsFor}
-use Rattle.ps_session.specs.Lives.{Link, Idle, Streaming}
-use Rattle.ps_session.specs.Runs.{Made}
+use Rattle.ps_core.specs.Lives.{Link, Idle, Streaming}
+use Rattle.ps_core.specs.Runs.{Made}
 use Rattle.ps_session.specs.Sessions.{SessionState}
-use Rattle.ps_effects.specs.declared.effects.Effect.{Effect}
-use Rattle.ps_play.specs.Plays.{Play, Outcome, happens, says, with_reader}
-use Rattle.ps_play.specs.Plays as plays
-use Rattle.ps_play.specs.ReaderEvents.{becomes}
-use Rattle.ps_play.specs.Steps.{Comes}
+use Rattle.ps_core.specs.declared.effects.Effect.{Effect}
+use Rattle.ps_core.specs.Plays.{Play, Outcome, happens, says, with_reader}
+use Rattle.ps_core.specs.Plays as plays
+use Rattle.ps_core.specs.ReaderEvents.{becomes}
+use Rattle.ps_core.specs.PlaySteps.{Comes}
 use Rattle.ps_core.specs.declared.readers.Reader.{Reader}
 use Rattle.ps_core.specs.declared.readers.Stream.{Stream}
-use Rattle.ps_effects.specs.Texts.{IsPrintable}
+use Rattle.ps_core.specs.Texts.{IsPrintable}
 use Rattle.ps_core.specs.Parts.{CameTo}
 use Rattle.ps_core.specs.Worlds.{LinkStandsFor, ReaderStandsFor, StreamStandsFor}
 

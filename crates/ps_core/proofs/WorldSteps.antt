@@ -16,14 +16,14 @@ use Rattle.ps_store.specs.declared.fixed.Fixed.{Fixed}
 use Rattle.ps_store.specs.declared.stores.Store.{Store}
 use Rattle.ps_store.specs.CourseLaws.{PlacesStay}
 use Rattle.ps_store.specs.Stores.{StoreStandsFor}
-use Rattle.ps_effects.specs.declared.effects.Effect.{Effect}
-use Rattle.ps_effects.specs.declared.effects.Effect.TheVariants as effects
-use Rattle.ps_play.specs.Plays.{Play, Outcome, first_reader}
-use Rattle.ps_play.specs.Plays as plays
-use Rattle.ps_play.specs.ReaderEvents.{becomes}
-use Rattle.ps_play.specs.Steps.{refusal, uncounted, unknown, unknown_or_idle, unknown_or_nameless}
-use Rattle.ps_play.specs.StoreEvents.{feeds}
-use Rattle.ps_play.specs.Headline.{PlaysStayLed}
+use Rattle.ps_core.specs.declared.effects.Effect.{Effect}
+use Rattle.ps_core.specs.declared.effects.Effect.TheVariants as effects
+use Rattle.ps_core.specs.Plays.{Play, Outcome, first_reader}
+use Rattle.ps_core.specs.Plays as plays
+use Rattle.ps_core.specs.ReaderEvents.{becomes}
+use Rattle.ps_core.specs.PlaySteps.{refusal, uncounted, unknown, unknown_or_idle, unknown_or_nameless}
+use Rattle.ps_core.specs.StoreEvents.{feeds}
+use Rattle.ps_core.specs.PlayHeadline.{PlaysStayLed}
 use Rattle.ps_core.specs.declared.readers.Reader.{Reader}
 use Rattle.ps_core.specs.declared.visits.Visit.{Visit}
 use Rattle.ps_core.specs.declared.visits.Visit.TheVariants.{Open, Turn, Take, Cut, Local, Upload, Number, Rows}
@@ -31,12 +31,12 @@ use Rattle.ps_core.specs.declared.worlds.World.{World}
 use Rattle.ps_core.specs.Feeding.{FeedsAll, IsLeft}
 use Rattle.ps_core.specs.Parts.{Acts, Came, CameStill, HasTable, IsAt, Serves, event_of}
 use Rattle.ps_core.specs.Readers.{HasBegun, IsPut, Readers, reader_at}
-use Rattle.ps_core.specs.Steps.{Gave, Goes, Refused, Went}
-use Rattle.ps_play.specs.Scripts.{AreLow}
+use Rattle.ps_core.specs.WorldSteps.{Gave, Goes, Refused, Went}
+use Rattle.ps_core.specs.Scripts.{AreLow}
 use Rattle.ps_core.specs.Worlds.{IsWorld, OneStandsFor, ReaderStandsFor, WorldStandsFor}
 use Rattle.ps_core.proofs.Histories.{one_more}
 use Rattle.ps_core.proofs.Visited.{itself, same_names}
-use Rattle.ps_effects.specs.Texts.{IsPrintable}
+use Rattle.ps_core.specs.Texts.{IsPrintable}
 use Rattle.std.proofs.lemmas.List.{append-nil}
 use Rattle.ps_core.proofs.Written.{tabled}
 

@@ -25,11 +25,11 @@ use Rattle.ps_store.specs.CourseLaws.{PlacesStay}
 use Rattle.ps_store.specs.Ledgers.{Ledger, head_of, last_number}
 use Rattle.ps_store.specs.Limits.{greatest}
 use Rattle.ps_store.specs.Stores.{MakesNumber, Uploads}
-use Rattle.ps_effects.specs.declared.effects.Effect.TheVariants as effects
-use Rattle.ps_play.specs.Plays.{Play, Outcome, happens, ledger, says, with_reader}
-use Rattle.ps_play.specs.Plays as plays
-use Rattle.ps_play.specs.ReaderEvents.{next_position, numbered, numbers_for, uploaded_at, uploads, uploads_from, with_kept}
-use Rattle.ps_play.specs.Steps.{NumbersAs, nameless, unknown, unknown_or_nameless, untabled}
+use Rattle.ps_core.specs.declared.effects.Effect.TheVariants as effects
+use Rattle.ps_core.specs.Plays.{Play, Outcome, happens, ledger, says, with_reader}
+use Rattle.ps_core.specs.Plays as plays
+use Rattle.ps_core.specs.ReaderEvents.{next_position, numbered, numbers_for, uploaded_at, uploads, uploads_from, with_kept}
+use Rattle.ps_core.specs.PlaySteps.{NumbersAs, nameless, unknown, unknown_or_nameless, untabled}
 use Rattle.ps_core.specs.declared.readers.Reader.{Reader}
 use Rattle.ps_core.specs.Parts.{CameTo, IsAt, IsWant}
 use Rattle.ps_core.specs.Worlds.{ReaderStandsFor, LinkStandsFor}

@@ -9,7 +9,7 @@ use Rattle.ps_client.specs.Clients.{PlainClient, taken}
 use Rattle.ps_client.specs.Taking.{showing}
 use Rattle.ps_client.specs.declared.streams.Stream.TheVariants.{Over}
 use Rattle.ps_client_log.specs.Kept.{nothing_kept}
-use Rattle.ps_play.specs.ReaderEvents.{ShowsAfter, event_effect, fault_effect, took_effect}
+use Rattle.ps_core.specs.ReaderEvents.{ShowsAfter, event_effect, fault_effect, took_effect}
 use Rattle.ps_core.specs.declared.taking.Answer.{Answer}
 
 -- a client before its first event

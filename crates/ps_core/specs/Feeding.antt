@@ -7,12 +7,12 @@ use Rattle.ps_store.specs.declared.fixed.Fixed.{Fixed}
 use Rattle.ps_store.specs.declared.stores.Store.{Store}
 use Rattle.ps_store.specs.Ledgers.{ledger_of}
 use Rattle.ps_store.specs.Stores.{StoreStandsFor}
-use Rattle.ps_effects.specs.declared.effects.Effect.{Effect}
-use Rattle.ps_effects.specs.declared.effects.Effect.TheVariants.{Fed}
-use Rattle.ps_play.specs.Plays.{Play}
-use Rattle.ps_play.specs.StoreEvents.{feed_refusal, feeds}
-use Rattle.ps_effects.specs.Texts.{IsPrintable}
-use Rattle.ps_play.specs.Scripts.{AreLow}
+use Rattle.ps_core.specs.declared.effects.Effect.{Effect}
+use Rattle.ps_core.specs.declared.effects.Effect.TheVariants.{Fed}
+use Rattle.ps_core.specs.Plays.{Play}
+use Rattle.ps_core.specs.StoreEvents.{feed_refusal, feeds}
+use Rattle.ps_core.specs.Texts.{IsPrintable}
+use Rattle.ps_core.specs.Scripts.{AreLow}
 
 -- these transactions are left, and the store stands for the history
 pub record IsLeft (fixed : Fixed) (play : Play) (store : Store) (left : List Transaction) : Type 0 where

@@ -1,3 +1,18 @@
+pub mod Types
+pub mod Texts
+pub mod Runs
+pub mod Headline
+pub mod Lives
+pub mod Ties
+pub mod Led
+pub mod Calls
+pub mod Downloads
+pub mod Plays
+pub mod StoreEvents
+pub mod ReaderEvents
+pub mod PlaySteps
+pub mod PlayHeadline
+pub mod Scripts
 pub mod Worlds
 pub mod Readers
 pub mod Parts
@@ -5,4 +20,4 @@ pub mod Feeding
 pub mod Streams
 pub mod Answers
 pub mod Writing
-pub mod Steps
+pub mod WorldSteps

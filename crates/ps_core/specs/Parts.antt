@@ -14,15 +14,15 @@ use Rattle.ps_script.specs.declared.events.ScriptEvent.{ScriptEvent}
 use Rattle.ps_script.specs.declared.events.ScriptEvent.TheVariants as events
 use Rattle.ps_script.specs.declared.faults.ScriptFault.{ScriptFault}
 use Rattle.ps_script.specs.declared.faults.ScriptFault.TheVariants.{BadEvent, UnknownClient, WrongPhase, Memory}
-use Rattle.ps_effects.specs.declared.effects.Effect.{Effect}
-use Rattle.ps_play.specs.Plays.{Play, Outcome}
-use Rattle.ps_play.specs.Plays as plays
-use Rattle.ps_play.specs.Steps.{Comes, refusal}
+use Rattle.ps_core.specs.declared.effects.Effect.{Effect}
+use Rattle.ps_core.specs.Plays.{Play, Outcome}
+use Rattle.ps_core.specs.Plays as plays
+use Rattle.ps_core.specs.PlaySteps.{Comes, refusal}
 use Rattle.ps_core.specs.declared.readers.Reader.{Reader}
 use Rattle.ps_core.specs.declared.visits.Visit.{Visit}
 use Rattle.ps_core.specs.declared.visits.Visit.TheVariants.{Open, Turn, Take, Cut, Local, Upload, Number, Rows}
-use Rattle.ps_effects.specs.Texts.{IsPrintable}
-use Rattle.ps_play.specs.Scripts.{AreLow}
+use Rattle.ps_core.specs.Texts.{IsPrintable}
+use Rattle.ps_core.specs.Scripts.{AreLow}
 use Rattle.ps_core.specs.Worlds.{ReaderStandsFor}
 
 -- the store stands for the play's history, under valid rules

@@ -6,9 +6,9 @@ use Rattle.std.specs.Ordering.{nat_cmp}
 use Rattle.ps_sql_eval.specs.declared.askers.Asker.{Asker}
 use Rattle.ps_store.specs.declared.events.Event.{Event}
 use Rattle.ps_store.specs.declared.fixed.Fixed.{Fixed}
-use Rattle.ps_effects.specs.declared.effects.Effect.{Effect}
-use Rattle.ps_effects.specs.declared.effects.Effect.TheVariants as effects
-use Rattle.ps_play.specs.Plays.{first_reader}
+use Rattle.ps_core.specs.declared.effects.Effect.{Effect}
+use Rattle.ps_core.specs.declared.effects.Effect.TheVariants as effects
+use Rattle.ps_core.specs.Plays.{first_reader}
 use Rattle.ps_core.specs.declared.readers.Reader.{Reader}
 use Rattle.ps_core.specs.Worlds.{ReaderStandsFor}
 

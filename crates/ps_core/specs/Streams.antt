@@ -4,14 +4,14 @@ use Rattle.ps_sql_eval.specs.declared.askers.Asker.{Asker}
 use Rattle.ps_store.specs.declared.fixed.Fixed.{Fixed}
 use Rattle.ps_store.specs.declared.readings.TakeFault.{TakeFault}
 use Rattle.ps_store.specs.declared.readings.TakeFault.TheVariants.{TooManyBuckets, Memory}
-use Rattle.ps_session.specs.Runs.{Made, IsToldIn, at_after, made_by, turn}
+use Rattle.ps_core.specs.Runs.{Made, IsToldIn, at_after, made_by, turn}
 use Rattle.ps_session.specs.Sessions.{SessionState}
-use Rattle.ps_effects.specs.declared.effects.Effect.{Effect}
-use Rattle.ps_play.specs.Plays.{Play, course, place}
-use Rattle.ps_play.specs.ReaderEvents.{passed_in, takes_in, turn_effect}
+use Rattle.ps_core.specs.declared.effects.Effect.{Effect}
+use Rattle.ps_core.specs.Plays.{Play, course, place}
+use Rattle.ps_core.specs.ReaderEvents.{passed_in, takes_in, turn_effect}
 use Rattle.ps_core.specs.declared.readers.Stream.{Stream}
 use Rattle.ps_store.specs.declared.stores.Store.{Store}
-use Rattle.ps_effects.specs.Texts.{IsPrintable}
+use Rattle.ps_core.specs.Texts.{IsPrintable}
 use Rattle.ps_core.specs.Parts.{Serves}
 use Rattle.ps_core.specs.Worlds.{StreamStandsFor}
 

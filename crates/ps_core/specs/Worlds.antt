@@ -15,13 +15,13 @@ use Rattle.ps_store.specs.declared.fixed.Fixed.{Fixed}
 use Rattle.ps_store.specs.Laws.{HaveNumbers}
 use Rattle.ps_store.specs.Stores.{StoreStandsFor}
 use Rattle.ps_session.specs.Kept.{state_of}
-use Rattle.ps_session.specs.Lives.{Link, Idle, Streaming}
-use Rattle.ps_session.specs.Runs.{Made}
+use Rattle.ps_core.specs.Lives.{Link, Idle, Streaming}
+use Rattle.ps_core.specs.Runs.{Made}
 use Rattle.ps_session.specs.Sessions.{SessionState}
-use Rattle.ps_session.specs.Ties.{HasTaken}
-use Rattle.ps_play.specs.Plays.{Play, course, place}
-use Rattle.ps_play.specs.Plays as plays
-use Rattle.ps_play.specs.Scripts.{AreLow}
+use Rattle.ps_core.specs.Ties.{HasTaken}
+use Rattle.ps_core.specs.Plays.{Play, course, place}
+use Rattle.ps_core.specs.Plays as plays
+use Rattle.ps_core.specs.Scripts.{AreLow}
 use Rattle.ps_core.specs.declared.readers.Reader.{Reader}
 use Rattle.ps_core.specs.declared.readers.Stream.{Stream}
 use Rattle.ps_core.specs.declared.worlds.World.{World}

@@ -4,7 +4,7 @@ ghost use Rattle.std.specs.Prelude.{◌≡◌, List, IfOk};
 ghost use Rattle.ps_client.specs.States.{state};
 ghost use Rattle.ps_store.specs.declared.events.Event.{Event as EventSeen};
 ghost use Rattle.ps_store.specs.declared.fixed.Fixed.{Fixed as FixedSeen};
-ghost use Rattle.ps_play.specs.Plays.{first_reader};
+ghost use Rattle.ps_core.specs.Plays.{first_reader};
 ghost use Rattle.ps_core.specs.Answers.{empty_client};
 ghost use Rattle.ps_core.specs.Worlds.{ReaderStandsFor};
 

@@ -5,10 +5,10 @@ ghost use Rattle.ps_script.specs.declared.events.ScriptEvent.TheVariants as even
 ghost use Rattle.ps_store.specs.declared.events.Event.{Event as EventSeen};
 ghost use Rattle.ps_store.specs.declared.fixed.Fixed.{Fixed as FixedSeen};
 ghost use Rattle.ps_store.specs.Stores.{StoreStandsFor};
-ghost use Rattle.ps_play.specs.Plays.{Play};
+ghost use Rattle.ps_core.specs.Plays.{Play};
 ghost use Rattle.ps_core.specs.Parts.{CameStill};
 
-use ps_effects::Effect;
+use crate::effects::Effect;
 use ps_store::{CompactFault, NothingToCommit, Store, WriteFault};
 use ps_values::{Memory, Text};
 use std::alloc::Global;

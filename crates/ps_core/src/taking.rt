@@ -7,14 +7,14 @@ ghost use Rattle.ps_client.specs.States.{state};
 ghost use Rattle.ps_script.specs.declared.events.ScriptEvent.TheVariants as events;
 ghost use Rattle.ps_store.specs.declared.fixed.Fixed.{Fixed as FixedSeen};
 ghost use Rattle.ps_store.specs.declared.stores.Store.{Store as StoreSeen};
-ghost use Rattle.ps_play.specs.Plays.{Play};
+ghost use Rattle.ps_core.specs.Plays.{Play};
 ghost use Rattle.ps_core.specs.Answers.{CanFault, IsAnswered, IsRefusing, refused_by, said_by};
 ghost use Rattle.ps_core.specs.Parts.{Acts, CameTo, IsAt};
 
 use crate::readers::Reader;
 use ps_client::{Client, ClientFault, Event};
 use ps_client_log::VolatileKeeper;
-use ps_effects::Effect;
+use crate::effects::Effect;
 use ps_script::ScriptFault;
 use ps_values::Memory;
 use std::alloc::Global;

@@ -2,7 +2,7 @@
 
 ghost use Rattle.std.specs.Prelude.{◌≡◌};
 ghost use Rattle.ps_store.specs.declared.fixed.Fixed.{Fixed as FixedSeen};
-ghost use Rattle.ps_play.specs.Plays.{Play};
+ghost use Rattle.ps_core.specs.Plays.{Play};
 ghost use Rattle.ps_core.specs.Parts.{Acts, HasTable, IsAt, event_of, faulted};
 
 use crate::readers::Reader;
@@ -10,7 +10,7 @@ use crate::streaming::{cut, open, turn};
 use crate::taking::{rows, take};
 use crate::writing::{number, upload, write_locally};
 use ps_changes::Change;
-use ps_effects::Effect;
+use crate::effects::Effect;
 use ps_script::ScriptFault;
 use ps_store::Store;
 use ps_values::{Memory, Text};

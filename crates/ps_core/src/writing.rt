@@ -4,18 +4,18 @@ ghost use Rattle.std.specs.Prelude.{◌≡◌, ◌≢◌, ◌≤◌, ℕ, [], Li
 ghost use Rattle.ps_script.specs.declared.events.ScriptEvent.TheVariants as events;
 ghost use Rattle.ps_store.specs.declared.fixed.Fixed.{Fixed as FixedSeen};
 ghost use Rattle.ps_store.specs.declared.stores.Store.{Store as StoreSeen};
-ghost use Rattle.ps_play.specs.Plays.{Play};
+ghost use Rattle.ps_core.specs.Plays.{Play};
 ghost use Rattle.ps_client.specs.LocalWrites.{keeping};
 ghost use Rattle.ps_client.specs.States.{state};
 ghost use Rattle.ps_store.specs.Limits.{greatest};
-ghost use Rattle.ps_play.specs.ReaderEvents.{numbered};
+ghost use Rattle.ps_core.specs.ReaderEvents.{numbered};
 ghost use Rattle.ps_core.specs.Writing.{NextIs};
 ghost use Rattle.ps_core.specs.Parts.{Acts, CameTo, IsAt, IsWant};
 
 use crate::readers::Reader;
 use ps_changes::Change;
 use ps_client::ClientFault;
-use ps_effects::Effect;
+use crate::effects::Effect;
 use ps_script::ScriptFault;
 use ps_store::{FeedFault, Store, places_are_fronts};
 use ps_values::{Items, Memory, Text};

@@ -23,9 +23,9 @@ use Rattle.ps_session.specs.declared.phases.Phase.{Phase}
 use Rattle.ps_session.specs.declared.phases.Phase.TheVariants.{Start}
 use Rattle.ps_session.specs.Takes.{name_of}
 use Rattle.ps_session.specs.Sessions.{SessionState, Turned, IsTaking, IsReading, IsReadAt, action_in, next_action, behind, took, read}
-use Rattle.ps_session.specs.Runs.{IsToldAt, turn}
-use Rattle.ps_session.specs.Calls.{TakesAreTurns, ReadsAreTurns, ReadsGiveSomething, LinesAreWritable}
-use Rattle.ps_session.specs.Ties.{HasTaken}
+use Rattle.ps_core.specs.Runs.{IsToldAt, turn}
+use Rattle.ps_core.specs.Calls.{TakesAreTurns, ReadsAreTurns, ReadsGiveSomething, LinesAreWritable}
+use Rattle.ps_core.specs.Ties.{HasTaken}
 use Rattle.ps_serve.specs.Runs.{Serves, Takes}
 
 -- ---- actions

@@ -15,13 +15,13 @@ use Rattle.ps_store.specs.Ledgers.{ledger_of}
 use Rattle.ps_store.specs.Readings.{take_of, taken_names}
 use Rattle.ps_session.specs.declared.phases.Phase.{Phase}
 use Rattle.ps_session.specs.declared.phases.Phase.TheVariants.{Start, Download}
-use Rattle.ps_session.specs.Calls.{TurnsKeepTaken}
-use Rattle.ps_session.specs.Downloads.{ReadsSendOn}
-use Rattle.ps_session.specs.Headline.{RunsGoOn, RunsClimbOn}
+use Rattle.ps_core.specs.Calls.{TurnsKeepTaken}
+use Rattle.ps_core.specs.Downloads.{ReadsSendOn}
+use Rattle.ps_core.specs.Headline.{RunsGoOn, RunsClimbOn}
 use Rattle.ps_session.specs.Kept.{Kept, state_of}
-use Rattle.ps_session.specs.Runs.{IsToldIn, turn}
+use Rattle.ps_core.specs.Runs.{IsToldIn, turn}
 use Rattle.ps_session.specs.Sessions.{SessionState, Turned, begin, requested_in}
-use Rattle.ps_session.specs.Ties.{HasTaken}
+use Rattle.ps_core.specs.Ties.{HasTaken}
 use Rattle.ps_serve.specs.declared.ends.End.{End}
 use Rattle.ps_serve.specs.Runs.{Serves, IsRun, IsStreaming, HasStreamed, HasStreamedFront, SendsSo, StreamsOn, list_of, lines_text}
 use Rattle.ps_serve.specs.Turning.{course_for, turn_for, IsHere, IsStreamingFor}

@@ -3,12 +3,3 @@ pub mod Walks
 pub mod Seats
 pub mod Changes
 pub mod Steps
-pub mod ToldTables
-pub mod Readers
-pub mod Ties
-pub mod Turns
-pub mod Runs
-pub mod Lives
-pub mod Calls
-pub mod Downloads
-pub mod Writable

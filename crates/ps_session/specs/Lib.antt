@@ -3,10 +3,3 @@ pub mod Takes
 pub mod Sessions
 pub mod Kept
 pub mod Matches
-pub mod Runs
-pub mod Headline
-pub mod Lives
-pub mod Ties
-pub mod Led
-pub mod Calls
-pub mod Downloads

@@ -1,7 +1,7 @@
 //! Change lines by chance.
 
 ghost use Rattle.std.specs.Prelude.{IfOk, OnOk};
-ghost use Rattle.ps_play.specs.Scripts.{AreLow};
+ghost use Rattle.ps_core.specs.Scripts.{AreLow};
 
 use crate::chance::Chance;
 use crate::stops::Stop;

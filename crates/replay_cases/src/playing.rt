@@ -5,7 +5,7 @@ use crate::readers::{Begun, Reader};
 use crate::stages::Stage;
 use crate::stops::{Stop, expect};
 use ps_changes::Shown;
-use ps_effects::Effect;
+use ps_core::Effect;
 use ps_lines::Line;
 use ps_script::{ScriptEvent, ScriptFault, read_event};
 use ps_values::{Items, OpId, Position};

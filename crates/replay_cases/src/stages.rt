@@ -1,10 +1,10 @@
 //! The world that scripts are played on.
 
-ghost use Rattle.ps_play.specs.Scripts.{AreLow};
+ghost use Rattle.ps_core.specs.Scripts.{AreLow};
 
 use ps_changes::Transaction;
 use ps_core::World;
-use ps_effects::Effect;
+use ps_core::Effect;
 use ps_rules::Rules;
 use ps_script::{ScriptEvent, ScriptFault};
 use ps_values::Memory;

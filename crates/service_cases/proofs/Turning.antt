@@ -18,9 +18,9 @@ use Rattle.ps_session.specs.declared.phases.Phase.{Phase}
 use Rattle.ps_session.specs.declared.phases.Phase.TheVariants.{Start, Download, Void, Done}
 use Rattle.ps_session.specs.Takes.{name_of}
 use Rattle.ps_session.specs.Sessions.{SessionState, Turned, IsTaking, IsReading, IsReadAt, next_action, behind, took, read, finished}
-use Rattle.ps_session.specs.Runs.{turn, at_after}
-use Rattle.ps_session.specs.Calls.{TakesAreTurns, ReadsAreTurns, FinishesAreTurns, TurnsKeepTaken, ReadsGiveSomething, LinesAreWritable}
-use Rattle.ps_session.specs.Ties.{HasTaken}
+use Rattle.ps_core.specs.Runs.{turn, at_after}
+use Rattle.ps_core.specs.Calls.{TakesAreTurns, ReadsAreTurns, FinishesAreTurns, TurnsKeepTaken, ReadsGiveSomething, LinesAreWritable}
+use Rattle.ps_core.specs.Ties.{HasTaken}
 use Rattle.service_cases.specs.Serving.{IsOver}
 
 pub is_reading : (action : Action) (place : ℕ) (after upto : OpId) → action ≡ Read place after upto → IsReading action

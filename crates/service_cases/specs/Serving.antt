@@ -9,7 +9,7 @@ use Rattle.ps_store.specs.Courses.{course_of}
 use Rattle.ps_store.specs.Laws.{HaveNumbers}
 use Rattle.ps_store.specs.Stores.{StoreStandsFor}
 use Rattle.ps_session.specs.Sessions.{SessionState}
-use Rattle.ps_session.specs.Ties.{HasTaken}
+use Rattle.ps_core.specs.Ties.{HasTaken}
 
 -- the store stands for a history, under valid rules
 pub record Serves (fixed : Fixed) (store : Store) (history : List Event) : Type 0 where

@@ -1,5 +1,5 @@
 use Rattle.std.proofs.Common.{ap, ◌∙◌}
-use Rattle.ps_effects.specs.Texts.{rows_text}
+use Rattle.ps_core.specs.Texts.{rows_text}
 use Rattle.ps_commands.proofs.Causes.{rows_refused}
 use Rattle.ps_commands.proofs.loading.prepare.Goals as goal
 

@@ -1,8 +1,8 @@
 use Rattle.std.proofs.Common.{◌-◌, ◌≤◌}
-use Rattle.ps_play.specs.Plays.{Play}
+use Rattle.ps_core.specs.Plays.{Play}
 use Rattle.ps_store.specs.declared.fixed.Fixed.{Fixed}
 use Rattle.ps_core.specs.Feeding.{IsLeft}
-use Rattle.ps_play.specs.Scripts.{AreLow}
+use Rattle.ps_core.specs.Scripts.{AreLow}
 use Rattle.ps_core.proofs.FedRuns.{Going}
 use Rattle.ps_core.proofs.feeding.feed.Given as goal
 

@@ -1,6 +1,6 @@
 use Rattle.std.proofs.Common.{◌++◌, [], Option, None, sym, subst}
 use Rattle.ps_lines.specs.declared.lines.Line.{Line}
-use Rattle.ps_session.specs.Runs.{made_by}
+use Rattle.ps_core.specs.Runs.{made_by}
 use Rattle.ps_core.specs.Worlds.{AreWaiting, bytes_of}
 use Rattle.ps_core.proofs.Turned.{waits_in}
 use Rattle.ps_core.proofs.turning.send.Goals as goal

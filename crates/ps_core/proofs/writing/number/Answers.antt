@@ -1,6 +1,6 @@
 use Rattle.std.proofs.Common.{ℕ, Err, ap, sym, subst, ◌∙◌}
 use Rattle.ps_script.specs.declared.events.ScriptEvent.TheVariants as events
-use Rattle.ps_effects.specs.declared.effects.Effect.TheVariants as effects
+use Rattle.ps_core.specs.declared.effects.Effect.TheVariants as effects
 use Rattle.ps_core.specs.Parts.{CameTo}
 use Rattle.ps_core.proofs.Written.{number_full, number_so}
 use Rattle.ps_core.proofs.writing.number.Goals as goal

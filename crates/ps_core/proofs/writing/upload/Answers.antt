@@ -5,7 +5,7 @@ use Rattle.ps_client.specs.States.{state}
 use Rattle.ps_store.specs.declared.faults.FeedFault.TheVariants as feeding
 use Rattle.ps_store.specs.Stores.{Uploads}
 use Rattle.ps_script.specs.declared.events.ScriptEvent.TheVariants as events
-use Rattle.ps_effects.specs.declared.effects.Effect.TheVariants as effects
+use Rattle.ps_core.specs.declared.effects.Effect.TheVariants as effects
 use Rattle.ps_core.specs.Parts.{CameTo}
 use Rattle.ps_core.specs.Writing.{NextIs}
 use Rattle.ps_core.proofs.Written.{is_want, next_of, pops, queue_empty, tables_of, upload_closed, upload_full, uploaded_so}

@@ -1,4 +1,4 @@
-use Rattle.ps_play.specs.Scripts.{AreLow}
+use Rattle.ps_core.specs.Scripts.{AreLow}
 use Rattle.replay_cases.proofs.changes.transactions.Given as goal
 
 abbrev pub invariant-transactions : goal.invariant-transactions

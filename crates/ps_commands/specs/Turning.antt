@@ -1,0 +1,56 @@
+-- What a session and its client keep, turn by turn, over a store that stands still.
+use Rattle.std.specs.Prelude.{◌≡◌, ℕ, ◌≤◌, List, [], length, Result, Ok, Err}
+use Rattle.ps_sql.specs.Meaning.{Asker}
+use Rattle.ps_rules.specs.RuleSets.{AreRules}
+use Rattle.ps_client_log.specs.declared.states.Target.TheVariants.{Free}
+use Rattle.ps_client.specs.declared.faults.ClientFault.{ClientFault}
+use Rattle.ps_client.specs.declared.faults.ClientFault.TheVariants as faults
+use Rattle.ps_client.specs.Clients.{PlainClient}
+use Rattle.ps_store.specs.declared.events.Event.{Event}
+use Rattle.ps_store.specs.declared.fixed.Fixed.{Fixed}
+use Rattle.ps_store.specs.declared.stores.Store.{Store}
+use Rattle.ps_store.specs.declared.readings.TakeFault.{TakeFault}
+use Rattle.ps_store.specs.declared.readings.TakeFault.TheVariants.{TooManyBuckets, Memory}
+use Rattle.ps_store.specs.Laws.{HaveNumbers}
+use Rattle.ps_store.specs.Ledgers.{ledger_of}
+use Rattle.ps_store.specs.Readings.{names_of, AreTooMany}
+use Rattle.ps_store.specs.Stores.{StoreStandsFor}
+use Rattle.ps_store.specs.Courses.{Course, course_of}
+use Rattle.ps_session.specs.Sessions.{SessionState}
+use Rattle.ps_core.specs.Ties.{Leads, HasTaken}
+
+-- the store stands for the history, under valid rules
+pub record Serves (fixed : Fixed) (store : Store) (history : List Event) : Type 0 where
+  pub stands : StoreStandsFor fixed store history
+  pub rules : AreRules fixed.rules
+  pub numbers : HaveNumbers fixed.rules.definitions
+
+-- the client has taken all lines that the session made, and what the session took last, it took at this place
+pub record IsLed (course : Course) (n : ℕ) (session : SessionState) (client : PlainClient) : Type 0 where
+  pub leads : Leads course n n session client []
+  pub taken : HasTaken course n session
+
+-- so it is at the end of a history
+abbrev pub IsLedIn : Fixed → List Event → Asker → SessionState → PlainClient → Type 0
+IsLedIn fixed history asker session client = IsLed (course_of fixed.rules history asker) (length history) session client
+
+-- the client has no local writes
+pub record IsIdle (client : PlainClient) : Type 0 where
+  pub queue : client.kept.queue ≡ []
+  pub target : client.kept.target ≡ Free
+
+-- a checkpoint was taken and told, or why not
+abbrev pub Begins : Fixed → List Event → Asker → SessionState → PlainClient → Result (Unit {0}) TakeFault → Type 0
+Begins fixed history asker session client (Ok done) =
+    IsLedIn fixed history asker session client × (length (names_of (ledger_of fixed.rules history) asker) ≤ fixed.limits.buckets)
+Begins fixed history asker session client (Err (TooManyBuckets count)) = AreTooMany fixed.limits (ledger_of fixed.rules history) asker count
+Begins fixed history asker session client (Err Memory) = Unit {0}
+
+-- a fault that is want of memory
+abbrev pub IsWant : ClientFault → Type 0
+IsWant faults.OutOfOrder = ⊥
+IsWant (faults.BadLine fault) = ⊥
+IsWant faults.KeeperFault = ⊥
+IsWant faults.QueueEmpty = ⊥
+IsWant (faults.QueueWaiting length) = ⊥
+IsWant faults.Memory = Unit {0}

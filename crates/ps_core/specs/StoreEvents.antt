@@ -1,0 +1,93 @@
+-- What the events of a script that are the store's do.
+use Rattle.std.specs.Prelude.{ℕ, ◌+◌, if◌then◌else◌, List, [], ◌∷◌, ◌++◌, length, take, drop, Option, Some, None, nat_le, nat_lt}
+use Rattle.ps_bucket_log.specs.declared.ops.Op.{Op}
+use Rattle.ps_changes.specs.declared.changes.Transaction.{Transaction}
+use Rattle.ps_compact.specs.Compaction.{report_of}
+use Rattle.ps_rules.specs.RuleSets.{RuleSet}
+use Rattle.ps_store.specs.declared.events.Event.{Event}
+use Rattle.ps_store.specs.declared.events.Event.TheVariants as events
+use Rattle.ps_store.specs.declared.fixed.Fixed.{Fixed}
+use Rattle.ps_store.specs.declared.fixed.Limits.{Limits}
+use Rattle.ps_store.specs.Ledgers.{Ledger, ledger_of, head_of, unwritten, entries_after}
+use Rattle.ps_store.specs.Originals.{Timed, in_bucket}
+use Rattle.ps_store.specs.Runs.{Run}
+use Rattle.ps_store.specs.Stores.{next_run}
+use Rattle.ps_store.specs.Totals.{totals_of}
+use Rattle.ps_core.specs.declared.effects.Effect.{Effect}
+use Rattle.ps_core.specs.declared.effects.Effect.TheVariants.{Fed, FedNotRising, FedClosed, Closed, Wrote, NothingToWrite, TooWide, OpsFull, Committed, NothingToCommit, Compacted, NoBucket, Totals}
+use Rattle.ps_core.specs.Plays.{Play, Outcome, ledger, happens, says}
+
+-- ---- feeding
+
+abbrev pub fed_outcome : Effect → List Event → List Transaction → Play → Outcome
+fed_outcome effect history left play = record { effect = effect; play = record play { history = history; left = left } }
+
+-- why a transaction may not be fed now: the feed is closed; else, its position is not past the head
+abbrev pub feed_refusal : Ledger → ℕ → Transaction → Option Effect
+feed_refusal l count t =
+    if l.closed then Some (FedClosed count)
+    else if nat_lt (head_of l.fed) t.position.0 then None
+    else Some (FedNotRising count (record { 0 = head_of l.fed }) t.position)
+
+-- what was fed so far, where the next may not be
+abbrev pub fed_or : Option Effect → Outcome → List Event → List Transaction → Play → Outcome
+fed_or None on history left play = on
+fed_or (Some effect) on history left play = fed_outcome effect history left play
+
+-- the transactions that are due are fed one after another, up to the first that may not be: so many of them were fed, and what was not
+-- fed stands before the rest
+abbrev pub feeding : RuleSet → ℕ → List Event → List Transaction → List Transaction → Play → Outcome
+feeding rules count history [] rest play = fed_outcome (Fed count) history rest play
+feeding rules count history (t ∷ due) rest play =
+    fed_or (feed_refusal (ledger_of rules history) count t) (feeding rules (count + 1) (history ++ events.Feed t ∷ []) due rest play) history (t ∷ due ++ rest) play
+
+-- the next transactions, at most so many
+abbrev pub feeds : Fixed → ℕ → Play → Outcome
+feeds fixed count play = feeding fixed.rules 0 play.history (take count play.left) (drop count play.left) play
+
+-- ---- writing
+
+-- why the first of the next changes cannot be written: its row would have too many entries; else, there are too few ids
+abbrev pub unwritten_effect : Limits → Ledger → List Timed → Effect
+unwritten_effect limits l [] = NothingToWrite
+unwritten_effect limits l (t ∷ ts) =
+    if nat_lt limits.entries (length (entries_after l t)) then TooWide (limits.entries + 1) else OpsFull (record { 0 = l.last })
+
+-- the longest run of the next changes that can be written is written, if it has any
+abbrev pub written_run : Run → Limits → Ledger → Play → Outcome
+written_run run limits l play =
+    if nat_le 1 run.count
+    then (record { effect = Wrote run.count (record { 0 = run.ledger.last }); play = happens (events.Write run.count) play })
+    else says (unwritten_effect limits l (unwritten l)) play
+
+abbrev pub writes : Fixed → ℕ → Play → Outcome
+writes fixed limit play = written_run (next_run fixed play.history limit) fixed.limits (ledger fixed play) play
+
+-- ---- the others
+
+abbrev pub closes : Play → Outcome
+closes play = record { effect = Closed; play = happens events.Close play }
+
+-- what is reached becomes the checkpoint, where that is past it
+abbrev pub commits_over : Ledger → Play → Outcome
+commits_over l play =
+    if nat_lt l.position l.reach.position
+    then (record {
+      effect = Committed (record { position = record { 0 = l.reach.position }; op = record { 0 = l.reach.op } });
+      play = happens events.Commit play;
+    })
+    else says NothingToCommit play
+
+abbrev pub commits : Fixed → Play → Outcome
+commits fixed play = commits_over (ledger fixed play) play
+
+-- a bucket that ever had an operation is compacted at the checkpoint's op
+abbrev pub compacts_over : List Op → Ledger → List ℕ → Play → Outcome
+compacts_over [] l bucket play = says NoBucket play
+compacts_over (op ∷ ops) l bucket play = record { effect = Compacted (report_of l.op (l.log bucket)); play = happens (events.Compact bucket) play }
+
+abbrev pub compacts : Fixed → List ℕ → Play → Outcome
+compacts fixed bucket play = compacts_over (in_bucket bucket (ledger fixed play).entered) (ledger fixed play) bucket play
+
+abbrev pub tells_totals : Fixed → Play → Outcome
+tells_totals fixed play = says (Totals (totals_of (ledger fixed play))) play

@@ -1,0 +1,39 @@
+//! The laws of plays.
+
+ghost use Rattle.ps_core.specs.PlayHeadline.{PlaysStayLed, PlaysBeginLed};
+ghost use Rattle.ps_core.specs.Scripts.{PlaysStayLegal, ScriptsAreRight};
+
+use crate::stream_laws::clients_are_led;
+use ps_store::{courses_are_lawful, places_are_fronts};
+
+/// A law: before its first event a play has no client.
+pub fn plays_begin_led()
+    ensures { PlaysBeginLed }
+{}
+
+/// A law: each event of a script leaves every client led by the lines of its session, or honest where it has no stream, whatever
+/// the store is made to do from then on. So every client is honest, and no line that one takes is refused. Where a client applies
+/// a checkpoint it shows exactly the rows that are due to it at the place where that checkpoint was taken, its own uploads that
+/// the checkpoint covers among them. A session that gave a checkpoint up takes a greater op next.
+pub fn plays_stay_led()
+    ensures { PlaysStayLed }
+{
+    courses_are_lawful();
+    places_are_fronts();
+    clients_are_led();
+}
+
+/// A law: each event of a script keeps the history legal, under limits that are not above the usual ones, and leaves no
+/// transaction whose position is above the greatest.
+pub fn plays_stay_legal()
+    ensures { PlaysStayLegal }
+{}
+
+/// A law: over valid rules and any transactions, what is said of each event of every script is right. Every client is honest,
+/// none refuses a line, and one that applies a checkpoint shows exactly the rows that are due to it there.
+pub fn scripts_are_right()
+    ensures { ScriptsAreRight }
+{
+    plays_begin_led();
+    plays_stay_led();
+}

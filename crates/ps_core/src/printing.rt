@@ -1,0 +1,40 @@
+ghost use Rattle.std.specs.Prelude.{◌≡◌, ◌++◌, ◌∷◌, [], IfOk, OnOk};
+ghost use Rattle.ps_core.specs.Texts.{row_text, rows_text};
+
+use ps_changes::Shown;
+use ps_values::{Memory, quoted};
+use std::alloc::Global;
+
+// Prints a row.
+fn push_row(alloc: Global, out: &mut Vec<u8>, row: &Shown) -> Result<(), Memory>
+    ensures { OnOk result (out.new.items ≡ out.old.items ++ row_text row.now) }
+{
+    let kind = quoted(alloc, &row.kind)?;
+    let id = quoted(alloc, &row.id)?;
+    out.extend_from_slice(kind.bytes())?;
+    out.push(b' ')?;
+    out.extend_from_slice(id.bytes())?;
+    out.push(b' ')?;
+    out.extend_from_slice(row.content.bytes())?;
+    out.push(b'\n')?;
+    Ok(())
+}
+
+/// Prints rows behind what is printed already.
+pub(crate) fn push_rows(alloc: Global, out: &mut Vec<u8>, rows: &[Shown]) -> Result<(), Memory>
+    ensures { OnOk result (out.new.items ≡ out.old.items ++ rows_text rows.now) }
+{
+    'rows: for row in rows {
+        push_row(alloc, out, row)?;
+    }
+    Ok(())
+}
+
+/// The printed rows, one after another: docs/FORMATS.md, "Printed rows".
+pub fn print_rows(alloc: Global, rows: &[Shown]) -> Result<Vec<u8>, Memory>
+    ensures { IfOk result (λ text. text.items ≡ rows_text rows.now) }
+{
+    let mut out = Vec::new(alloc);
+    push_rows(alloc, &mut out, rows)?;
+    Ok(out)
+}

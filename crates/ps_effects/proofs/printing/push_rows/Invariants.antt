@@ -1,7 +1,0 @@
-use Rattle.std.proofs.Common.{◌≡◌, ◌++◌, drop}
-use Rattle.ps_effects.specs.Texts.{rows_text}
-use Rattle.ps_effects.proofs.printing.push_rows.Given as goal
-
--- what is printed so far, and then the rows that are left, is what was printed before, and then all rows
-abbrev pub invariant-rows : goal.invariant-rows
-invariant-rows l = l.out.items ++ rows_text (drop l.row-index l.rows) ≡ l.fn.out.items ++ rows_text l.rows

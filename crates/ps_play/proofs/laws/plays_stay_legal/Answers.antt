@@ -1,5 +1,0 @@
-use Rattle.ps_play.proofs.Legal.{stay_legal}
-use Rattle.ps_play.proofs.laws.plays_stay_legal.Goals as goal
-
-pub returns : goal.returns
-returns c = stay_legal

@@ -1,2 +1,0 @@
-pub mod Syncing
-pub mod Turning
