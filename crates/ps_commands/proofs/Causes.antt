@@ -2,7 +2,7 @@
 use Rattle.std.proofs.Common.{inl, inr, ◌≡◌, ℕ, ◌≤◌, true, false, List, [], ◌∷◌, Option, Some, None, Ok, Err, refl, sym, ap, ◌∙◌, subst, arith, codes, bytes_eq, Vec, Bool, ◌&&◌}
 use Rattle.std.specs.Prelude.{option_map, if◌then◌else◌}
 use Rattle.std.specs.declared.alloc.Global.{Global}
-use Rattle.ps_io.specs.Contents.{Contents, HoldsMore}
+use Rattle.ps_io.specs.Contents.{Contents, HasLength}
 use Rattle.ps_io.specs.Counts.{Rose}
 use Rattle.ps_rules.specs.RuleSets.{RuleSet}
 use Rattle.ps_sql_eval.specs.declared.askers.Asker.{Asker}
@@ -85,7 +85,7 @@ module _ (o : Outside) (mid_held : Option Contents) (mid : ℕ) (words : List (L
   cause_of Finds Refuses why (TooManyBuckets count) h = why (TooManyBuckets count) h.0 (here h.0 h.1) h.2
   cause_of Finds Refuses why Claims h = why Claims h.0 (here h.0 h.1) h.2
   cause_of Finds Refuses why Keys h = why Keys h.0 (here h.0 h.1) h.2
-  cause_of Finds Refuses why (TooLong seen) h = (kept, record { role = role; name = name; reached = reached; more = h.0; file = subst (λ x. HoldsMore x name (limit_of role)) same h.1 })
+  cause_of Finds Refuses why (TooLong seen) h = (kept, record { role = role; name = name; reached = reached; more = h.0; file = subst (λ x. HasLength x name seen) same h.1 })
   cause_of Finds Refuses why (CannotRead file) h = (kept, record { role = role; reached = subst (Reaches o.held words role) (sym h.0) reached }, rose_later o.read_before mid o.read_now risen h.1)
   cause_of Finds Refuses why CannotWrite h = absurd h
   cause_of Finds Refuses why (Script place cause) h = absurd h

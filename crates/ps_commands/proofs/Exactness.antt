@@ -2,7 +2,7 @@
 use Rattle.std.proofs.Common.{◌≡◌, ◌⊎◌, ℕ, ◌<◌, ◌≤◌, false, cond, List, Option, Some, None, Result, Ok, Err, length, refl, sym, ap, ◌∙◌, subst, arith, inl, inr, leb, ltb, true}
 use Rattle.std.proofs.lemmas.Bool.{le-leb}
 use Rattle.std.proofs.lemmas.Bool.Decides.{nat_tests}
-use Rattle.ps_io.specs.Contents.{Contents, HoldsMore, Gains}
+use Rattle.ps_io.specs.Contents.{Contents, HasLength, Gains}
 use Rattle.ps_io.specs.Counts.{Rose}
 use Rattle.ps_changes.specs.declared.changes.Transaction.{Transaction}
 use Rattle.ps_changes.specs.declared.shown.Shown.{Shown}
@@ -39,8 +39,8 @@ module _ (held : Contents) (name : List ℕ) (limit : ℕ) where
   fits : (bytes : List ℕ) → HoldsWithin (Some held) name limit bytes → within_limit limit (held name) ≡ Ok bytes
   fits bytes file = ap (within_limit limit) file.holds ∙ ap (λ b. cond b (Ok bytes) (Err exceeds)) (le-leb (length bytes) limit file.within)
 
-  exceeds_by : HoldsMore (Some held) name limit → within_limit limit (held name) ≡ Err exceeds
-  exceeds_by more = ap (within_limit limit) more.1 ∙ ap (λ b. cond b (Ok more.0) (Err exceeds)) (not_within (length more.0) limit more.2)
+  exceeds_by : (seen : ℕ) → limit < seen → HasLength (Some held) name seen → within_limit limit (held name) ≡ Err exceeds
+  exceeds_by seen more file = ap (within_limit limit) file.1 ∙ ap (λ b. cond b (Ok file.0) (Err exceeds)) (not_within (length file.0) limit (subst (λ n. limit < n) file.2 more))
 
 -- ---- what a file means
 
@@ -83,15 +83,15 @@ module _ (held : Contents) (name : List ℕ) where
   IsRefusedIn for_changes refusal = ((rules : RuleSet) → transactions_meant held rules name ≡ Err refusal) × (all_meant held name ≡ Err refusal)
   IsRefusedIn for_script refusal = script_meant held name ≡ Err refusal
 
-  too_long : (role : Role) → HoldsMore (Some held) name (limit_of role) → IsRefusedIn role exceeds
-  too_long for_rules more = ap (λ x. x >>= λ bytes. or_refused (rules_of_file bytes)) (exceeds_by held name rules_limit more)
-  too_long for_keys more = λ kid. ap (λ x. x >>= λ bytes. or_none Keys (key_of_file kid bytes)) (exceeds_by held name file_limit more)
-  too_long for_claims more = ap (λ x. x >>= λ bytes. or_none Claims (asker_of_claims bytes)) (exceeds_by held name file_limit more)
-  too_long for_changes more = (
-    λ rules. ap (λ x. x >>= λ bytes. or_refused (transactions_of rules bytes)) (exceeds_by held name file_limit more),
-    ap (λ x. x >>= λ bytes. or_refused (all_transactions_of bytes)) (exceeds_by held name file_limit more),
+  too_long : (role : Role) (seen : ℕ) → limit_of role < seen → HasLength (Some held) name seen → IsRefusedIn role exceeds
+  too_long for_rules seen more file = ap (λ x. x >>= λ bytes. or_refused (rules_of_file bytes)) (exceeds_by held name rules_limit seen more file)
+  too_long for_keys seen more file = λ kid. ap (λ x. x >>= λ bytes. or_none Keys (key_of_file kid bytes)) (exceeds_by held name file_limit seen more file)
+  too_long for_claims seen more file = ap (λ x. x >>= λ bytes. or_none Claims (asker_of_claims bytes)) (exceeds_by held name file_limit seen more file)
+  too_long for_changes seen more file = (
+    λ rules. ap (λ x. x >>= λ bytes. or_refused (transactions_of rules bytes)) (exceeds_by held name file_limit seen more file),
+    ap (λ x. x >>= λ bytes. or_refused (all_transactions_of bytes)) (exceeds_by held name file_limit seen more file),
   )
-  too_long for_script more = exceeds_by held name file_limit more
+  too_long for_script seen more file = exceeds_by held name file_limit seen more file
 
 -- the rows of an asker who has no more buckets than an asker may have, and of one who has
 rows_are : (rules : RuleSet) (asker : Asker) (transactions : List Transaction) → length (own_buckets rules asker transactions) ≤ usual_limits.buckets
@@ -344,7 +344,7 @@ module _ (held : Contents) (words : List (List ℕ)) (command : Command) (is : c
       (ap (key_left held r.names) (key_from held r.names.keys r.names.kid r.bytes r.file ∙ ap (or_none Keys) r.refused)) (inl h)
 
   limit_answer : (seen : ℕ) → ExceedsFile (Some held) words seen → (status ≡ 5) × (new ≡ old) → IsAnswer (meaning held command) old new status
-  limit_answer seen r h = refused_answer r.role r.name exceeds r.reached (too_long held r.name r.role r.file) h
+  limit_answer seen r h = refused_answer r.role r.name exceeds r.reached (too_long held r.name r.role seen r.more r.file) h
 
   answer_of : (read_before read_now write_before write_now : ℕ) → ¬ (Rose read_before read_now) → ¬ (Rose write_before write_now)
       → (fault : Fault) → Caused (outside held read_before read_now old new write_before write_now) words fault → status ≡ status_of fault → IsAnswer (meaning held command) old new status

@@ -1,6 +1,6 @@
 -- The commands `check`, `rows`, `replay`, `compact`, `token` and `generate`: their words, what their files mean, and the cause of each answer.
 use Rattle.std.specs.Prelude.{◌≡◌, ◌⊎◌, ℕ, ◌<◌, ◌≤◌, nat_le, ◌&&◌, List, [], ◌∷◌, ◌++◌, length, codes, bytes_eq, decimal, Option, Some, None, option_map, option_and_then, Result, Ok, Err, if◌then◌else◌}
-use Rattle.ps_io.specs.Contents.{Contents, Holds, HoldsMore, Gains, GainsFront}
+use Rattle.ps_io.specs.Contents.{Contents, Holds, HasLength, Gains, GainsFront}
 use Rattle.ps_io.specs.Counts.{Rose}
 use Rattle.ps_changes.specs.declared.changes.Transaction.{Transaction}
 use Rattle.ps_changes.specs.declared.shown.Shown.{Shown}
@@ -407,13 +407,13 @@ pub record HasTooManyBuckets (held : Option Contents) (words : List (List ℕ)) 
   pub count_is : count ≡ length (own_buckets before.rules before.asker transactions)
   pub more : usual_limits.buckets < count
 
--- a file is longer than its limit, and those before it are read
+-- a file has so many bytes, which are more than its limit, and those before it are read
 pub record ExceedsFile (held : Option Contents) (words : List (List ℕ)) (seen : ℕ) : Type 0 where
   pub role : Role
   pub name : List ℕ
   pub reached : Reaches held words role name
   pub more : limit_of role < seen
-  pub file : HoldsMore held name (limit_of role)
+  pub file : HasLength held name seen
 
 -- the first change that is refused passes that limit
 abbrev pub PassesLimit : Option Contents → List (List ℕ) → Limit → Type 0

@@ -1,7 +1,7 @@
 -- Loading what a file means.
 use Rattle.std.specs.Prelude.{◌≡◌, ℕ, ◌<◌, ◌≤◌, ◌++◌, codes, length, List, Option, Some, None, Result, Ok, Err, Vec}
 use Rattle.std.specs.declared.alloc.Global.{Global}
-use Rattle.ps_io.specs.Contents.{Contents, HoldsMore}
+use Rattle.ps_io.specs.Contents.{Contents, HasLength}
 use Rattle.ps_io.specs.Counts.{Rose}
 use Rattle.ps_changes.specs.declared.changes.Transaction.{Transaction}
 use Rattle.ps_commands.specs.declared.faults.Fault.{Fault}
@@ -34,7 +34,7 @@ Loads held name limit before now Finds Refuses (Err (PastLimit passed)) = (bytes
 Loads held name limit before now Finds Refuses (Err (TooManyBuckets count)) = (bytes : List ℕ) × HoldsWithin held name limit bytes × Refuses (TooManyBuckets count) bytes
 Loads held name limit before now Finds Refuses (Err Claims) = (bytes : List ℕ) × HoldsWithin held name limit bytes × Refuses Claims bytes
 Loads held name limit before now Finds Refuses (Err Keys) = (bytes : List ℕ) × HoldsWithin held name limit bytes × Refuses Keys bytes
-Loads held name limit before now Finds Refuses (Err (TooLong seen)) = (limit < seen) × HoldsMore held name limit
+Loads held name limit before now Finds Refuses (Err (TooLong seen)) = (limit < seen) × HasLength held name seen
 Loads held name limit before now Finds Refuses (Err (CannotRead file)) = (file.now ≡ name) × Rose before now
 Loads held name limit before now Finds Refuses (Err CannotWrite) = ⊥
 Loads held name limit before now Finds Refuses (Err (Script place cause)) = ⊥

@@ -62,8 +62,8 @@ pub trait Files {
     /// The bytes of the file of that name, of which there are at most `limit`.
     ///
     /// `Failed` comes only where the count of faults rose in this call, which it also does where there is no such file;
-    /// `TooLong` exactly where the file has more than `limit` bytes. Each other answer leaves the count as it was.
-    /// No call changes what the files hold.
+    /// `TooLong` exactly where the file has more than `limit` bytes, and says how many, where files tell what they hold.
+    /// Each other answer leaves the count as it was. No call changes what the files hold.
     fn read(&mut self, alloc: Global, name: &Text, limit: u64) -> Result<Vec<u8>, FileFault>
         ensures answer { Reads (held self.old) name.now limit (faults self.old) (faults self.new) result }
         ensures held { held self.new ≡ held self.old }
