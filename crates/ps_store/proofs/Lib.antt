@@ -10,7 +10,6 @@ pub mod Copies
 pub mod Counting
 pub mod CourseReadings
 pub mod DueRows
-pub mod Entering
 pub mod Filling
 pub mod Following
 pub mod Fronts
@@ -33,7 +32,6 @@ pub mod Reading
 pub mod Recording
 pub mod Refusing
 pub mod Replays
-pub mod Replicating
 pub mod Sources
 pub mod Standings
 pub mod Stepping
@@ -43,4 +41,4 @@ pub mod Telling
 pub mod Ties
 pub mod Totalling
 pub mod Upto
-pub mod Writing
+pub mod TakenPlaces

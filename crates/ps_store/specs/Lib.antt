@@ -1,10 +1,8 @@
 pub mod Limits
-pub mod Logs
 pub mod Numbers
 pub mod Originals
 pub mod Places
 pub mod Noting
-pub mod Replicas
 pub mod Standing
 pub mod Latest
 pub mod Laws

@@ -46,10 +46,6 @@ abbrev pub removed_all : ℕ → List Place → List Entered
 removed_all next [] = []
 removed_all next (place ∷ places) = removed_at next place ∷ removed_all (next + 1) places
 
--- the entries whose places are not in the set
-abbrev pub outside : BTreeSet Place → List Placed → List Placed
-outside places entries = filter (λ entry. not (contains place_cmp places (place_of entry))) entries
-
 -- the set has the places of the entries
 abbrev pub HasPlaces : BTreeSet Place → List Placed → Type 0
 HasPlaces places entries = (entry : Placed) → contains place_cmp places (place_of entry) ≡ stays entries entry

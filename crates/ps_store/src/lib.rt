@@ -1,7 +1,6 @@
 //! The store of a service: how the changes of a source are written into buckets, and what the readers of buckets then hold.
 #![tactic(auto)]
 
-mod bucket_logs;
 mod entered;
 mod events;
 mod faults;
@@ -14,7 +13,6 @@ mod places;
 mod plans;
 mod reach;
 mod readings;
-mod replicas;
 mod rooms;
 mod rows;
 mod stores;
@@ -22,7 +20,6 @@ mod tails;
 mod totals;
 mod waiting;
 
-pub use bucket_logs::BucketLogs;
 pub use entered::Entered;
 pub use events::Event;
 pub use faults::{CompactFault, FeedFault, NothingToCommit, WriteFault};
@@ -36,6 +33,5 @@ pub use laws::{
 };
 pub use numbers::have_numbers;
 pub use readings::TakeFault;
-pub use replicas::{Replica, replicate};
 pub use stores::{Checkpoint, Store, Wrote};
 pub use totals::Totals;

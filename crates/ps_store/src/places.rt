@@ -111,11 +111,3 @@ pub(crate) fn is_in(places: &BTreeSet<Place>, place: &Place) -> bool
 {
     places.contains(place)
 }
-
-/// Whether an entry's bucket and key are among them.
-pub(crate) fn has(alloc: Global, places: &BTreeSet<Place>, entry: &Placed) -> Result<bool, Memory>
-    ensures { IfOk result (λ found. found ≡ contains place_cmp places.now (place_of_entry entry.now)) }
-{
-    let place = place_of(alloc, entry)?;
-    Ok(is_in(places, &place))
-}

@@ -2,7 +2,7 @@ use Rattle.std.proofs.Common.{true, cond, ap, ◌∙◌}
 use Rattle.std.specs.BTreeSet.{contains}
 use Rattle.std.specs.Ordering.{is_eq}
 use Rattle.ps_store.specs.Places.{place_cmp}
-use Rattle.ps_store.proofs.Writing.{places_more}
+use Rattle.ps_store.proofs.TakenPlaces.{places_more}
 use Rattle.ps_store.proofs.places.places_of.Goals as goal
 
 pub entries-preserved : goal.entries-preserved
