@@ -6,10 +6,10 @@ ghost use Rattle.ps_commands.specs.Dues.{Answers};
 ghost use Rattle.ps_commands.specs.ReadingChanges.{HasCommitted};
 
 use crate::faults::Fault;
+use crate::syncing::synced_rows;
 use ps_changes::Shown;
 use ps_sql_eval::Asker;
 use ps_store::{Store, TakeFault, ledgers_tell_histories};
-use crate::syncing::synced_rows;
 use ps_values::Items;
 use std::alloc::Global;
 

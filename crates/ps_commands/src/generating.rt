@@ -14,12 +14,12 @@ use crate::checking::push_number;
 use crate::compacting::{Compacted, compact_all};
 use crate::faults::Fault;
 use crate::rules_faults::read_rules_file;
+use crate::syncing::synced_rows;
 use ps_changes::Transaction;
 use ps_gen::{make_input, make_rules};
 use ps_rules::Rules;
 use ps_sql_eval::Asker;
 use ps_store::{Limits, Store, TakeFault, Totals, have_numbers, ledgers_tell_histories};
-use crate::syncing::synced_rows;
 use ps_values::{Items, Memory, Text};
 use std::alloc::Global;
 

@@ -10,12 +10,10 @@ ghost use Rattle.ps_core.specs.Scripts.{AreLow};
 ghost use Rattle.ps_core.specs.Worlds.{WorldStandsFor};
 ghost use Rattle.ps_commands.specs.Replays.{Replays, SpellsLine, PrintsLine, items_of, refused_at};
 
-use crate::ReplayFault;
+use crate::replay_faults::ReplayFault;
 use ps_changes::Transaction;
-use ps_core::World;
-use ps_core::effect_text;
+use ps_core::{World, effect_text, plays_begin_led};
 use ps_io::Sink;
-use ps_core::plays_begin_led;
 use ps_rules::Rules;
 use ps_script::{ScriptFault, is_skipped, read_event, split_line};
 use ps_values::Memory;

@@ -11,8 +11,8 @@ ghost use Rattle.ps_core.specs.Texts.{IsPrintable};
 ghost use Rattle.ps_core.specs.Feeding.{Goes, IsLeft, FeedsAll};
 ghost use Rattle.ps_core.specs.Scripts.{AreLow};
 
-use ps_changes::Transaction;
 use crate::effects::Effect;
+use ps_changes::Transaction;
 use ps_store::{FeedFault, Store};
 use ps_values::Memory;
 use std::collections::VecDeque;

@@ -7,13 +7,13 @@ ghost use Rattle.ps_store.specs.declared.stores.Store.{Store as StoreSeen};
 ghost use Rattle.ps_core.specs.Plays.{Play};
 ghost use Rattle.ps_core.specs.Parts.{Acts, CameTo, IsAt};
 
+use crate::effects::Effect;
 use crate::readers::{Reader, Stream};
 use crate::starting::copied;
+use crate::stream_laws::{calls_make_turns, clients_answer_right};
 use crate::turning::advance;
-use crate::effects::Effect;
 use ps_script::ScriptFault;
 use ps_session::{Session, StreamRequest};
-use crate::stream_laws::{calls_make_turns, clients_answer_right};
 use ps_store::{Store, TakeFault};
 use ps_values::{Memory, Text};
 use std::alloc::Global;

@@ -11,10 +11,10 @@ ghost use Rattle.ps_core.specs.Plays.{Play};
 ghost use Rattle.ps_core.specs.Answers.{CanFault, IsAnswered, IsRefusing, refused_by, said_by};
 ghost use Rattle.ps_core.specs.Parts.{Acts, CameTo, IsAt};
 
+use crate::effects::Effect;
 use crate::readers::Reader;
 use ps_client::{Client, ClientFault, Event};
 use ps_client_log::VolatileKeeper;
-use crate::effects::Effect;
 use ps_script::ScriptFault;
 use ps_values::Memory;
 use std::alloc::Global;

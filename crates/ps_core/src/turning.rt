@@ -15,11 +15,11 @@ ghost use Rattle.ps_core.specs.Texts.{IsPrintable};
 ghost use Rattle.ps_core.specs.Streams.{IsStream, Turns};
 ghost use Rattle.ps_core.specs.Worlds.{AreWaiting, bytes_of};
 
-use crate::readers::Stream;
 use crate::effects::Effect;
+use crate::readers::Stream;
+use crate::stream_laws::calls_make_turns;
 use ps_lines::{Line, write_line};
 use ps_session::Action;
-use crate::stream_laws::calls_make_turns;
 use ps_store::{Store, TakeFault, courses_are_lawful, places_are_fronts};
 use ps_values::{Memory, OpId};
 use std::alloc::Global;

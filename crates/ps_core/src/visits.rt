@@ -5,12 +5,12 @@ ghost use Rattle.ps_store.specs.declared.fixed.Fixed.{Fixed as FixedSeen};
 ghost use Rattle.ps_core.specs.Plays.{Play};
 ghost use Rattle.ps_core.specs.Parts.{Acts, HasTable, IsAt, event_of, faulted};
 
+use crate::effects::Effect;
 use crate::readers::Reader;
 use crate::streaming::{cut, open, turn};
 use crate::taking::{rows, take};
 use crate::writing::{number, upload, write_locally};
 use ps_changes::Change;
-use crate::effects::Effect;
 use ps_script::ScriptFault;
 use ps_store::Store;
 use ps_values::{Memory, Text};

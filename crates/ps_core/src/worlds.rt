@@ -10,14 +10,14 @@ ghost use Rattle.ps_core.specs.WorldSteps.{Goes, Steps, Went};
 ghost use Rattle.ps_core.specs.Scripts.{AreLow};
 ghost use Rattle.ps_core.specs.Worlds.{IsWorld, WorldStandsFor};
 
+use crate::effects::Effect;
 use crate::feeding::feed;
+use crate::play_laws::plays_stay_led;
 use crate::readers::Reader;
 use crate::starting::begin;
 use crate::storing::{close, commit, compact, totals, write};
 use crate::visits::{Visit, act};
 use ps_changes::{Change, Transaction};
-use crate::effects::Effect;
-use crate::play_laws::plays_stay_led;
 use ps_rules::Rules;
 use ps_script::{ScriptEvent, ScriptFault};
 use ps_sql_eval::Asker;

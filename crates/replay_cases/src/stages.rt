@@ -3,8 +3,7 @@
 ghost use Rattle.ps_core.specs.Scripts.{AreLow};
 
 use ps_changes::Transaction;
-use ps_core::World;
-use ps_core::Effect;
+use ps_core::{Effect, World};
 use ps_rules::Rules;
 use ps_script::{ScriptEvent, ScriptFault};
 use ps_values::Memory;

@@ -10,9 +10,9 @@ ghost use Rattle.ps_session.specs.Sessions.{IsTaking, next_action};
 ghost use Rattle.service_cases.specs.Serving.{IsServing, IsOver};
 
 use crate::words::Stop;
+use ps_core::calls_make_turns;
 use ps_lines::Line;
 use ps_session::{Action, Session, StreamRequest};
-use ps_core::calls_make_turns;
 use ps_sql_eval::Asker;
 use ps_store::{Store, courses_are_lawful, places_are_fronts};
 use ps_values::{Items, OpId};
