@@ -4,7 +4,7 @@ use Rattle.std.proofs.lemmas.Bool.Decides.{nat_tests}
 use Rattle.ps_yaml.specs.declared.nodes.Node.{Node}
 use Rattle.ps_yaml.specs.Lines.{Line, content, from_content}
 use Rattle.ps_yaml.specs.Trees.{next_in, item_at, item_then, items_at, is_item}
-use Rattle.ps_yaml.specs.Grammar.{HasNoTab, StandsAt, Ends, ListEnds, Items}
+use Rattle.ps_yaml.specs.Grammar.{StandsAt, Ends, ListEnds, Items}
 use Rattle.ps_yaml.specs.Grammar as grammar
 use Rattle.ps_yaml.proofs.Binds.{bind_ok, chosen, read}
 use Rattle.ps_yaml.proofs.ScalarLaws.{item_found}

@@ -9,7 +9,7 @@ use Rattle.ps_yaml.specs.declared.faults.YamlFault.{YamlFault}
 use Rattle.ps_yaml.specs.Lines.{Line, kind_of, spaces, content, from_content, lines_of}
 use Rattle.ps_yaml.specs.Scalars.{is_tabbed, is_line_end}
 use Rattle.ps_yaml.specs.Trees.{next_in, items_at, is_item, is_entry, new_name, name_of, is_named, pair_of, pair_then, pairs_at, value_at, value_offset, below, root, document_of}
-use Rattle.ps_yaml.specs.Grammar.{HasNoTab, StandsAt, Ends, HasNoBlock, Items, Entries, Value, after_colon, IsDocument, Spells}
+use Rattle.ps_yaml.specs.Grammar.{StandsAt, Ends, HasNoBlock, Items, Entries, Value, after_colon, IsDocument, Spells}
 use Rattle.ps_yaml.specs.Grammar as grammar
 use Rattle.ps_yaml.proofs.Binds.{bind_ok, chosen, read}
 use Rattle.ps_yaml.proofs.ScalarLaws.{scalar_found}

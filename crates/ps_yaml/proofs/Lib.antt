@@ -1,6 +1,8 @@
 pub mod Indents
 pub mod Laws
 pub mod LineEnds
+pub mod Plains
+pub mod Blocks
 pub mod Places
 pub mod Quotes
 pub mod Rests

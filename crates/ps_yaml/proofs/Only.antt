@@ -10,7 +10,7 @@ use Rattle.ps_yaml.specs.Faults.{◌>>=◌}
 use Rattle.ps_yaml.specs.Lines.{Line, kind_of, spaces, content, from_content, begins}
 use Rattle.ps_yaml.specs.Scalars.{is_tabbed, is_line_end, is_empty, is_break}
 use Rattle.ps_yaml.specs.Trees.{next_in, item_at, item_then, items_at, is_item, is_entry, name_len, begins_name, new_name, name_of, is_named, pairs_at, value_at, value_offset, below, root, document_of}
-use Rattle.ps_yaml.specs.Grammar.{HasNoTab, StandsAt, Ends, ListEnds, HasNoBlock, Items, items_end, item, Entries, entries_end, entry, Value, scalar, map, list, empty, after_colon, IsDocument, Spells}
+use Rattle.ps_yaml.specs.Grammar.{StandsAt, Ends, ListEnds, HasNoBlock, Items, items_end, item, Entries, entries_end, entry, Value, scalar, map, list, empty, after_colon, IsDocument, Spells}
 use Rattle.ps_yaml.specs.Grammar as grammar
 use Rattle.ps_yaml.proofs.Binds.{if_true, if_false, bind_at}
 use Rattle.ps_yaml.proofs.ScalarLaws.{scalar_only, item_only}

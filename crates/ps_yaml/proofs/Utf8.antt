@@ -19,7 +19,7 @@ front_drop : (a ys : List ℕ) → drop (length a) (a ++ ys) ≡ ys
 front_drop [] ys = refl
 front_drop (b ∷ a) ys = front_drop a ys
 
-front_take : (a ys : List ℕ) → take (length a) (a ++ ys) ≡ a
+pub front_take : (a ys : List ℕ) → take (length a) (a ++ ys) ≡ a
 front_take [] ys = refl
 front_take (b ∷ a) ys = ap (λ (u : List ℕ). b ∷ u) (front_take a ys)
 

@@ -4,14 +4,10 @@ use Rattle.std.specs.Str.{is_utf8}
 use Rattle.ps_yaml.specs.declared.nodes.Node.{Node}
 use Rattle.ps_yaml.specs.declared.nodes.Node.TheVariants.{Scalar, Map, List as Sequence}
 use Rattle.ps_yaml.specs.declared.nodes.Pair.{Pair}
-use Rattle.ps_yaml.specs.Lines.{Line, lines_of, spaces, content, kind_of, from_content}
-use Rattle.ps_yaml.specs.ScalarGrammar.{IsScalar}
-use Rattle.ps_yaml.specs.Scalars.{is_line_end, is_tabbed}
+use Rattle.ps_yaml.specs.Lines.{Line, lines_of, spaces, content, from_content}
+use Rattle.ps_yaml.specs.ScalarGrammar.{HasNoTab, IsScalar}
+use Rattle.ps_yaml.specs.Scalars.{is_line_end}
 use Rattle.ps_yaml.specs.Trees.{is_entry, is_item, is_nested, item_offset, is_named, name_of, pair_of, value_offset}
-
--- no tab stands in the line's indentation
-abbrev pub HasNoTab : Line → Type 0
-HasNoTab line = is_tabbed (kind_of line.text) ≡ false
 
 -- a line at an indent
 abbrev pub StandsAt : ℕ → Line → Type 0
