@@ -6,5 +6,6 @@ pub mod Names
 pub mod Notes
 pub mod Places
 pub mod Sets
+pub mod Searches
 pub mod Spots
 pub mod Trimming

@@ -9,9 +9,10 @@ ghost use Rattle.ps_rules.specs.Names.{is_definition_name};
 ghost use Rattle.ps_rules.specs.RuleSets.{IsSound};
 ghost use Rattle.ps_rules.specs.Vectors.{output_value as value_of_output};
 ghost use Rattle.ps_sql_eval.specs.Evaluated.{asker_of, without_bucket};
-ghost use Rattle.ps_params.specs.Kept.{note_of, rows_of, at_row, names_on, names_over, query_names, names_in as names_of_definition};
+ghost use Rattle.ps_params.specs.Kept.{note_of, rows_of, at_row, names_on, query_names, names_in as names_of_definition};
 ghost use Rattle.ps_params.specs.Names.{IsTold};
 ghost use Rattle.ps_params.specs.Places.{notes_at};
+ghost use Rattle.ps_params.specs.Searches.{names_found};
 ghost use Rattle.ps_params.specs.Sets.{Gains};
 ghost use Rattle.ps_params.specs.Spots.{lying, lying_at};
 
@@ -146,209 +147,138 @@ fn add_on(
     names.insert(bucket_of(alloc, &definition.name, values.as_slice())?)
 }
 
-// Puts the bucket of a parameter query on the row that a note is of, as it stood at a position, among others.
-fn add_noted(
-    alloc: Global,
-    names: &mut NameSet,
-    definition: &Definition,
-    query: &ParameterQuery,
-    asker: &Asker,
-    kept: &Kept,
-    note: &Noted,
+// A parameter query of a definition, asked for an asker over the rows of its table as they stood at a position.
+#[derive(Drop)]
+struct Search<'a> {
+    definition: &'a Definition,
+    query: &'a ParameterQuery,
+    table: &'a Text,
+    asker: &'a Asker,
+    kept: &'a Kept,
     upto: Position,
-) -> Result<(), Memory>
-    requires { is_definition_name definition.now.name ≡ true }
-    ensures { OnOk result (Gains names.old names.new
-        (flat_map (names_on definition.now (asker_of asker.now) query.now) (rows_of kept.now.notes upto.0 (note_of note.now ∷ [])))) }
-{
-    match kept.standing(alloc, &note.table, &note.id, upto)? {
-        Some(row) => add_on(alloc, names, definition, query, asker, &note.id, row),
-        None => Ok(()),
+}
+
+impl Search<'_> {
+    // Puts the bucket on the row that a note is of among others.
+    fn add_noted(&self, alloc: Global, names: &mut NameSet, note: &Noted) -> Result<(), Memory>
+        requires { is_definition_name self.now.definition.now.name ≡ true }
+        ensures { OnOk result (Gains names.old names.new
+            (flat_map (names_on self.now.definition.now (asker_of self.now.asker.now) self.now.query.now) (rows_of self.now.kept.now.notes self.now.upto.0 (note_of note.now ∷ [])))) }
+    {
+        match self.kept.standing(alloc, &note.table, &note.id, self.upto)? {
+            Some(row) => add_on(
+                alloc,
+                names,
+                self.definition,
+                self.query,
+                self.asker,
+                &note.id,
+                row,
+            ),
+            None => Ok(()),
+        }
     }
-}
 
-// Puts the bucket of a parameter query on the row of a note among others, if that is of the query's table.
-fn add_candidate(
-    alloc: Global,
-    names: &mut NameSet,
-    definition: &Definition,
-    query: &ParameterQuery,
-    table: &Text,
-    asker: &Asker,
-    kept: &Kept,
-    note: &Noted,
-    upto: Position,
-) -> Result<(), Memory>
-    requires { is_definition_name definition.now.name ≡ true }
-    ensures { OnOk result (Gains names.old names.new (names_over definition.now (asker_of asker.now) query.now table.now (rows_of kept.now.notes upto.0 (note_of note.now ∷ [])))) }
-{
-    if !note.table.equals(table) {
-        return Ok(());
+    // Puts the bucket on the row of a note among others, if that is of the query's table.
+    fn add_candidate(&self, alloc: Global, names: &mut NameSet, note: &Noted) -> Result<(), Memory>
+        requires { is_definition_name self.now.definition.now.name ≡ true }
+        ensures { OnOk result (Gains names.old names.new (names_found self.now (note_of note.now ∷ []))) }
+    {
+        if !note.table.equals(self.table) {
+            return Ok(());
+        }
+        self.add_noted(alloc, names, note)
     }
-    add_noted(alloc, names, definition, query, asker, kept, note, upto)
-}
 
-// Puts the buckets of a parameter query on the rows of some notes among others.
-fn add_notes(
-    alloc: Global,
-    names: &mut NameSet,
-    definition: &Definition,
-    query: &ParameterQuery,
-    table: &Text,
-    asker: &Asker,
-    kept: &Kept,
-    notes: &[Noted],
-    upto: Position,
-) -> Result<(), Memory>
-    requires { is_definition_name definition.now.name ≡ true }
-    ensures { OnOk result (Gains names.old names.new (names_over definition.now (asker_of asker.now) query.now table.now (rows_of kept.now.notes upto.0 (map note_of notes.now)))) }
-{
-    'notes: for note in notes {
-        add_candidate(
-            alloc, names, definition, query, table, asker, kept, note, upto,
-        )?;
+    // Puts the buckets on the rows of some notes among others.
+    fn add_notes(&self, alloc: Global, names: &mut NameSet, notes: &[Noted]) -> Result<(), Memory>
+        requires { is_definition_name self.now.definition.now.name ≡ true }
+        ensures { OnOk result (Gains names.old names.new (names_found self.now (map note_of notes.now))) }
+    {
+        'notes: for note in notes {
+            self.add_candidate(alloc, names, note)?;
+        }
+        Ok(())
     }
-    Ok(())
-}
 
-// Puts the buckets of a parameter query on the rows of the notes at some places among others.
-fn add_places(
-    alloc: Global,
-    names: &mut NameSet,
-    definition: &Definition,
-    query: &ParameterQuery,
-    table: &Text,
-    asker: &Asker,
-    kept: &Kept,
-    places: &[usize],
-    upto: Position,
-) -> Result<(), Memory>
-    requires { is_definition_name definition.now.name ≡ true }
-    ensures { OnOk result (Gains names.old names.new
-        (names_over definition.now (asker_of asker.now) query.now table.now (rows_of kept.now.notes upto.0 (notes_at kept.now.notes places.now)))) }
-{
-    'places: for place in places {
-        let Some(note) = note_at(kept.notes(), *place) else {
-            continue;
-        };
-        add_candidate(
-            alloc, names, definition, query, table, asker, kept, note, upto,
-        )?;
+    // Puts the buckets on the rows of the notes at some places among others.
+    fn add_places(&self, alloc: Global, names: &mut NameSet, places: &[usize]) -> Result<(), Memory>
+        requires { is_definition_name self.now.definition.now.name ≡ true }
+        ensures { OnOk result (Gains names.old names.new (names_found self.now (notes_at self.now.kept.now.notes places.now))) }
+    {
+        'places: for place in places {
+            let Some(note) = note_at(self.kept.notes(), *place) else {
+                continue;
+            };
+            self.add_candidate(alloc, names, note)?;
+        }
+        Ok(())
     }
-    Ok(())
-}
 
-// Puts the buckets of a parameter query on the rows of the notes that lie at a spot among others.
-fn add_spot(
-    alloc: Global,
-    names: &mut NameSet,
-    definition: &Definition,
-    query: &ParameterQuery,
-    table: &Text,
-    asker: &Asker,
-    kept: &Kept,
-    spot: &(usize, Text),
-    upto: Position,
-) -> Result<(), Memory>
-    requires { is_definition_name definition.now.name ≡ true }
-    ensures { OnOk result (Gains names.old names.new
-        (names_over definition.now (asker_of asker.now) query.now table.now (rows_of kept.now.notes upto.0 (lying kept.now.paths kept.now.notes kept.now.indexed spot.now)))) }
-{
-    let places = kept.places(spot);
-    add_places(
-        alloc, names, definition, query, table, asker, kept, places, upto,
-    )
-}
-
-// Puts the buckets of a parameter query on the rows of the notes that lie at some spots among others.
-fn add_spots(
-    alloc: Global,
-    names: &mut NameSet,
-    definition: &Definition,
-    query: &ParameterQuery,
-    table: &Text,
-    asker: &Asker,
-    kept: &Kept,
-    spots: &[(usize, Text)],
-    upto: Position,
-) -> Result<(), Memory>
-    requires { is_definition_name definition.now.name ≡ true }
-    ensures { OnOk result (Gains names.old names.new
-        (names_over definition.now (asker_of asker.now) query.now table.now (rows_of kept.now.notes upto.0 (lying_at kept.now.paths kept.now.notes kept.now.indexed spots.now)))) }
-{
-    'spots: for spot in spots {
-        add_spot(
-            alloc, names, definition, query, table, asker, kept, spot, upto,
-        )?;
+    // Puts the buckets on the rows of the notes that lie at a spot among others.
+    fn add_spot(
+        &self,
+        alloc: Global,
+        names: &mut NameSet,
+        spot: &(usize, Text),
+    ) -> Result<(), Memory>
+        requires { is_definition_name self.now.definition.now.name ≡ true }
+        ensures { OnOk result (Gains names.old names.new
+            (names_found self.now (lying self.now.kept.now.paths self.now.kept.now.notes self.now.kept.now.indexed spot.now))) }
+    {
+        let places = self.kept.places(spot);
+        self.add_places(alloc, names, places)
     }
-    Ok(())
-}
 
-// Puts the buckets of a parameter query on the rows of the notes that lie at some spots, and of the late ones, among
-// others.
-fn add_found(
-    alloc: Global,
-    names: &mut NameSet,
-    definition: &Definition,
-    query: &ParameterQuery,
-    table: &Text,
-    asker: &Asker,
-    kept: &Kept,
-    spots: &[(usize, Text)],
-    upto: Position,
-) -> Result<(), Memory>
-    requires { is_definition_name definition.now.name ≡ true }
-    ensures { OnOk result (Gains names.old names.new
-        (names_over definition.now (asker_of asker.now) query.now table.now
-        (rows_of kept.now.notes upto.0 (lying_at kept.now.paths kept.now.notes kept.now.indexed spots.now ++ drop kept.now.indexed kept.now.notes)))) }
-{
-    add_spots(
-        alloc, names, definition, query, table, asker, kept, spots, upto,
-    )?;
-    let late = kept.late();
-    add_notes(
-        alloc, names, definition, query, table, asker, kept, late, upto,
-    )
-}
+    // Puts the buckets on the rows of the notes that lie at some spots among others.
+    fn add_spots(
+        &self,
+        alloc: Global,
+        names: &mut NameSet,
+        spots: &[(usize, Text)],
+    ) -> Result<(), Memory>
+        requires { is_definition_name self.now.definition.now.name ≡ true }
+        ensures { OnOk result (Gains names.old names.new
+            (names_found self.now (lying_at self.now.kept.now.paths self.now.kept.now.notes self.now.kept.now.indexed spots.now))) }
+    {
+        'spots: for spot in spots {
+            self.add_spot(alloc, names, spot)?;
+        }
+        Ok(())
+    }
 
-// Puts the buckets of a parameter query on the rows of its table, as they stood at a position, among others. Where a path
-// leads to the rows for which the condition holds, only they and those of late notes are looked at.
-fn add_from(
-    alloc: Global,
-    names: &mut NameSet,
-    definition: &Definition,
-    query: &ParameterQuery,
-    table: &Text,
-    asker: &Asker,
-    kept: &Kept,
-    upto: Position,
-) -> Result<(), Memory>
-    requires { is_definition_name definition.now.name ≡ true }
-    ensures { OnOk result (Gains names.old names.new (names_over definition.now (asker_of asker.now) query.now table.now (rows_of kept.now.notes upto.0 kept.now.notes))) }
-{
-    match spots(alloc, kept, &query.condition, table, asker)? {
-        Some(spots) => add_found(
+    // Puts the buckets on the rows of the notes that lie at some spots, and of the late ones, among others.
+    fn add_found(
+        &self,
+        alloc: Global,
+        names: &mut NameSet,
+        spots: &[(usize, Text)],
+    ) -> Result<(), Memory>
+        requires { is_definition_name self.now.definition.now.name ≡ true }
+        ensures { OnOk result (Gains names.old names.new (names_found self.now
+            (lying_at self.now.kept.now.paths self.now.kept.now.notes self.now.kept.now.indexed spots.now ++ drop self.now.kept.now.indexed self.now.kept.now.notes))) }
+    {
+        self.add_spots(alloc, names, spots)?;
+        let late = self.kept.late();
+        self.add_notes(alloc, names, late)
+    }
+
+    // Puts the buckets on the rows of the table among others. Where a path leads to the rows for which the condition holds,
+    // only they and those of late notes are looked at.
+    fn add_all(&self, alloc: Global, names: &mut NameSet) -> Result<(), Memory>
+        requires { is_definition_name self.now.definition.now.name ≡ true }
+        ensures { OnOk result (Gains names.old names.new (names_found self.now self.now.kept.now.notes)) }
+    {
+        match spots(
             alloc,
-            names,
-            definition,
-            query,
-            table,
-            asker,
-            kept,
-            spots.as_slice(),
-            upto,
-        ),
-        None => add_notes(
-            alloc,
-            names,
-            definition,
-            query,
-            table,
-            asker,
-            kept,
-            kept.notes(),
-            upto,
-        ),
+            self.kept,
+            &self.query.condition,
+            self.table,
+            self.asker,
+        )? {
+            Some(spots) => self.add_found(alloc, names, spots.as_slice()),
+            None => self.add_notes(alloc, names, self.kept.notes()),
+        }
     }
 }
 
@@ -366,7 +296,17 @@ fn add_query(
     ensures { OnOk result (Gains names.old names.new (query_names definition.now (asker_of asker.now) (rows_of kept.now.notes upto.0 kept.now.notes) query.now)) }
 {
     match &query.table {
-        Some(table) => add_from(alloc, names, definition, query, table, asker, kept, upto),
+        Some(table) => {
+            let search = Search {
+                definition,
+                query,
+                table,
+                asker,
+                kept,
+                upto,
+            };
+            search.add_all(alloc, names)
+        }
         None => {
             let id = Text::from_string(String::new(alloc));
             let row = Row::from_columns(Items::new(alloc));
