@@ -76,7 +76,7 @@ record MapWithin (first : ℕ) (pairs : List Pair) (line behind : ℕ) : Type 0 
   within : PairsWithin line pairs behind
 
 map_of : {first : ℕ} {node : Node} {behind : ℕ} → NodeWithin first node behind → (pairs : List Pair) (line column : ℕ) → out-Node node ≡ layers.Map pairs line column → MapWithin first pairs line behind
-map_of (scalar_within first behind node text at column plain is l h) pairs line column e = let no : layers.Scalar text at column plain ≡ layers.Map pairs line column = sym is ∙ e in absurd (cc)
+map_of (scalar_within first behind node text at own plain is l h) pairs line column e = let no : layers.Scalar text at own plain ≡ layers.Map pairs line column = sym is ∙ e in absurd (cc)
 map_of (list_within first behind node items at own is l within) pairs line column e = let no : layers.List items at own ≡ layers.Map pairs line column = sym is ∙ e in absurd (cc)
 map_of (map_within first behind node own at place is l within) pairs line column e =
     let same : layers.Map own at place ≡ layers.Map pairs line column = sym is ∙ e in
@@ -89,7 +89,7 @@ record ListWithin (first : ℕ) (items : List Node) (line behind : ℕ) : Type 0
   within : ItemsWithin line items behind
 
 list_of : {first : ℕ} {node : Node} {behind : ℕ} → NodeWithin first node behind → (items : List Node) (line column : ℕ) → out-Node node ≡ layers.List items line column → ListWithin first items line behind
-list_of (scalar_within first behind node text at column plain is l h) items line column e = let no : layers.Scalar text at column plain ≡ layers.List items line column = sym is ∙ e in absurd (cc)
+list_of (scalar_within first behind node text at own plain is l h) items line column e = let no : layers.Scalar text at own plain ≡ layers.List items line column = sym is ∙ e in absurd (cc)
 list_of (map_within first behind node pairs at own is l within) items line column e = let no : layers.Map pairs at own ≡ layers.List items line column = sym is ∙ e in absurd (cc)
 list_of (list_within first behind node own at place is l within) items line column e =
     let same : layers.List own at place ≡ layers.List items line column = sym is ∙ e in
