@@ -1,11 +1,11 @@
 -- That the places of a document rise: its lines are numbered, and what is read takes lines from the front.
-use Rattle.std.proofs.Common.{◌≡◌, ℕ, zero, suc, ◌+◌, ◌<◌, ◌≤◌, List, [], ◌∷◌, ◌++◌, Bool, true, false, drop, refl, sym, ap, subst, ◌∙◌, append_assoc, arith, if◌then◌else◌}
+use Rattle.std.proofs.Common.{◌≡◌, ℕ, zero, suc, ◌+◌, ◌≤◌, List, [], ◌∷◌, ◌++◌, Bool, true, false, drop, refl, sym, ap, subst, ◌∙◌, append_assoc, arith, if◌then◌else◌}
 use Rattle.std.specs.List.{position_or_len}
 use Rattle.ps_yaml.specs.declared.nodes.Node.{Node, out-Node, out-roll-Node}
 use Rattle.ps_yaml.specs.declared.nodes.Node.TheOpen as layers
 use Rattle.ps_yaml.specs.declared.nodes.Node.TheVariants as nodes
 use Rattle.ps_yaml.specs.declared.nodes.Pair.{Pair}
-use Rattle.ps_yaml.specs.Lines.{Line, lines_of, numbered, split_lines, has_marker, after_marker, spaces, from_content, is_met}
+use Rattle.ps_yaml.specs.Lines.{Line, lines_of, numbered, split_lines, has_marker, spaces, from_content, is_met}
 use Rattle.ps_yaml.specs.ScalarGrammar.{IsScalar, Continues, BlockText}
 use Rattle.ps_yaml.specs.ScalarGrammar as scalars
 use Rattle.ps_yaml.specs.Trees.{name_of, pair_of, value_offset}
@@ -139,7 +139,7 @@ mutual
       record {
         behind = o.behind;
         within = map_within line.number o.behind (nodes.Map pairs first.number (spaces first.text + 1)) pairs first.number (spaces first.text + 1) (map_out pairs first.number (spaces first.text + 1)) (omega (arith, m.0))
-        (subst (λ (ps : List Pair). PairsWithin first.number ps o.behind) (sym o.is) o.within);
+            (subst (λ (ps : List Pair). PairsWithin first.number ps o.behind) (sym o.is) o.within);
         left = o.left;
       }
   value_placed (grammar.list line own first others items after end is tab deeper begins more) r =
@@ -148,7 +148,7 @@ mutual
       record {
         behind = o.behind;
         within = list_within line.number o.behind (nodes.List items first.number (spaces first.text + 1)) items first.number (spaces first.text + 1) (list_out items first.number (spaces first.text + 1)) (omega (arith, m.0))
-        (subst (λ (xs : List Node). ItemsWithin first.number xs o.behind) (sym o.is) o.within);
+            (subst (λ (xs : List Node). ItemsWithin first.number xs o.behind) (sym o.is) o.within);
         left = o.left;
       }
   value_placed (grammar.empty line own end none) r =
