@@ -1,12 +1,12 @@
 -- That the lines of warnings rise: they stand in the order of the definitions, whose places rise.
-use Rattle.std.proofs.Common.{◌≡◌, ◌<◌, ◌≤◌, ℕ, ◌+◌, Bool, true, false, List, [], ◌∷◌, ◌++◌, length, refl, sym, ap, subst, ◌∙◌, map, arith, Result, Ok, Err}
+use Rattle.std.proofs.Common.{◌≡◌, ◌<◌, ◌≤◌, ℕ, ◌+◌, Bool, true, false, List, [], ◌∷◌, ◌++◌, length, refl, sym, subst, ◌∙◌, map, arith, Result, Ok, Err}
 use Rattle.std.specs.Prelude.{◌==◌, ◌&&◌, nat_lt, if◌then◌else◌, IfOk}
 use Rattle.std.proofs.lemmas.Bool.Decides.{nat_tests}
 use Rattle.ps_sql.specs.declared.queries.ParameterQuery.{ParameterQuery}
 use Rattle.ps_yaml.specs.declared.nodes.Node.{Node, out-Node}
 use Rattle.ps_yaml.specs.declared.nodes.Node.TheOpen as layers
 use Rattle.ps_yaml.specs.declared.nodes.Pair.{Pair}
-use Rattle.ps_yaml.specs.Places.{NodeWithin, scalar_within, map_within, list_within, PairsWithin, no_pairs, next_pair, ItemsWithin, no_items, next_item, InOrder, PlacesRise}
+use Rattle.ps_yaml.specs.Places.{NodeWithin, scalar_within, map_within, list_within, PairsWithin, no_pairs, next_pair, ItemsWithin, no_items, next_item, PlacesRise}
 use Rattle.ps_rules.specs.declared.drafts.Written.{Written}
 use Rattle.ps_rules.specs.declared.drafts.Parts.{Parts}
 use Rattle.ps_rules.specs.declared.drafts.Draft.{Draft}
@@ -14,7 +14,6 @@ use Rattle.ps_rules.specs.declared.definitions.Definition.{Definition}
 use Rattle.ps_rules.specs.declared.warnings.Warning.{Warning}
 use Rattle.ps_rules.specs.declared.warnings.WarningKind.TheVariants as kinds
 use Rattle.ps_rules.specs.declared.faults.RulesFault.{RulesFault}
-use Rattle.ps_rules.specs.Shapes.{Layer}
 use Rattle.ps_rules.specs.Checks.{some_expr, client_warning, data_warning}
 use Rattle.ps_rules.specs.Branches.{asks_parameters}
 use Rattle.ps_rules.specs.RuleSets.{RuleSet, rises_past, WarningsRise}
