@@ -11,5 +11,6 @@ pub mod NameLaws
 mod Names
 pub mod OnlyRules
 pub mod PlacedFaults
+pub mod RisingWarnings
 pub mod Spreads
 pub mod Steps

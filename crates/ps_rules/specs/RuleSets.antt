@@ -49,6 +49,10 @@ rises_past before (n ∷ ns) = nat_lt before n && rises_past n ns
 abbrev pub numbers_of : List Definition → List ℕ
 numbers_of definitions = flat_map (λ (d : Definition). map (λ (q : Planned). q.number) d.queries) definitions
 
+-- the lines of warnings rise, from 1 on: no two warnings stand on one line
+abbrev pub WarningsRise : List Warning → Type 0
+WarningsRise warnings = rises_past 0 (map (λ (w : Warning). w.line) warnings) ≡ true
+
 -- what each rule set keeps
 pub record AreRules (rules : RuleSet) : Type 0 where
   pub names_differ : has_repeated (map (λ (d : Definition). d.name) rules.definitions) ≡ false

@@ -6,7 +6,7 @@ ghost use Rattle.ps_yaml.specs.Trees.{document_of};
 ghost use Rattle.ps_rules.specs.Faults.{Reads, yaml};
 ghost use Rattle.ps_rules.specs.Reading.{rules_from, rules_of, rules_in, no_rules};
 ghost use Rattle.ps_rules.specs.Refusals.{RefusesOtherBytes};
-ghost use Rattle.ps_rules.specs.RuleSets.{AreDrafts, RuleSet};
+ghost use Rattle.ps_rules.specs.RuleSets.{AreDrafts, RuleSet, WarningsRise};
 
 use crate::checks::check;
 use crate::drafts::{Checked, Draft};
@@ -14,7 +14,7 @@ use crate::shapes::drafts_in;
 use crate::{Definition, Rules, RulesFault, Warning};
 use ps_sql::queries_speak_as_they_may;
 use ps_values::{Items, Memory};
-use ps_yaml::{Node, YamlFault, read_yaml};
+use ps_yaml::{Node, YamlFault, places_rise, read_yaml};
 use std::alloc::Global;
 
 // A number of queries past those before, if it is a number.
@@ -110,9 +110,12 @@ pub fn read_rules(alloc: Global, bytes: &[u8]) -> Result<Rules, RulesFault>
     ensures only { (rules : RuleSet) → IsRules bytes.now rules → Reads result (Ok rules) }
     // Which fault is the first.
     ensures exact { Reads result (rules_in bytes.now) }
+    // The warnings stand in the order of their lines, of which none has two.
+    ensures warnings_rise { IfOk result (λ rules. WarningsRise rules.warnings) }
     // Bytes that are no text are refused before any memory is asked for.
     ensures other_bytes { RefusesOtherBytes bytes.now result }
 {
+    places_rise();
     let node = document(alloc, bytes)?;
     rules_in_document(alloc, node)
 }

@@ -9,6 +9,7 @@ pub mod Rests
 pub mod Parts
 pub mod Offsets
 pub mod Only
+pub mod Ordered
 pub mod Turns
 pub mod Names
 pub mod Binds

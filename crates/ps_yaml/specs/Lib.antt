@@ -1,6 +1,7 @@
 pub mod Faults
 pub mod Grammar
 pub mod Lines
+pub mod Places
 pub mod Refusals
 pub mod ScalarGrammar
 pub mod Scalars
