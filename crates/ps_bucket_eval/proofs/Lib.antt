@@ -1,11 +1,8 @@
 mod Adding
 mod Allowing
-mod Arrays
 mod Choosing
-mod Definitions
 mod Fitting
 pub mod Members
-mod Names
 mod Placements
 pub mod Ranks
 mod Reading

@@ -11,14 +11,14 @@ use Rattle.ps_rules.specs.Checks.{names_of}
 use Rattle.ps_rules.specs.Meeting.{holds}
 use Rattle.ps_rules.specs.RuleSets.{RuleSet, AreRules, IsSound, IsSoundParameter, IsSoundQuery}
 use Rattle.ps_bucket_eval.specs.Types.{Placed}
-use Rattle.ps_bucket_eval.specs.Buckets.{bucket_name_of}
+use Rattle.ps_rules.specs.Buckets.{bucket_name_of}
 use Rattle.ps_bucket_eval.specs.Shown.{alone, object_id}
 use Rattle.ps_bucket_eval.specs.Vectors.{with_vector, holding}
 use Rattle.ps_bucket_eval.specs.Entries.{RowOf, placed_in, entry_of, placed_all, buckets_of, query_entries, definition_entries, entries_of}
 use Rattle.ps_bucket_eval.specs.Laws.{PlacedWhereItHolds}
 use Rattle.ps_bucket_eval.proofs.Members.{Has, has_flat, from_flat, has_map, from_map, has_contains, contains_has}
 use Rattle.ps_bucket_eval.proofs.Sets.{has_in_order, from_in_order}
-use Rattle.ps_bucket_eval.proofs.Arrays.{vector_back}
+use Rattle.ps_rules.proofs.Arrays.{vector_back}
 use Rattle.ps_bucket_eval.proofs.Reading.{name_same}
 use Rattle.ps_bucket_eval.proofs.Solutions.{BranchLaws, IsSolvable, solvable, holds_tried, holding_holds}
 use Rattle.ps_bucket_eval.proofs.Ranks.{same_place, query_numbered}

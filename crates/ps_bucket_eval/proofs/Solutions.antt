@@ -18,7 +18,7 @@ use Rattle.ps_rules.specs.Laws.{SameTest, HoldsWhereMet, VectorDoesNotMatter}
 use Rattle.ps_rules.specs.Meeting.{holds, is_among, allows, meets, meets_some}
 use Rattle.ps_rules.specs.RuleSets.{IsSoundQuery}
 use Rattle.ps_rules.specs.Vectors.{vector_at}
-use Rattle.ps_bucket_eval.specs.Buckets.{bucket_name_of}
+use Rattle.ps_rules.specs.Buckets.{bucket_name_of}
 use Rattle.ps_bucket_eval.specs.Shown.{over, alone}
 use Rattle.ps_bucket_eval.specs.Vectors.{compared, compared_as, candidates, choices, with_vector, tried, holding}
 use Rattle.ps_bucket_eval.specs.Solving.{allowed, all_hold, names_from, branch_names, sides_have_parameter}

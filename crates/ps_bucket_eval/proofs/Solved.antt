@@ -4,10 +4,10 @@ use Rattle.std.specs.Prelude.{flat_map, ◌⊎◌}
 use Rattle.std.specs.Ordering.{nat_cmp}
 use Rattle.std.specs.Cmp.Lexicographic.{slice_cmp, nat_list_cmp_total}
 use Rattle.std.proofs.lemmas.Map.Lookups.{exact_bytes}
-use Rattle.ps_bucket_eval.specs.Buckets.{bucket_name_of}
+use Rattle.ps_rules.specs.Buckets.{bucket_name_of, in_order}
 use Rattle.ps_bucket_eval.specs.Shown.{alone}
 use Rattle.ps_bucket_eval.specs.Vectors.{holding}
-use Rattle.ps_bucket_eval.specs.Entries.{in_order, buckets_of}
+use Rattle.ps_bucket_eval.specs.Entries.{buckets_of}
 use Rattle.ps_bucket_eval.specs.Solving.{inserted, branch_names, SolvesBuckets, HasPlainSides}
 use Rattle.ps_bucket_eval.proofs.Sets.{same_risen, inserted_rises, has_inserted, from_inserted, in_order_rises, has_in_order, from_in_order}
 use Rattle.ps_bucket_eval.proofs.Solutions.{BranchLaws, solvable, no_sides, found_holding, holding_found}

@@ -1,17 +1,14 @@
 -- The entries of a row: the buckets that it lies in, and the object that it is there.
 use Rattle.std.specs.Prelude.{ℕ, ◌+◌, List, [], ◌∷◌, ◌++◌, map, flat_map, length, if◌then◌else◌, Option, Some, None, bytes_eq, decimal, ◌≡◌, ◌<◌, ◌≤◌, Result, Ok, Err}
-use Rattle.std.specs.Ordering.{nat_cmp}
-use Rattle.std.specs.Cmp.Lexicographic.{slice_cmp}
-use Rattle.std.specs.BTreeSet.{insert_key}
 use Rattle.ps_values.specs.declared.columns.Column.{Column}
 use Rattle.ps_values.specs.declared.values.Value.{Value}
 use Rattle.ps_bucket_log.specs.declared.ops.Key.{Key}
 use Rattle.ps_rules.specs.declared.queries.Planned.{Planned}
 use Rattle.ps_rules.specs.declared.definitions.Definition.{Definition}
+use Rattle.ps_rules.specs.Buckets.{bucket_name_of, in_order}
 use Rattle.ps_bucket_eval.specs.declared.placed.Placed.{Placed}
 use Rattle.ps_bucket_eval.specs.declared.faults.PlaceFault.{PlaceFault}
 use Rattle.ps_bucket_eval.specs.declared.faults.PlaceFault.TheVariants.{TooWide, Memory}
-use Rattle.ps_bucket_eval.specs.Buckets.{bucket_name_of}
 use Rattle.ps_bucket_eval.specs.Shown.{alone, object_id, content_of}
 use Rattle.ps_bucket_eval.specs.Vectors.{holding}
 
@@ -20,11 +17,6 @@ pub record RowOf : Type 0 where
   pub table : List ℕ
   pub id : List ℕ
   pub row : List Column
-
--- the names in the order of their bytes, each once
-abbrev pub in_order : List (List ℕ) → List (List ℕ)
-in_order [] = []
-in_order (name ∷ names) = insert_key (slice_cmp nat_cmp) (in_order names) name
 
 -- the query's number, the table and the row's id, with `/` between
 unfoldable pub subkey_of : ℕ → RowOf → List ℕ

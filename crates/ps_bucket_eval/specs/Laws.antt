@@ -1,34 +1,20 @@
--- The laws of entries and of buckets' names.
-use Rattle.std.specs.Prelude.{◌≡◌, ◌↔◌, ℕ, ◌<◌, ◌^◌, pos, negsuc, true, List, length, Some, Contains}
+-- The laws of entries.
+use Rattle.std.specs.Prelude.{◌≡◌, ◌↔◌, ℕ, List, length, Some, Contains}
 use Rattle.std.specs.List.{AllByRecursion}
 use Rattle.std.specs.List.Sorted.{IsStrictlySortedBy}
 use Rattle.std.specs.Ordering.{nat_cmp, ordering_then}
 use Rattle.std.specs.Cmp.Lexicographic.{slice_cmp}
 use Rattle.std.specs.declared.cmp.Ordering.{Ordering}
 use Rattle.ps_values.specs.declared.values.Value.{Value}
-use Rattle.ps_values.specs.declared.values.Value.TheVariants.{Null, Int, Text}
 use Rattle.ps_sql.specs.Meaning.{Holds}
 use Rattle.ps_rules.specs.declared.definitions.Definition.{Definition}
 use Rattle.ps_rules.specs.declared.queries.Planned.{Planned}
-use Rattle.ps_rules.specs.Names.{is_definition_name}
 use Rattle.ps_rules.specs.RuleSets.{RuleSet}
+use Rattle.ps_rules.specs.Laws.{IsSqlValue}
 use Rattle.ps_bucket_eval.specs.declared.placed.Placed.{Placed}
-use Rattle.ps_bucket_eval.specs.Buckets.{bucket_name_of}
 use Rattle.ps_bucket_eval.specs.Shown.{alone, object_id}
 use Rattle.ps_bucket_eval.specs.Vectors.{with_vector}
 use Rattle.ps_bucket_eval.specs.Entries.{RowOf, entry_of}
-
--- an integer has signed 64 bits
-abbrev pub IsSqlValue : Value → Type 0
-IsSqlValue Null = Unit {0}
-IsSqlValue (Int (pos n)) = n < 2 ^ 63
-IsSqlValue (Int (negsuc n)) = n < 2 ^ 63
-IsSqlValue (Text t) = Unit {0}
-
--- different pairs of a definition and a vector have different names; one of the vectors is known to be of integers of signed 64 bits
-abbrev pub NamesDiffer : Type 0
-NamesDiffer = (a b : List ℕ) (v w : List Value) → is_definition_name a ≡ true → is_definition_name b ≡ true → AllByRecursion IsSqlValue v
-    → bucket_name_of a v ≡ bucket_name_of b w → (a ≡ b) × (v ≡ w)
 
 -- one vector of a data query that shows an object for a row: a value for each parameter
 pub record IsVectorOf (rules : RuleSet) (source : RowOf) (definition : Definition) (planned : Planned) (object : List ℕ) (values : List Value) : Type 0 where

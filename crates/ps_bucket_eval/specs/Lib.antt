@@ -1,4 +1,3 @@
-pub mod Buckets
 pub mod Shown
 pub mod Vectors
 pub mod Entries

@@ -23,7 +23,7 @@ use Rattle.ps_rules.specs.declared.definitions.Definition.{Definition}
 use Rattle.ps_rules.specs.declared.queries.Planned.{Planned}
 use Rattle.ps_rules.specs.Names.{has_repeated}
 use Rattle.ps_rules.specs.RuleSets.{IsSoundQuery}
-use Rattle.ps_bucket_eval.specs.Buckets.{bucket_name_of}
+use Rattle.ps_rules.specs.Buckets.{bucket_name_of}
 use Rattle.ps_bucket_eval.specs.Vectors.{compared}
 
 -- ---- what is to be evaluated has no parameter in it

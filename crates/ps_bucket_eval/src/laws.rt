@@ -1,18 +1,13 @@
-//! The laws of entries and of buckets' names. Each is the contract of a function that does nothing.
+//! The laws of entries. Each is the contract of a function that does nothing.
 
 ghost use Rattle.std.specs.Prelude.{ℕ, List};
 ghost use Rattle.ps_rules.specs.RuleSets.{RuleSet, AreRules};
 ghost use Rattle.ps_bucket_eval.specs.Entries.{RowOf, entries_of};
-ghost use Rattle.ps_bucket_eval.specs.Laws.{NamesDiffer, PlacedWhereItHolds, EntriesRise};
+ghost use Rattle.ps_bucket_eval.specs.Laws.{PlacedWhereItHolds, EntriesRise};
 ghost use Rattle.ps_bucket_eval.specs.Solving.{SolvesBuckets, HasPlainSides};
 
 use ps_rules::{conditions_hold_where_a_branch_is_met, spread_as_written, vectors_do_not_matter};
 use ps_values::{compare_is_a_total_order, equal_where_both_are_present};
-
-/// A law: different pairs of a definition's name and a vector give different names of buckets.
-pub fn names_are_distinct()
-    ensures { NamesDiffer }
-{}
 
 /// A law: for every vector at all, a data query's condition holds on a row for which it shows an object exactly where the
 /// vector's entry is among the row's entries. And these rise by number and bucket.

@@ -4,14 +4,12 @@
 mod evaluating;
 mod faults;
 mod laws;
-mod naming;
 mod objects;
 mod placed;
 mod placing;
 mod solving;
 
 pub use faults::PlaceFault;
-pub use laws::{entries_stand_where_conditions_hold, names_are_distinct};
-pub use naming::{bucket_name, have_64_bits};
+pub use laws::entries_stand_where_conditions_hold;
 pub use placed::Placed;
 pub use placing::entries_of_row;

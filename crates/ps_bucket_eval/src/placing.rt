@@ -3,7 +3,7 @@ ghost use Rattle.std.specs.List.{list_any};
 ghost use Rattle.ps_rules.specs.declared.branches.Branch.{Branch as BranchData};
 ghost use Rattle.ps_rules.specs.Names.{has_repeated};
 ghost use Rattle.ps_rules.specs.RuleSets.{IsSound, IsSoundQuery, AreRules};
-ghost use Rattle.ps_bucket_eval.specs.Buckets.{bucket_name_of};
+ghost use Rattle.ps_rules.specs.Buckets.{bucket_name_of};
 ghost use Rattle.ps_bucket_eval.specs.Shown.{alone};
 ghost use Rattle.ps_bucket_eval.specs.Entries.{RowOf, subkey_of, placed_in, query_entries, definition_entries, entries_of, buckets_of, IsPlaced};
 ghost use Rattle.ps_bucket_eval.specs.Laws.{PlacedWhereItHolds, EntriesRise};
@@ -11,13 +11,12 @@ ghost use Rattle.ps_bucket_eval.specs.Solving.{sides_have_parameter, names_from,
 
 use crate::evaluating::all_hold;
 use crate::laws::{branches_are_solved, entries_stand_where_conditions_hold};
-use crate::naming::bucket_name;
 use crate::objects::{content, object_id};
 use crate::solving::allowed_each;
 use crate::{PlaceFault, Placed};
 use ps_bucket_log::Key;
 use ps_changes::Row;
-use ps_rules::{Branch, Definition, Planned, Rules};
+use ps_rules::{Branch, Definition, Planned, Rules, bucket_name};
 use ps_values::{Items, Memory, Text, Value};
 use std::alloc::Global;
 use std::collections::BTreeSet;

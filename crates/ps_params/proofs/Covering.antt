@@ -15,7 +15,7 @@ use Rattle.ps_sql_eval.specs.Evaluated.{values_in}
 use Rattle.ps_rules.specs.declared.definitions.Definition.{Definition}
 use Rattle.ps_rules.specs.Meeting.{holds}
 use Rattle.ps_rules.specs.Vectors.{SourceRow, asked_of, vector_values}
-use Rattle.ps_bucket_eval.specs.Buckets.{bucket_name_of}
+use Rattle.ps_rules.specs.Buckets.{bucket_name_of}
 use Rattle.ps_params.specs.declared.paths.Path.{Path}
 use Rattle.ps_params.specs.Notes.{Note, row_at}
 use Rattle.ps_params.specs.Kept.{row_under, rows_of, names_on, names_over}

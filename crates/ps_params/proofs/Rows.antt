@@ -13,7 +13,7 @@ use Rattle.ps_sql.specs.declared.queries.ParameterQuery.{ParameterQuery}
 use Rattle.ps_rules.specs.declared.definitions.Definition.{Definition}
 use Rattle.ps_rules.specs.Meeting.{holds}
 use Rattle.ps_rules.specs.Vectors.{SourceRow, asked_of, rows_read, vector_values}
-use Rattle.ps_bucket_eval.specs.Buckets.{bucket_name_of}
+use Rattle.ps_rules.specs.Buckets.{bucket_name_of}
 use Rattle.ps_params.specs.Notes.{Note, counts_for, row_after, row_at}
 use Rattle.ps_params.specs.Kept.{row_under, standing, rows_of, at_row, names_on, names_over, query_names}
 use Rattle.ps_params.proofs.Members.{Has}

@@ -5,7 +5,7 @@ use Rattle.ps_sql.specs.Meaning.{Asker}
 use Rattle.ps_sql.specs.declared.queries.ParameterQuery.{ParameterQuery}
 use Rattle.ps_rules.specs.declared.definitions.Definition.{Definition}
 use Rattle.ps_rules.specs.Vectors.{SourceRow, vector_on, rows_read}
-use Rattle.ps_bucket_eval.specs.Buckets.{bucket_name_of}
+use Rattle.ps_rules.specs.Buckets.{bucket_name_of}
 use Rattle.ps_params.specs.declared.noted.Noted.{Noted}
 use Rattle.ps_params.specs.declared.paths.Path.{Path}
 use Rattle.ps_params.specs.Notes.{Note, row_at}

@@ -5,9 +5,8 @@ use Rattle.ps_values.specs.declared.values.Value.{Value}
 use Rattle.ps_sql.specs.Meaning.{Asker}
 use Rattle.ps_rules.specs.declared.definitions.Definition.{Definition}
 use Rattle.ps_rules.specs.Vectors.{SourceRow, parameter_vectors}
-use Rattle.ps_bucket_eval.specs.Buckets.{bucket_name_of}
-use Rattle.ps_bucket_eval.specs.Entries.{in_order}
-use Rattle.ps_bucket_eval.specs.Laws.{IsSqlValue}
+use Rattle.ps_rules.specs.Buckets.{bucket_name_of, in_order}
+use Rattle.ps_rules.specs.Laws.{IsSqlValue}
 use Rattle.ps_rules.specs.Names.{is_definition_name}
 
 -- the names of a definition's buckets, one for each vector

@@ -1,4 +1,6 @@
+pub mod Arrays
 pub mod Counts
+mod DefinitionNames
 pub mod Drafted
 pub mod Finds
 pub mod FoundRules
@@ -6,6 +8,7 @@ pub mod Independence
 pub mod Kept
 pub mod Meetings
 pub mod NameLaws
+mod Names
 pub mod OnlyRules
 pub mod PlacedFaults
 pub mod Spreads

@@ -1,7 +1,8 @@
--- The laws of branches.
-use Rattle.std.specs.Prelude.{◌≡◌, ℕ, ◌↔◌, Bool, true, false, not, List, [], ◌∷◌, ◌++◌, Option}
+-- The laws of branches and of buckets' names.
+use Rattle.std.specs.Prelude.{◌≡◌, ℕ, ◌<◌, ◌^◌, pos, negsuc, ◌↔◌, Bool, true, false, not, List, [], ◌∷◌, ◌++◌, Option}
+use Rattle.std.specs.List.{AllByRecursion}
 use Rattle.ps_values.specs.declared.values.Value.{Value}
-use Rattle.ps_values.specs.declared.values.Value.TheVariants.{Null}
+use Rattle.ps_values.specs.declared.values.Value.TheVariants.{Null, Int, Text}
 use Rattle.ps_sql.specs.declared.expressions.Expr.{Expr, out-Expr}
 use Rattle.ps_sql.specs.declared.expressions.Expr.TheOpen.{Expr-F}
 use Rattle.ps_sql.specs.declared.expressions.Expr.TheOpen as layers
@@ -10,6 +11,8 @@ use Rattle.ps_sql.specs.declared.expressions.Operator.{Operator}
 use Rattle.ps_sql.specs.declared.expressions.Operator.TheVariants as operators
 use Rattle.ps_sql.specs.Meaning.{Given, Holds, value_of}
 use Rattle.ps_rules.specs.declared.matches.Match.{Match}
+use Rattle.ps_rules.specs.Names.{is_definition_name}
+use Rattle.ps_rules.specs.Buckets.{bucket_name_of}
 use Rattle.ps_rules.specs.Branches.{branches_in, branches_of, crossed, leaf_branch, has_parameter}
 use Rattle.ps_rules.specs.Meeting.{holds, allows, meets_some}
 
@@ -57,3 +60,15 @@ NullIsNotAllowed = (given : Given) (m : Match) → given.bucket m.name ≡ Null 
 -- an expression without a parameter has the same value for each vector
 abbrev pub VectorDoesNotMatter : Type 0
 VectorDoesNotMatter = (given : Given) (vector : List ℕ → Value) (expr : Expr) → has_parameter expr ≡ false → value_of (record given { bucket = vector }) expr ≡ value_of given expr
+
+-- an integer has signed 64 bits
+abbrev pub IsSqlValue : Value → Type 0
+IsSqlValue Null = Unit {0}
+IsSqlValue (Int (pos n)) = n < 2 ^ 63
+IsSqlValue (Int (negsuc n)) = n < 2 ^ 63
+IsSqlValue (Text t) = Unit {0}
+
+-- different pairs of a definition and a vector have different names; one of the vectors is known to be of integers of signed 64 bits
+abbrev pub NamesDiffer : Type 0
+NamesDiffer = (a b : List ℕ) (v w : List Value) → is_definition_name a ≡ true → is_definition_name b ≡ true → AllByRecursion IsSqlValue v
+    → bucket_name_of a v ≡ bucket_name_of b w → (a ≡ b) × (v ≡ w)

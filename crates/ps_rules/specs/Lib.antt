@@ -1,4 +1,5 @@
 pub mod Branches
+pub mod Buckets
 pub mod Checks
 pub mod Faults
 pub mod Grammar

@@ -1,6 +1,6 @@
-//! The laws of branches. Each is the contract of a function that does nothing.
+//! The laws of branches and of buckets' names. Each is the contract of a function that does nothing.
 
-ghost use Rattle.ps_rules.specs.Laws.{EitherSide, BothSides, LeafAlone, HoldsWhereMet, SameTest, NullIsNotAllowed, VectorDoesNotMatter};
+ghost use Rattle.ps_rules.specs.Laws.{EitherSide, BothSides, LeafAlone, HoldsWhereMet, SameTest, NullIsNotAllowed, VectorDoesNotMatter, NamesDiffer};
 
 use ps_values::equal_where_both_are_present;
 
@@ -29,4 +29,9 @@ pub fn null_is_not_allowed()
 /// A law: an expression in which no parameter stands has one value for all vectors.
 pub fn vectors_do_not_matter()
     ensures { VectorDoesNotMatter }
+{}
+
+/// A law: different pairs of a definition's name and a vector give different names of buckets.
+pub fn names_are_distinct()
+    ensures { NamesDiffer }
 {}

@@ -1,4 +1,5 @@
-//! The rules language: bucket definitions, their checks, and the branches in which a data query's condition holds.
+//! The rules language: bucket definitions, their checks, the branches in which a data query's condition holds, and the
+//! names of buckets.
 #![tactic(auto)]
 
 mod branches;
@@ -10,6 +11,7 @@ mod faults;
 mod laws;
 mod matches;
 mod name_sets;
+mod naming;
 mod queries;
 mod reading;
 mod rule_sets;
@@ -22,10 +24,11 @@ pub use branches::Branch;
 pub use definitions::Definition;
 pub use faults::RulesFault;
 pub use laws::{
-    conditions_hold_where_a_branch_is_met, null_is_not_allowed, spread_as_written,
-    vectors_do_not_matter,
+    conditions_hold_where_a_branch_is_met, names_are_distinct, null_is_not_allowed,
+    spread_as_written, vectors_do_not_matter,
 };
 pub use matches::Match;
+pub use naming::{bucket_name, have_64_bits};
 pub use queries::Planned;
 pub use reading::read_rules;
 pub use rule_sets::Rules;

@@ -38,11 +38,12 @@ use Rattle.ps_grant.specs.Objects.{written_id, own_id, object_id, star_columns, 
 use Rattle.ps_grant.specs.Sources.{row_of as read_row, rows_in}
 use Rattle.ps_grant.specs.Grants.{given_for, holds_for_some, is_granted, copy_with, copy_of, grant_of, granted_by_query, granted_by, granted}
 use Rattle.ps_bucket_eval.specs.declared.placed.Placed.{Placed}
-use Rattle.ps_bucket_eval.specs.Buckets.{bucket_name_of}
+use Rattle.ps_rules.specs.Buckets.{bucket_name_of, in_order}
 use Rattle.ps_bucket_eval.specs.Shown.{nobody, alone, value_named, object_id as shown_id, output_column as shown_column, shown_columns, content_of}
 use Rattle.ps_bucket_eval.specs.Vectors.{with_vector, holding}
-use Rattle.ps_bucket_eval.specs.Entries.{RowOf, in_order, placed_in, entry_of, placed_all, buckets_of, query_entries, definition_entries, entries_of}
-use Rattle.ps_bucket_eval.specs.Laws.{NamesDiffer, IsVectorOf, PlacedWhereItHolds}
+use Rattle.ps_bucket_eval.specs.Entries.{RowOf, placed_in, entry_of, placed_all, buckets_of, query_entries, definition_entries, entries_of}
+use Rattle.ps_rules.specs.Laws.{NamesDiffer}
+use Rattle.ps_bucket_eval.specs.Laws.{IsVectorOf, PlacedWhereItHolds}
 use Rattle.ps_store.specs.Originals.{row_of}
 use Rattle.ps_store.specs.Standing.{Standing, IsCopyOf}
 use Rattle.ps_store.specs.Laws.{AreSqlVectors, IsBucketOf}

@@ -16,8 +16,8 @@ use Rattle.ps_rules.specs.declared.queries.Planned.{Planned}
 use Rattle.ps_rules.specs.Vectors.{SourceRow, parameter_vectors}
 use Rattle.ps_grant.specs.Latest.{due}
 use Rattle.ps_grant.specs.Sources.{rows_in}
-use Rattle.ps_bucket_eval.specs.Buckets.{bucket_name_of}
-use Rattle.ps_bucket_eval.specs.Laws.{IsSqlValue}
+use Rattle.ps_rules.specs.Buckets.{bucket_name_of}
+use Rattle.ps_rules.specs.Laws.{IsSqlValue}
 use Rattle.ps_store.specs.Originals.{original, in_bucket}
 use Rattle.ps_store.specs.Standing.{Holding, HoldsStanding}
 

@@ -8,7 +8,7 @@ ghost use Rattle.ps_store.specs.LedgerLaws.{LedgersTellFeeds, CheckpointsBegin, 
 ghost use Rattle.ps_store.specs.TotalsLaws.{TotalsTell, BucketNamesTell, CompactionKeepsTotals};
 ghost use Rattle.ps_store.specs.LogLaws.{LogsStand};
 
-use ps_bucket_eval::{entries_stand_where_conditions_hold, names_are_distinct};
+use ps_bucket_eval::entries_stand_where_conditions_hold;
 use ps_bucket_log::{
     batches_are_the_log, batches_keep_readers_honest, honest_readers_stay_honest,
     readers_are_whole_at_the_newest, standing_logs_have_the_sums_of_their_originals,
@@ -16,6 +16,7 @@ use ps_bucket_log::{
 };
 use ps_compact::compacted_logs_stand;
 use ps_grant::latest_rows_are_unique;
+use ps_rules::names_are_distinct;
 use ps_sql::same_for_every_asker;
 use ps_write_cp::{covered_is_the_greatest, covers_all_before};
 

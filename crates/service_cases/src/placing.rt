@@ -2,12 +2,9 @@
 
 use crate::reading::rules_of;
 use crate::words::{Stop, Texts, cut};
-use ps_bucket_eval::{
-    PlaceFault, Placed, bucket_name, entries_of_row, entries_stand_where_conditions_hold,
-    names_are_distinct,
-};
+use ps_bucket_eval::{PlaceFault, Placed, entries_of_row, entries_stand_where_conditions_hold};
 use ps_changes::{Change, Row, read_change};
-use ps_rules::Rules;
+use ps_rules::{Rules, bucket_name, names_are_distinct};
 use ps_values::{Items, Memory, Text, Value, read_json, value_of_json};
 use std::alloc::{AllocError, Global};
 

@@ -4,7 +4,7 @@ use Rattle.std.specs.List.{list_any}
 use Rattle.ps_values.specs.Values.{is_null}
 use Rattle.ps_sql.specs.declared.queries.Output.{Output}
 use Rattle.ps_rules.specs.Vectors.{output_value, vector_values}
-use Rattle.ps_bucket_eval.specs.Buckets.{bucket_name_of}
+use Rattle.ps_rules.specs.Buckets.{bucket_name_of}
 use Rattle.ps_sql_eval.specs.Evaluated.{asker_of, without_bucket}
 use Rattle.ps_params.specs.Kept.{at_row, names_on}
 use Rattle.ps_params.specs.Sets.{Gains}

@@ -15,8 +15,8 @@ use Rattle.serde_json.specs.Written.{compact_text, items_text}
 use Rattle.ps_values.specs.declared.values.Value.{Value}
 use Rattle.ps_values.specs.declared.values.Value.TheVariants.{Null, Int, Text}
 use Rattle.ps_values.specs.Documents.{data_of}
-use Rattle.ps_bucket_eval.specs.Buckets.{array_json, bucket_name_of}
-use Rattle.ps_bucket_eval.specs.Laws.{IsSqlValue}
+use Rattle.ps_rules.specs.Buckets.{array_json, bucket_name_of}
+use Rattle.ps_rules.specs.Laws.{IsSqlValue}
 
 -- ---- decimal digits
 

@@ -1,7 +1,7 @@
 use Rattle.std.proofs.Common.{drop}
 use Rattle.std.specs.List.{AllByRecursion}
-use Rattle.ps_bucket_eval.specs.Laws.{IsSqlValue}
-use Rattle.ps_bucket_eval.proofs.naming.have_64_bits.Given as goal
+use Rattle.ps_rules.specs.Laws.{IsSqlValue}
+use Rattle.ps_rules.proofs.naming.have_64_bits.Given as goal
 
 -- where those that are left have 64 bits, all have
 abbrev pub invariant-values : goal.invariant-values

@@ -1,8 +1,8 @@
 use Rattle.std.proofs.Common.{◌≡◌, ◌++◌, drop}
 use Rattle.ps_values.specs.Writing.{value_tokens}
-use Rattle.ps_bucket_eval.specs.Buckets.{array_json}
-use Rattle.ps_bucket_eval.proofs.Names.{left_tokens}
-use Rattle.ps_bucket_eval.proofs.naming.write_array.Given as goal
+use Rattle.ps_rules.specs.Buckets.{array_json}
+use Rattle.ps_rules.proofs.Names.{left_tokens}
+use Rattle.ps_rules.proofs.naming.write_array.Given as goal
 
 -- what was written, and the values that are left, are all
 abbrev pub invariant-values : goal.invariant-values

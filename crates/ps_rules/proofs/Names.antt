@@ -9,7 +9,7 @@ use Rattle.serde_json.proofs.Texts.{print-outline}
 use Rattle.ps_values.specs.declared.values.Value.{Value}
 use Rattle.ps_values.specs.Documents.{data_of}
 use Rattle.ps_values.specs.Writing.{value_tokens}
-use Rattle.ps_bucket_eval.specs.Buckets.{array_json, bucket_name_of}
+use Rattle.ps_rules.specs.Buckets.{array_json, bucket_name_of}
 
 -- the tokens of values, and of the bracket that closes them
 abbrev pub left_tokens : List Value → List Token

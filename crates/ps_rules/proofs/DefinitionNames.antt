@@ -5,9 +5,9 @@ use Rattle.std.specs.List.{list_all}
 use Rattle.std.proofs.lemmas.Bool.{and_parts, false_from_ne_true, eqb-true}
 use Rattle.ps_values.specs.declared.values.Value.{Value}
 use Rattle.ps_rules.specs.Names.{is_definition_name, is_in_word, begins_word}
-use Rattle.ps_bucket_eval.specs.Buckets.{bucket_name_of}
-use Rattle.ps_bucket_eval.specs.Laws.{NamesDiffer}
-use Rattle.ps_bucket_eval.proofs.Arrays.{vector_back}
+use Rattle.ps_rules.specs.Buckets.{bucket_name_of}
+use Rattle.ps_rules.specs.Laws.{NamesDiffer}
+use Rattle.ps_rules.proofs.Arrays.{vector_back}
 
 -- what stands before the first bracket
 abbrev before_bracket : List ℕ → List ℕ

@@ -1,8 +1,8 @@
 ghost use Rattle.std.specs.Prelude.{◌≡◌, ◌++◌, IfOk, OnOk};
 ghost use Rattle.std.specs.List.{AllByRecursion};
 ghost use Rattle.ps_values.specs.Writing.{value_tokens};
-ghost use Rattle.ps_bucket_eval.specs.Buckets.{array_json, bucket_name_of};
-ghost use Rattle.ps_bucket_eval.specs.Laws.{IsSqlValue};
+ghost use Rattle.ps_rules.specs.Buckets.{array_json, bucket_name_of};
+ghost use Rattle.ps_rules.specs.Laws.{IsSqlValue};
 
 use json::Writer;
 use ps_values::{Memory, Text, Value, text_written, write_value};
