@@ -1,6 +1,6 @@
 -- Rows of copies show of each object a copy that none of the others is later than, and where ties agree no other rows do.
-use Rattle.std.proofs.Common.{◌≡◌, ℕ, zero, suc, ◌<◌, ◌≤◌, ◌==◌, Bool, true, false, not, ◌&&◌, ◌||◌, cond, List, [], ◌∷◌, length, get_or, Option, Some, None, option_map, Ordering, Less, Equal, Greater, map, refl, sym, ap, ◌∙◌, subst, inl, inr, arith}
-use Rattle.std.specs.Prelude.{T, ◌⊎◌, nat_lt, if◌then◌else◌, IsTrue, Contains}
+use Rattle.std.proofs.Common.{◌≡◌, ℕ, zero, suc, ◌<◌, ◌≤◌, ◌==◌, Bool, true, false, not, ◌&&◌, ◌||◌, cond, List, [], ◌∷◌, length, get_or, Option, Some, None, Ordering, Less, Equal, Greater, map, refl, sym, ap, ◌∙◌, subst, inl, inr, arith}
+use Rattle.std.specs.Prelude.{T, ◌⊎◌, nat_lt, if◌then◌else◌, Contains}
 use Rattle.std.specs.FinMap.Entries.{find, put, find-put, is_sorted, is_sorted-put, below_all, same_entries}
 use Rattle.std.specs.Ordering.{is_eq, is_lt, eq_by_cmp, ordering_reverse}
 use Rattle.std.proofs.lemmas.Bool.{eqb-true}

@@ -1,4 +1,4 @@
-use Rattle.std.proofs.Common.{List, drop, map, sym, ap, subst, ◌∙◌}
+use Rattle.std.proofs.Common.{List, map, sym, ap, subst, ◌∙◌}
 use Rattle.std.proofs.lemmas.Result.{IfOk-weaker}
 use Rattle.ps_grant.specs.declared.copies.Granted.{Granted}
 use Rattle.ps_grant.specs.Latest.{latest_after, shown_of, AreLatest}
