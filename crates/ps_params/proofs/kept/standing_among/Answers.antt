@@ -1,5 +1,4 @@
-use Rattle.std.proofs.Common.{◌≡◌, ℕ, ◌+◌, ◌-◌, ◌<◌, List, Option, length, get_or, map, take, sym, ap, ◌∙◌, subst, arith}
-use Rattle.std.specs.Option.{option_copied}
+use Rattle.std.proofs.Common.{◌≡◌, ℕ, ◌+◌, ◌-◌, ◌<◌, List, Option, length, get_or, map, take, sym, ap, ◌∙◌, arith}
 use Rattle.ps_values.specs.declared.columns.Column.{Column}
 use Rattle.ps_params.specs.Notes.{row_at}
 use Rattle.ps_params.specs.Kept.{note_of}
