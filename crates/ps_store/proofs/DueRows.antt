@@ -109,8 +109,7 @@ module _ (definitions : List Definition) (asker : Asker) (source : Source) (mark
       let g = stands_granted s.0 (subst (λ b. IsBucketOf definitions asker (rows_in source) b) (sym s.1) bucket.2) in
       let of_object : object_of g.0 ≡ row_object row = (λ i. (sym g.2.kind i, sym g.2.id i)) ∙ (λ i. ((s.2 i).kind, (s.2 i).id)) ∙ object in
       let own : row.content ≡ g.0.content = sym is_content ∙ put_content s.0.entry h.put s.3 ∙ g.2.content in
-      let held_there : held h.bucket h.key ≡ Some h.put = subst (λ b. held b h.key ≡ Some h.put) (sym bucket.1) there in
-      (
+      let held_there : held h.bucket h.key ≡ Some h.put = subst (λ b. held b h.key ≡ Some h.put) (sym bucket.1) there in (
         g.0,
         record {
           among = has_contains copies g.0 g.1;
