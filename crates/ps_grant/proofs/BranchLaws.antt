@@ -1,32 +1,30 @@
 -- What a branch of a condition is for all vectors at once, and that no parameter stands where a branch needs none.
-use Rattle.std.proofs.Common.{◌≡◌, ℕ, Bool, true, false, not, cond, List, [], ◌∷◌, ◌++◌, Option, Some, None, length, map, flat_map, refl, sym, ap, ◌∙◌, subst, bytes_eq}
+use Rattle.std.proofs.Common.{◌≡◌, ℕ, Bool, true, false, not, List, [], ◌∷◌, Option, Some, None, map, refl, sym, ap, ◌∙◌, subst, bytes_eq}
 use Rattle.std.specs.Prelude.{◌||◌, ◌&&◌, if◌then◌else◌}
 use Rattle.std.specs.List.{list_any, list_all, AllByRecursion}
 use Rattle.std.specs.Option.{option_or}
 use Rattle.serde_json.specs.Data.{Items, no_items, item}
 use Rattle.ps_values.specs.declared.values.Value.{Value}
-use Rattle.ps_values.specs.declared.columns.Column.{Column}
 use Rattle.ps_values.specs.Values.{equal_sql, truth_of}
 use Rattle.ps_values.specs.Conversions.{value_of as json_value}
 use Rattle.ps_values.specs.Laws.{IsEqualWherePresent}
-use Rattle.ps_sql.specs.declared.expressions.Expr.{Expr, Expr-F, map-Expr, out-Expr, roll-Expr, roll-out-Expr, out-roll-Expr, ind-Expr}
+use Rattle.ps_sql.specs.declared.expressions.Expr.{Expr, Expr-F, map-Expr, out-Expr, roll-Expr, out-roll-Expr, ind-Expr}
 use Rattle.ps_sql.specs.declared.expressions.Expr.TheOpen as layers
 use Rattle.ps_sql.specs.declared.expressions.Expr.TheVariants as exprs
 use Rattle.ps_sql.specs.declared.expressions.Operator.{Operator}
 use Rattle.ps_sql.specs.declared.expressions.Operator.TheVariants as operators
 use Rattle.ps_sql.specs.declared.queries.Output.{Output}
-use Rattle.ps_sql.specs.Meaning.{Asker, Given, value_of, is_true, any_equals, array_of}
+use Rattle.ps_sql.specs.Meaning.{Given, value_of, is_true, any_equals, array_of}
 use Rattle.ps_sql_eval.specs.Evaluated.{values_in, values_of_items}
 use Rattle.ps_rules.specs.declared.matches.Match.{Match}
 use Rattle.ps_rules.specs.declared.branches.Branch.{Branch}
 use Rattle.ps_rules.specs.declared.queries.Planned.{Planned}
 use Rattle.ps_rules.specs.Branches.{has_parameter, match_of_side, match_of_sides, match_of_layer, match_of, branch_with, leaf_branch, joined, crossed, branches_in, branches_of}
-use Rattle.ps_rules.specs.Checks.{is_bound, is_matched}
+use Rattle.ps_rules.specs.Checks.{is_bound}
 use Rattle.ps_rules.specs.Laws.{is_leaf_layer, is_leaf, EitherSide, BothSides, LeafAlone, SameTest, VectorDoesNotMatter}
 use Rattle.ps_rules.specs.Meeting.{holds, is_among, allows, meets, meets_some}
 use Rattle.ps_rules.specs.RuleSets.{IsSoundQuery}
 use Rattle.ps_rules.specs.Vectors.{vector_at}
-use Rattle.ps_grant.specs.declared.solving.Allowed.{Allowed}
 use Rattle.ps_grant.specs.Solving.{allowed_by, is_equal_to, allows_vector, all_allow, IsUnbound}
 use Rattle.ps_grant.proofs.GainLaws.{any_append}
 use Rattle.ps_grant.proofs.SolveLaws.{same_bools, true_is}

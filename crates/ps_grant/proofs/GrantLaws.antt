@@ -1,5 +1,5 @@
 -- The vectors of a definition, and what it grants for vectors that are the same but for their order.
-use Rattle.std.proofs.Common.{◌≡◌, ℕ, Bool, true, false, not, cond, List, [], ◌∷◌, ◌++◌, Option, None, length, map, filter_map, flat_map, refl, sym, ap, ◌∙◌, subst, eq-eqb}
+use Rattle.std.proofs.Common.{◌≡◌, ℕ, Bool, true, false, not, cond, List, [], ◌∷◌, None, length, filter_map, flat_map, refl, sym, ap, ◌∙◌, eq-eqb}
 use Rattle.std.proofs.lemmas.List.{length-map}
 use Rattle.std.specs.Prelude.{◌||◌, ◌&&◌, ◌==◌, bytes_eq}
 use Rattle.std.specs.List.{list_any, list_all, AllByRecursion}
@@ -15,10 +15,9 @@ use Rattle.ps_rules.specs.Meeting.{holds}
 use Rattle.ps_rules.specs.Names.{has_repeated}
 use Rattle.ps_rules.specs.RuleSets.{IsSound, IsSoundParameter}
 use Rattle.ps_rules.specs.Vectors.{SourceRow, output_value, asked_of, rows_read, vector_values, vector_on, query_vectors, parameter_vectors}
-use Rattle.ps_grant.specs.declared.copies.Granted.{Granted}
-use Rattle.ps_grant.specs.Grants.{given_for, grant_of, granted_by_query, granted_by, copy_of}
+use Rattle.ps_grant.specs.Grants.{given_for, grant_of, granted_by_query, copy_of}
 use Rattle.ps_grant.specs.Solving.{HaveSame, AreAsLong}
-use Rattle.ps_grant.specs.Sources.{row_of, rows_in}
+use Rattle.ps_grant.specs.Sources.{row_of}
 use Rattle.ps_grant.proofs.GainLaws.{any_append}
 
 -- ---- names

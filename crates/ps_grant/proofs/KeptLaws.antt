@@ -1,5 +1,5 @@
 -- Maps of rows and of copies after a change, and the loops that make them.
-use Rattle.std.proofs.Common.{◌≡◌, ℕ, ◌+◌, ◌<◌, ◌≤◌, Bool, true, false, not, cond, List, [], ◌∷◌, ◌++◌, length, drop, get_or, map, filter, leb, refl, sym, ap, ◌∙◌}
+use Rattle.std.proofs.Common.{◌≡◌, ℕ, ◌+◌, ◌<◌, Bool, true, false, not, cond, List, length, drop, get_or, map, filter, leb, sym, ap, ◌∙◌}
 use Rattle.std.specs.List.Sorted.{IsStrictlySortedBy}
 use Rattle.std.specs.Map.{keys_of, remove_entry}
 use Rattle.std.specs.BTreeMap.{insert_entry, is_at}
@@ -7,14 +7,14 @@ use Rattle.std.specs.FinMap.Entries.{put, find, where_key}
 use Rattle.std.specs.Ordering.{eq_by_cmp}
 use Rattle.ps_changes.specs.declared.changes.Change.{Change}
 use Rattle.ps_changes.specs.declared.changes.Transaction.{Transaction}
-use Rattle.ps_changes.specs.Source.{Key, key_cmp, Version, Source, after_row, after_changes, after_transactions, source_at}
+use Rattle.ps_changes.specs.Source.{Key, key_cmp, Source, after_row, after_changes, after_transactions, source_at}
 use Rattle.ps_changes.specs.Keys.{keys_total}
 use Rattle.ps_grant.specs.declared.sourcing.Version.{Version as Held}
 use Rattle.ps_grant.specs.declared.copies.Granted.{Granted}
 use Rattle.ps_grant.specs.Mapped.{version_of}
 use Rattle.ps_grant.specs.Latest.{object_of, is_superseded, kept, latest_after}
 use Rattle.ps_grant.proofs.EntryLaws.{inserted, removed, put_is}
-use Rattle.ps_grant.proofs.StepLaws.{next_is, filter_taken, filter_passed, nothing_left}
+use Rattle.ps_grant.proofs.StepLaws.{next_is, filter_taken, filter_passed}
 
 abbrev pub held : List (Key × Held) → Source
 held es = map (λ e. (e.0, version_of e.1)) es

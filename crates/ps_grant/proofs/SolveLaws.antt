@@ -1,5 +1,5 @@
 -- Some vector is allowed exactly where one that the matches solve to is allowed and known.
-use Rattle.std.proofs.Common.{◌≡◌, ℕ, suc, Bool, true, false, not, cond, List, [], ◌∷◌, ◌++◌, length, Option, Some, None, Ordering, Less, Equal, Greater, map, flat_map, refl, sym, ap, ◌∙◌, subst, append_assoc, append-nil, bytes_eq, eqb, arith}
+use Rattle.std.proofs.Common.{◌≡◌, ℕ, Bool, true, false, not, cond, List, [], ◌∷◌, ◌++◌, length, Option, Some, Ordering, Less, Equal, Greater, map, flat_map, refl, sym, ap, ◌∙◌, subst, append_assoc, append-nil, bytes_eq, arith}
 use Rattle.std.specs.Prelude.{◌||◌, ◌&&◌, ◌==◌, unwrap_or, is_some, IfSome}
 use Rattle.std.specs.List.{list_any, list_all}
 use Rattle.std.specs.Cmp.Lexicographic.{slice_cmp, texts_ties, nat_list_eq_equiv}

@@ -1,5 +1,5 @@
 -- A set of vectors that is in the order of its values.
-use Rattle.std.proofs.Common.{◌≡◌, List, [], ◌∷◌, Ordering, Equal, map, refl, sym, ap, ◌∙◌}
+use Rattle.std.proofs.Common.{◌≡◌, List, [], ◌∷◌, Ordering, map, refl, sym, ap, ◌∙◌}
 use Rattle.std.specs.Prelude.{◌||◌}
 use Rattle.std.specs.List.{list_any}
 use Rattle.std.specs.BTreeSet.{insert_key}

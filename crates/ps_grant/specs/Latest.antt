@@ -1,6 +1,6 @@
 -- The rows of copies: of each object the latest copy.
-use Rattle.std.specs.Prelude.{ℕ, Bool, false, ◌&&◌, ◌||◌, ◌==◌, nat_lt, if◌then◌else◌, List, [], ◌∷◌, map, Option, Some, None}
-use Rattle.std.specs.FinMap.Entries.{put, find}
+use Rattle.std.specs.Prelude.{◌≡◌, ℕ, Bool, false, ◌&&◌, ◌||◌, ◌==◌, nat_lt, if◌then◌else◌, IsTrue, List, [], ◌∷◌, map, Contains, Option, Some, None}
+use Rattle.std.specs.FinMap.Entries.{put, find, is_sorted}
 use Rattle.ps_changes.specs.declared.changes.Transaction.{Transaction}
 use Rattle.ps_changes.specs.declared.shown.Shown.{Shown}
 use Rattle.ps_changes.specs.Source.{Key, key_cmp, source_at}
@@ -43,6 +43,31 @@ shown_of row = record { kind = row.0.0; id = row.0.1; content = row.1.content }
 -- for each object the data of its latest copy, in the order of type and id
 abbrev pub rows_of : List Granted → List Shown
 rows_of copies = map shown_of (latest_after [] copies)
+
+-- it is one of the copies, and none of the same object is later
+pub record IsLatest (copies : List Granted) (copy : Granted) : Type 0 where
+  pub among : Contains copies copy
+  pub latest : (other : Granted) → Contains copies other → object_of other ≡ object_of copy → is_later other copy ≡ false
+
+-- the object that a row is of
+abbrev pub row_object : Shown → Key
+row_object row = (row.kind, row.id)
+
+-- rows by their objects
+abbrev pub by_object : List Shown → List (Key × List ℕ)
+by_object rows = map (λ row. (row_object row, row.content)) rows
+
+-- rows that strictly rise by type and id, so that no object has two: each shows the object and the data of a latest copy, and the
+-- object of each copy has one
+pub record AreLatest (copies : List Granted) (rows : List Shown) : Type 0 where
+  pub in_order : IsTrue (is_sorted key_cmp (by_object rows))
+  pub latest : (row : Shown) → Contains rows row → (copy : Granted) × IsLatest copies copy × (row ≡ shown_of (object_of copy, copy))
+  pub all : (copy : Granted) → Contains copies copy → (row : Shown) × Contains rows row × (row_object row ≡ object_of copy)
+
+-- copies of one object, neither of which is later, have the same data
+abbrev pub TiesAgree : List Granted → Type 0
+TiesAgree copies = (a b : Granted) → Contains copies a → Contains copies b → object_of a ≡ object_of b → is_later a b ≡ false → is_later b a ≡ false
+    → a.content ≡ b.content
 
 -- the rows that are due to an asker at a position of the source
 abbrev pub due : List Definition → Asker → List Transaction → ℕ → List Shown

@@ -1,5 +1,6 @@
 pub mod Grants
 pub mod Latest
+pub mod Laws
 pub mod Mapped
 pub mod Objects
 pub mod Solving

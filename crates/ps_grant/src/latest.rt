@@ -3,7 +3,7 @@
 ghost use Rattle.std.specs.Prelude.{◌≡◌, IfOk, OnOk, map};
 ghost use Rattle.std.specs.FinMap.Entries.{find};
 ghost use Rattle.ps_changes.specs.Source.{key_cmp};
-ghost use Rattle.ps_grant.specs.Latest.{is_later as is_later_copy, is_superseded, kept, rows_of as rows_of_copies, shown_of};
+ghost use Rattle.ps_grant.specs.Latest.{is_later as is_later_copy, is_superseded, kept, AreLatest, rows_of as rows_of_copies, shown_of};
 
 use crate::Granted;
 use ps_changes::Shown;
@@ -17,7 +17,8 @@ type Kept = BTreeMap<(Text, Text), Granted>;
 /// is a position and a place in its transaction, and then the greatest number. Of copies that have both in common, which
 /// are one copy wherever `grants_of` made them, the last one counts.
 pub fn rows_of(alloc: Global, copies: &[Granted]) -> Result<Items<Shown>, Memory>
-    ensures { IfOk result (λ rows. rows ≡ rows_of_copies copies.now) }
+    ensures latest { IfOk result (AreLatest copies.now) }
+    ensures computed { IfOk result (λ rows. rows ≡ rows_of_copies copies.now) }
 {
     let mut rows = BTreeMap::new(alloc);
     'copies: for copy in copies {

@@ -146,28 +146,28 @@ equal Less p = cc
 equal Equal p = refl
 equal Greater p = cc
 
-below_there : (k : Key) (source : Source) (key : Key) (version : Version) → T (below_all key_cmp k source) → Has source (key, version) → key_cmp k key ≡ Less
-below_there k [] key version h i = absurd i
-below_there k (e ∷ es) key version h i = elim i [
-  | inl a ↦ subst (λ (z : Key × Version). key_cmp k z.0 ≡ Less) a (less (key_cmp k e.0) (first _ _ h))
-  | inr t ↦ below_there k es key version (second _ _ h) t
+below_there : {X : Type 0} (k : Key) (es : List (Key × X)) (key : Key) (x : X) → T (below_all key_cmp k es) → Has es (key, x) → key_cmp k key ≡ Less
+below_there k [] key x h i = absurd i
+below_there k (e ∷ es) key x h i = elim i [
+  | inl a ↦ subst (λ (z : Key × _). key_cmp k z.0 ≡ Less) a (less (key_cmp k e.0) (first _ _ h))
+  | inr t ↦ below_there k es key x (second _ _ h) t
 ]
 
--- a row is found by its key
-pub find_there : (source : Source) (key : Key) (version : Version) → T (is_sorted key_cmp source) → Has source (key, version) → find key_cmp key source ≡ Some version
-find_there [] key version h i = absurd i
-find_there (e ∷ es) key version h i = elim i [
-  | inl a ↦ subst (λ (z : Key × Version). find key_cmp z.0 (e ∷ es) ≡ Some z.1) a (ap (λ o. cond (is_eq o) (Some e.1) (find key_cmp e.0 es)) (tied_itself keys_total e.0))
-  | inr t ↦ ap (λ o. cond (is_eq o) (Some e.1) (find key_cmp key es)) (keys_total.antisymm key e.0 ∙ ap ordering_reverse (below_there e.0 es key version (first _ _ h) t))
-      ∙ find_there es key version (second _ _ h) t
+-- what a key has is found by it
+pub find_there : {X : Type 0} (es : List (Key × X)) (key : Key) (x : X) → T (is_sorted key_cmp es) → Has es (key, x) → find key_cmp key es ≡ Some x
+find_there [] key x h i = absurd i
+find_there (e ∷ es) key x h i = elim i [
+  | inl a ↦ subst (λ (z : Key × _). find key_cmp z.0 (e ∷ es) ≡ Some z.1) a (ap (λ o. cond (is_eq o) (Some e.1) (find key_cmp e.0 es)) (tied_itself keys_total e.0))
+  | inr t ↦ ap (λ o. cond (is_eq o) (Some e.1) (find key_cmp key es)) (keys_total.antisymm key e.0 ∙ ap ordering_reverse (below_there e.0 es key x (first _ _ h) t))
+      ∙ find_there es key x (second _ _ h) t
 ]
 
 -- and what is found is there
-pub from_find : (source : Source) (key : Key) (version : Version) → find key_cmp key source ≡ Some version → Has source (key, version)
-from_find [] key version h = absurd (cc)
-from_find (e ∷ es) key version h = elim (eq_by_cmp key_cmp key e.0) as (λ b. eq_by_cmp key_cmp key e.0 ≡ b → cond b (Some e.1) (find key_cmp key es) ≡ Some version → Has (e ∷ es) (key, version)) [
-  | true ↦ λ t s. let k : key ≡ e.0 = keys_exact key e.0 (equal (key_cmp key e.0) t) in let v : e.1 ≡ version = same_Some e.1 version s in inl (λ i. (sym k i, v i))
-  | false ↦ λ t s. inr (from_find es key version s)
+pub from_find : {X : Type 0} (es : List (Key × X)) (key : Key) (x : X) → find key_cmp key es ≡ Some x → Has es (key, x)
+from_find [] key x h = absurd (cc)
+from_find (e ∷ es) key x h = elim (eq_by_cmp key_cmp key e.0) as (λ b. eq_by_cmp key_cmp key e.0 ≡ b → cond b (Some e.1) (find key_cmp key es) ≡ Some x → Has (e ∷ es) (key, x)) [
+  | true ↦ λ t s. let k : key ≡ e.0 = keys_exact key e.0 (equal (key_cmp key e.0) t) in let v : e.1 ≡ x = same_Some e.1 x s in inl (λ i. (sym k i, v i))
+  | false ↦ λ t s. inr (from_find es key x s)
 ] refl h
 
 -- ---- whoever asks, and whatever the bucket

@@ -16,13 +16,13 @@ pub mod Fronts
 pub mod Growing
 pub mod Keys
 pub mod Lanes
-pub mod LatestCopies
 pub mod Lawful
 pub mod LogsStanding
 pub mod Maps
 pub mod Members
 pub mod Moments
 pub mod Numbering
+pub mod OneMoment
 pub mod Ordered
 pub mod Orders
 pub mod Planning

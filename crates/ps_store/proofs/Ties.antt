@@ -11,12 +11,12 @@ use Rattle.ps_rules.specs.RuleSets.{RuleSet, AreRules}
 use Rattle.ps_rules.specs.Vectors.{asked_of, parameter_vectors}
 use Rattle.ps_grant.specs.declared.copies.Granted.{Granted}
 use Rattle.ps_grant.specs.Grants.{is_granted, copy_with, copy_of, grant_of, granted_by_query, granted_by, granted}
-use Rattle.ps_grant.specs.Latest.{object_of}
+use Rattle.ps_grant.specs.Latest.{object_of, TiesAgree}
 use Rattle.ps_grant.specs.Objects.{object_id, object_data}
 use Rattle.ps_grant.specs.Sources.{row_of, rows_in}
-use Rattle.ps_store.proofs.Members.{Has, from_flat}
+use Rattle.ps_store.proofs.Members.{Has, from_flat, contains_has}
 use Rattle.ps_store.proofs.Queries.{same_place}
-use Rattle.ps_store.proofs.LatestCopies.{HaveOneMoment}
+use Rattle.ps_store.proofs.OneMoment.{HaveOneMoment, neither_later}
 
 from_filter_map : {X Y : Type 0} (f : X → Option Y) (xs : List X) (y : Y) → Has (filter_map f xs) y → (x : X) × Has xs x × (f x ≡ Some y)
 from_filter_map f [] y h = absurd h
@@ -75,7 +75,7 @@ granted_from definitions asker source copy h =
 abbrev pub MomentsTellRows : Source → Type 0
 MomentsTellRows source = (e f : Key × Version) → Has source e → Has source f → e.1.position ≡ f.1.position → e.1.index ≡ f.1.index → e ≡ f
 
-pub tied_same : (rules : RuleSet) (asker : Asker) (source : Source) → AreRules rules → MomentsTellRows source → (c d : Granted) → Has (granted rules.definitions asker source) c → Has (granted rules.definitions asker source) d
+tied_same : (rules : RuleSet) (asker : Asker) (source : Source) → AreRules rules → MomentsTellRows source → (c d : Granted) → Has (granted rules.definitions asker source) c → Has (granted rules.definitions asker source) d
     → HaveOneMoment c d → object_of c ≡ object_of d → c.content ≡ d.content
 tied_same rules asker source are tell c d h g one object =
     let a = granted_from rules.definitions asker source c h in
@@ -87,3 +87,8 @@ tied_same rules asker source are tell c d h g one object =
     (ap (λ (x : Granted). x.index) a.is ∙ one.index ∙ sym (ap (λ (x : Granted). x.index) b.is)) in
     let id : a.id ≡ b.id = ap (λ (x : Granted). x.id) a.is ∙ ap (λ o. o.1) object ∙ sym (ap (λ (x : Granted). x.id) b.is) in
     sym (ap (λ (x : Granted). x.content) a.is) ∙ (λ i. object_data (asked_of asker (row_of (entry i))) (place.1 i).query (id i)) ∙ ap (λ (x : Granted). x.content) b.is
+
+pub ties_agree : (rules : RuleSet) (asker : Asker) (source : Source) → AreRules rules → MomentsTellRows source → TiesAgree (granted rules.definitions asker source)
+ties_agree rules asker source are tell c d h g object below above =
+    let copies = granted rules.definitions asker source in
+    tied_same rules asker source are tell c d (contains_has copies c h) (contains_has copies d g) (neither_later c d below above) object

@@ -15,6 +15,7 @@ use ps_bucket_log::{
     standing_logs_stay_standing, totals_are_sums, what_is_written_later_adds_nothing,
 };
 use ps_compact::compacted_logs_stand;
+use ps_grant::latest_rows_are_unique;
 use ps_rules::names_are_distinct;
 use ps_sql::same_for_every_asker;
 use ps_write_cp::{covered_is_the_greatest, covers_all_before};
@@ -37,6 +38,7 @@ pub fn latest_rows_are_granted()
     names_are_distinct();
     entries_stand_where_conditions_hold();
     same_for_every_asker();
+    latest_rows_are_unique();
 }
 
 /// A law: steps of the first changes of transactions, among them all changes up to a position, lead up to that position to the

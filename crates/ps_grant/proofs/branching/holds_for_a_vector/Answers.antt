@@ -1,4 +1,4 @@
-use Rattle.std.proofs.Common.{◌≡◌, List, ap, ◌∙◌, subst}
+use Rattle.std.proofs.Common.{◌≡◌, List, ◌∙◌, subst}
 use Rattle.std.specs.Prelude.{IfOk}
 use Rattle.ps_values.specs.declared.values.Value.{Value}
 use Rattle.ps_sql.specs.Meaning.{Given}

@@ -1,11 +1,11 @@
-use Rattle.std.proofs.Common.{◌≡◌, Bool, true, false, List, ◌∷◌, drop, ◌+◌, sym, ap, ◌∙◌}
+use Rattle.std.proofs.Common.{List, drop, ◌+◌, sym, ap, ◌∙◌}
 use Rattle.std.specs.Prelude.{◌||◌}
 use Rattle.std.specs.List.{list_any}
 use Rattle.ps_values.specs.declared.values.Value.{Value}
 use Rattle.ps_sql.specs.Meaning.{Given}
 use Rattle.ps_sql_eval.specs.Evaluated.{asker_of}
 use Rattle.ps_rules.specs.declared.branches.Branch.{Branch}
-use Rattle.ps_rules.specs.Meeting.{meets, meets_some}
+use Rattle.ps_rules.specs.Meeting.{meets_some}
 use Rattle.ps_grant.specs.Grants.{given_for}
 use Rattle.ps_grant.specs.Solving.{IsUnbound}
 use Rattle.ps_grant.specs.Sources.{at_row}

@@ -1,4 +1,4 @@
-use Rattle.std.proofs.Common.{◌≡◌, ◌++◌, [], ◌∷◌, List, map, take}
+use Rattle.std.proofs.Common.{◌≡◌, ◌++◌, [], ◌∷◌, map, take}
 use Rattle.ps_values.specs.declared.values.Value.{Value}
 use Rattle.ps_grant.proofs.solving.extend_one.Given as goal
 

@@ -2,12 +2,13 @@ use Rattle.std.proofs.Common.{◌≡◌, [], Some, sym, ap, ◌∙◌}
 use Rattle.std.proofs.lemmas.Option.{same_Some}
 use Rattle.std.specs.FinMap.Entries.{find}
 use Rattle.ps_changes.specs.Source.{Key, key_cmp, Version, Source}
+use Rattle.ps_grant.specs.Grants.{granted}
 use Rattle.ps_store.specs.Steps.{lane_ops, source_after, held_of}
 use Rattle.ps_store.proofs.Apart.{moments_tell_rows, in_order}
 use Rattle.ps_store.proofs.Copies.{granted_stands, stands_granted, find_there}
-use Rattle.ps_store.proofs.DueRows.{shown_are_due}
+use Rattle.ps_store.proofs.DueRows.{are_latest}
 use Rattle.ps_store.proofs.Stepping.{steps_from_rise}
-use Rattle.ps_store.proofs.Ties.{MomentsTellRows, tied_same}
+use Rattle.ps_store.proofs.Ties.{MomentsTellRows, ties_agree}
 use Rattle.ps_store.proofs.laws.latest_rows_are_granted.Goals as goal
 
 -- a key has one version
@@ -24,7 +25,8 @@ returns c = λ mark rules steps asker kept rows are numbers rise sql holds lates
     let tell : MomentsTellRows source = λ e f h g p i.
     let key = moments_tell_rows rules.definitions steps (steps_from_rise rules.definitions [] steps rise) e.0 f.0 e.1 f.1 (find_there source e.0 e.1 sorted h) (find_there source f.0 f.1 sorted g) p i in
     same_entry source e f key (find_there source e.0 e.1 sorted h) (find_there source f.0 f.1 sorted g) in
-    shown_are_due rules.definitions asker source mark (held_of (lane_ops mark rules.definitions [] steps)) kept rows (c.readers_hold_what_steps_leave.ensures mark rules steps are numbers rise)
-    (granted_stands rules asker source are sorted sql same c.names_are_distinct.ensures (λ row. c.entries_stand_where_conditions_hold.ensures.placed rules row are)) (stands_granted rules asker source are sorted sql same c.names_are_distinct.ensures (λ row. c.entries_stand_where_conditions_hold.ensures.placed rules row are))
-    (λ a b h g one object. tied_same rules asker source are tell a b h g one object)
-    holds latest
+    c.latest_rows_are_unique.ensures (granted rules.definitions asker source) rows (ties_agree rules asker source are tell)
+    (are_latest rules.definitions asker source mark (held_of (lane_ops mark rules.definitions [] steps)) kept rows (c.readers_hold_what_steps_leave.ensures mark rules steps are numbers rise)
+    (granted_stands rules asker source are sorted sql same c.names_are_distinct.ensures (λ row. c.entries_stand_where_conditions_hold.ensures.placed rules row are))
+    (stands_granted rules asker source are sorted sql same c.names_are_distinct.ensures (λ row. c.entries_stand_where_conditions_hold.ensures.placed rules row are))
+    holds latest)
