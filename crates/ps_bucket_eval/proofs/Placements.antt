@@ -9,6 +9,7 @@ use Rattle.ps_rules.specs.declared.definitions.Definition.{Definition}
 use Rattle.ps_rules.specs.Names.{has_repeated}
 use Rattle.ps_rules.specs.Checks.{names_of}
 use Rattle.ps_rules.specs.Meeting.{holds}
+use Rattle.ps_rules.specs.Laws.{NamesDiffer}
 use Rattle.ps_rules.specs.RuleSets.{RuleSet, AreRules, IsSound, IsSoundParameter, IsSoundQuery}
 use Rattle.ps_bucket_eval.specs.Types.{Placed}
 use Rattle.ps_rules.specs.Buckets.{bucket_name_of}
@@ -18,7 +19,6 @@ use Rattle.ps_bucket_eval.specs.Entries.{RowOf, placed_in, entry_of, placed_all,
 use Rattle.ps_bucket_eval.specs.Laws.{PlacedWhereItHolds}
 use Rattle.ps_bucket_eval.proofs.Members.{Has, has_flat, from_flat, has_map, from_map, has_contains, contains_has}
 use Rattle.ps_bucket_eval.proofs.Sets.{has_in_order, from_in_order}
-use Rattle.ps_rules.proofs.Arrays.{vector_back}
 use Rattle.ps_bucket_eval.proofs.Reading.{name_same}
 use Rattle.ps_bucket_eval.proofs.Solutions.{BranchLaws, IsSolvable, solvable, holds_tried, holding_holds}
 use Rattle.ps_bucket_eval.proofs.Ranks.{same_place, query_numbered}
@@ -35,7 +35,7 @@ first_differ names (q ∷ qs) h = h.0.names_differ
 pub names_differ_of : (definition : Definition) → IsSound definition → has_repeated definition.names ≡ false
 names_differ_of definition sound = subst (λ ns. has_repeated ns ≡ false) (sym sound.names) (first_differ definition.names definition.parameters sound.parameters)
 
-module _ (laws : BranchLaws) (rules : RuleSet) (source : RowOf) (are : AreRules rules) where
+module _ (laws : BranchLaws) (apart : NamesDiffer) (rules : RuleSet) (source : RowOf) (are : AreRules rules) where
   sound_at : (d : Definition) → Has rules.definitions d → IsSound d
   sound_at d i = all_of IsSound rules.definitions d are.sound i
 
@@ -91,6 +91,7 @@ module _ (laws : BranchLaws) (rules : RuleSet) (source : RowOf) (are : AreRules 
             subst (λ (z : Planned). Has (query_entries d source z) (entry_of d q source object values)) (sym place.1)
             (subst (λ (z : Definition). Has (query_entries z source b.0) (entry_of d q source object values)) (sym place.0) b.2) in
             let w = from_query d q (entry_of d q source object values) there in
-            let equal : values ≡ w.0 = vector_back d.name values w.0 v.values_of_sql (sym w.2) in
+            let named = (sound_at d i).name in
+            let equal : values ≡ w.0 = (apart d.name d.name values w.0 named named v.values_of_sql (sym w.2)).1 in
             met.1 (sym same ∙ subst (λ (z : List Value). holds (with_vector source.id source.row d.names z) q.query.condition ≡ true) (sym equal) (holding_holds laws source.id source.row d.names q ok branches w.0 w.1).0),
       )

@@ -57,7 +57,7 @@ only_body result bytes changes h spelled = answer result (body_of bytes) changes
 
 -- ---- changes by themselves
 
-lone_change_found : (bytes : List ℕ) (change : Change) → lone_change_of bytes ≡ Ok change → IsLoneChange bytes change
+pub lone_change_found : (bytes : List ℕ) (change : Change) → lone_change_of bytes ≡ Ok change → IsLoneChange bytes change
 unfolding lone_change_of
 lone_change_found bytes change h =
     bind (json_such is_change bytes) change_of change h (λ json such more.

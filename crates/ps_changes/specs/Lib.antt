@@ -7,4 +7,5 @@ pub mod Borrowed
 pub mod Shapes
 pub mod Lines
 pub mod Grammar
+pub mod Laws
 pub mod Writing

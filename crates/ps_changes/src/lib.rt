@@ -4,6 +4,7 @@
 mod borrowed;
 mod changes;
 mod faults;
+mod laws;
 mod lines;
 mod readers;
 mod rows;
@@ -13,6 +14,7 @@ mod writers;
 
 pub use changes::{Change, Transaction};
 pub use faults::ChangeFault;
+pub use laws::lone_changes_are_spelled;
 pub use lines::{LineReader, read_change, read_changes, read_line};
 pub use ps_values::Column;
 pub use rows::Row;

@@ -5,9 +5,9 @@ use Rattle.std.proofs.lemmas.Slice.Eq.{bytes_eq-Decides}
 use Rattle.std.proofs.lemmas.Option.{option_and_then_some}
 use Rattle.ps_changes.specs.Grammar.{IsLoneChange}
 use Rattle.ps_changes.specs.Lines.{lone_change_of}
+use Rattle.ps_changes.specs.Laws.{ReadsLoneChanges}
 use Rattle.ps_changes.specs.declared.changes.Change.{Change}
 use Rattle.ps_changes.specs.declared.faults.ChangeFault.{ChangeFault}
-use Rattle.ps_changes.proofs.Laws.{found_change}
 use Rattle.ps_claims.specs.Claims.{asker_of_claims}
 use Rattle.ps_sql_eval.specs.Evaluated.{asker_of}
 use Rattle.ps_sql_eval.specs.declared.askers.Asker.{Asker}
@@ -77,14 +77,14 @@ named_found word rest event h =
 claims_found : (claims : List ℕ) (asker : Asker) → claims_in claims ≡ Some asker → asker_of_claims claims ≡ Some (asker_of asker)
 claims_found claims asker h = mapped asker_by (asker_of_claims claims) asker h (λ meant is same. is ∙ ap (λ a. Some (asker_of a)) same)
 
-lone : (r : Result Change ChangeFault) (text : List ℕ) (change : Change) → lone_change_of text ≡ r → read_or_none r ≡ Some change → IsLoneChange text change
-lone (Ok other) text change is h =
+lone : ReadsLoneChanges → (r : Result Change ChangeFault) (text : List ℕ) (change : Change) → lone_change_of text ≡ r → read_or_none r ≡ Some change → IsLoneChange text change
+lone changes (Ok other) text change is h =
     let e : other ≡ change = cc in
-    subst (IsLoneChange text) e (found_change (Ok other) text is)
-lone (Err fault) text change is h = absurd (cc)
+    subst (IsLoneChange text) e ((changes text other).0 is)
+lone changes (Err fault) text change is h = absurd (cc)
 
-change_found : (text : List ℕ) (change : Change) → change_in text ≡ Some change → IsLoneChange text change
-change_found text change h = lone (lone_change_of text) text change refl h
+change_found : ReadsLoneChanges → (text : List ℕ) (change : Change) → change_in text ≡ Some change → IsLoneChange text change
+change_found changes text change h = lone changes (lone_change_of text) text change refl h
 
 -- what stands behind a space, and the name before it
 abbrev Joined : List ℕ → List ℕ → Option (List ℕ) → Type 0
@@ -100,13 +100,13 @@ client_found rest name (Some claims) event is h =
     let placed = subst (λ w. IsEvent (codes "client " ++ (w ++ 32 ∷ claims)) (events.Client n asker)) (sym own.0) here in
     subst (λ r. IsEvent (codes "client " ++ r) event) (sym is) (subst (IsEvent (codes "client " ++ (name ++ 32 ∷ claims))) same placed)))
 
-local_found : (rest name : List ℕ) (behind : Option (List ℕ)) (event : ScriptEvent) → Joined rest name behind → local_in name behind ≡ Some event → IsEvent (codes "local " ++ rest) event
-local_found rest name None event is h = absurd (cc)
-local_found rest name (Some text) event is h =
+local_found : ReadsLoneChanges → (rest name : List ℕ) (behind : Option (List ℕ)) (event : ScriptEvent) → Joined rest name behind → local_in name behind ≡ Some event → IsEvent (codes "local " ++ rest) event
+local_found changes rest name None event is h = absurd (cc)
+local_found changes rest name (Some text) event is h =
     option_and_then_some (λ n. option_map (events.Local n) (change_in text)) (name_of name) event h (λ n read more.
     mapped (events.Local n) (change_in text) event more (λ change known same.
     let own = name_found name n read in
-    let here = subst (λ t. IsEvent (codes "local " ++ t) (events.Local n change)) (append_assoc n (codes " ") text) (changes_locally n text change own.1 (change_found text change known)) in
+    let here = subst (λ t. IsEvent (codes "local " ++ t) (events.Local n change)) (append_assoc n (codes " ") text) (changes_locally n text change own.1 (change_found changes text change known)) in
     let placed = subst (λ w. IsEvent (codes "local " ++ (w ++ 32 ∷ text)) (events.Local n change)) (sym own.0) here in
     subst (λ r. IsEvent (codes "local " ++ r) event) (sym is) (subst (IsEvent (codes "local " ++ (name ++ 32 ∷ text))) same placed)))
 
@@ -130,19 +130,19 @@ compact_found rest event h =
     let own = text_found rest bucket read in
     subst (IsEvent (codes "compact " ++ rest)) (ap events.Compact own.0 ∙ same) (compacts rest own.1))
 
-behind_found : ReadsWhatIsWritten → (word rest : List ℕ) (event : ScriptEvent) → behind word rest ≡ Some event → IsEvent (word ++ 32 ∷ rest) event
-behind_found law word rest event h =
+behind_found : ReadsWhatIsWritten → ReadsLoneChanges → (word rest : List ℕ) (event : ScriptEvent) → behind word rest ≡ Some event → IsEvent (word ++ 32 ∷ rest) event
+behind_found law changes word rest event h =
     choose (bytes_eq word (codes "feed")) _ _ event h (λ is e. spelled_with word (codes "feed") rest event is (feed_found law rest event e)) (λ h.
     choose (bytes_eq word (codes "write")) _ _ event h (λ is e. spelled_with word (codes "write") rest event is (write_found law rest event e)) (λ h.
     choose (bytes_eq word (codes "compact")) _ _ event h (λ is e. spelled_with word (codes "compact") rest event is (compact_found rest event e)) (λ h.
     choose (bytes_eq word (codes "client")) _ _ event h (λ is e. spelled_with word (codes "client") rest event is (client_found rest (cut 32 rest).0 (cut 32 rest).1 event (cut_joins 32 rest) e)) (λ h.
-    choose (bytes_eq word (codes "local")) _ _ event h (λ is e. spelled_with word (codes "local") rest event is (local_found rest (cut 32 rest).0 (cut 32 rest).1 event (cut_joins 32 rest) e)) (λ h.
+    choose (bytes_eq word (codes "local")) _ _ event h (λ is e. spelled_with word (codes "local") rest event is (local_found changes rest (cut 32 rest).0 (cut 32 rest).1 event (cut_joins 32 rest) e)) (λ h.
     named_found word rest event h)))))
 
-words_found : ReadsWhatIsWritten → (line word : List ℕ) (rest : Option (List ℕ)) (event : ScriptEvent) → Joined line word rest → by_words word rest ≡ Some event → IsEvent line event
-words_found law line word None event is h = subst (λ l. IsEvent l event) (sym is) (alone_found word event h)
-words_found law line word (Some rest) event is h = subst (λ l. IsEvent l event) (sym is) (behind_found law word rest event h)
+words_found : ReadsWhatIsWritten → ReadsLoneChanges → (line word : List ℕ) (rest : Option (List ℕ)) (event : ScriptEvent) → Joined line word rest → by_words word rest ≡ Some event → IsEvent line event
+words_found law changes line word None event is h = subst (λ l. IsEvent l event) (sym is) (alone_found word event h)
+words_found law changes line word (Some rest) event is h = subst (λ l. IsEvent l event) (sym is) (behind_found law changes word rest event h)
 
-pub event_found : ReadsWhatIsWritten → (line : List ℕ) (event : ScriptEvent) → event_of line ≡ Some event → IsEvent line event
+pub event_found : ReadsWhatIsWritten → ReadsLoneChanges → (line : List ℕ) (event : ScriptEvent) → event_of line ≡ Some event → IsEvent line event
 unfolding event_of
-event_found law line event h = words_found law line (cut 32 line).0 (cut 32 line).1 event (cut_joins 32 line) h
+event_found law changes line event h = words_found law changes line (cut 32 line).0 (cut 32 line).1 event (cut_joins 32 line) h

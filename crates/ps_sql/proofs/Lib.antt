@@ -4,7 +4,6 @@ pub mod Cuts
 pub mod Decimals
 pub mod Scopes
 pub mod ValueExamples
-pub mod ValueLaws
 pub mod Found
 pub mod FoundQueries
 pub mod GrammarLaws

@@ -7,7 +7,7 @@ use Rattle.ps_sql.specs.declared.expressions.Operator.TheVariants as operators
 use Rattle.ps_sql.specs.declared.expressions.Function.TheVariants as functions
 use Rattle.ps_sql.specs.declared.expressions.Expr.TheVariants as exprs
 use Rattle.ps_sql.specs.Meaning.{Given, two_value, call_value, column_value, value_of}
-use Rattle.ps_sql.proofs.ValueLaws.{value_of-Two, value_of-Number, value_of-Null}
+use Rattle.ps_sql.specs.ValueLaws.{value_of-Two, value_of-Number, value_of-Null}
 
 -- Unknown OR True is True, Unknown AND True is Unknown, Unknown AND False is False
 unknown_or_true : two_value operators.Or Null (Int (pos 5)) ≡ Int (pos 1)

@@ -11,4 +11,5 @@ pub mod Readings
 pub mod Spelled
 pub mod SpelledQueries
 pub mod Spellings
+pub mod ValueLaws
 pub mod Words

@@ -17,6 +17,6 @@ returns c =
       vector = c.vectors_do_not_matter.ensures;
     } in
     record {
-      placed = λ rules source are. placed_where_holds laws rules source are;
+      placed = λ rules source are. placed_where_holds laws c.names_are_distinct.ensures rules source are;
       order = λ rules source are. entries_rise source 0 rules.definitions are.numbers_rise;
     }
