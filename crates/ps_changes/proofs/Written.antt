@@ -27,7 +27,7 @@ use Rattle.ps_changes.specs.Rows.{is_id, rises_from, is_row}
 use Rattle.ps_changes.specs.Lines.{longest, line_of, lone_change_of}
 use Rattle.ps_changes.specs.Grammar.{AreColumns, no_columns, with_column, IsChange, AreChanges, no_changes, with_change, IsTransaction, IsTextOf}
 use Rattle.ps_changes.specs.Writing.{members_of, json_with, change_json, transaction_json, change_text, line_text, ReadsBack}
-use Rattle.ps_changes.proofs.Laws.{line_only, lone_change_only}
+use Rattle.ps_changes.proofs.Spelling.{line_only, lone_change_only}
 
 both : (a b : Bool) → (a && b) ≡ true → (a ≡ true) × (b ≡ true)
 both true b h = (refl, h)

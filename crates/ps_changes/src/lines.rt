@@ -31,7 +31,7 @@ impl LineReader {
     }
 
     /// Reads the next line, as `read_line` does.
-    #[tactic(auto, using(crate::proofs::Laws::found_line, crate::proofs::Laws::only_line))]
+    #[tactic(auto, using(crate::proofs::Spelling::found_line, crate::proofs::Spelling::only_line))]
     pub fn read_line(&mut self, alloc: Global, bytes: &[u8]) -> Result<Transaction, ChangeFault>
         // What is read is spelled so.
         ensures found { IfOk result (λ read. IsLine bytes.now read) }
@@ -66,7 +66,7 @@ pub fn read_line(alloc: Global, bytes: &[u8]) -> Result<Transaction, ChangeFault
 
 /// Reads the body of an upload, an object with the list `changes`: docs/FORMATS.md, "Change lines".
 /// Fails as `read_line` does, but never with `BadPosition`.
-#[tactic(auto, using(crate::proofs::Laws::found_body, crate::proofs::Laws::only_body))]
+#[tactic(auto, using(crate::proofs::Spelling::found_body, crate::proofs::Spelling::only_body))]
 pub fn read_changes(alloc: Global, bytes: &[u8]) -> Result<Items<Change>, ChangeFault>
     // What is read is spelled so.
     ensures found { IfOk result (λ read. IsBody bytes.now read) }
@@ -82,7 +82,7 @@ pub fn read_changes(alloc: Global, bytes: &[u8]) -> Result<Items<Change>, Change
 
 /// Reads one change object by itself: docs/FORMATS.md, "Change lines".
 /// Fails as `read_line` does, but never with `BadPosition`.
-#[tactic(auto, using(crate::proofs::Laws::found_change, crate::proofs::Laws::only_change))]
+#[tactic(auto, using(crate::proofs::Spelling::found_change, crate::proofs::Spelling::only_change))]
 pub fn read_change(alloc: Global, bytes: &[u8]) -> Result<Change, ChangeFault>
     // What is read is spelled so.
     ensures found { IfOk result (λ read. IsLoneChange bytes.now read) }

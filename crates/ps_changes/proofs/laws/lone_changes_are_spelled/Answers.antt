@@ -1,4 +1,4 @@
-use Rattle.ps_changes.proofs.Laws.{lone_change_found, lone_change_only}
+use Rattle.ps_changes.proofs.Spelling.{lone_change_found, lone_change_only}
 use Rattle.ps_changes.proofs.laws.lone_changes_are_spelled.Goals as goal
 
 pub returns : goal.returns

@@ -1,4 +1,4 @@
--- The laws between what is read and what is spelled, at an answer.
+-- Between what is read and what is spelled, at an answer.
 use Rattle.std.proofs.Common.{◌≡◌, ℕ, List, Result, Ok, Err, IfOk, ap, ◌∙◌, subst}
 use Rattle.ps_values.specs.Laws.{ReadsWhatIsWritten}
 use Rattle.ps_changes.specs.Types.{Change, Transaction, ChangeFault}
