@@ -8,7 +8,7 @@ use Rattle.ps_rules.specs.declared.queries.Planned.{Planned}
 use Rattle.ps_rules.specs.declared.definitions.Definition.{Definition}
 use Rattle.ps_rules.specs.Names.{has_repeated}
 use Rattle.ps_rules.specs.Checks.{names_of}
-use Rattle.ps_rules.specs.Meeting.{holds}
+use Rattle.ps_sql.specs.Meaning.{holds}
 use Rattle.ps_rules.specs.Laws.{NamesDiffer}
 use Rattle.ps_rules.specs.RuleSets.{RuleSet, AreRules, IsSound, IsSoundParameter, IsSoundQuery}
 use Rattle.ps_bucket_eval.specs.Types.{Placed}

@@ -7,7 +7,7 @@ use Rattle.ps_values.specs.declared.columns.Column.{Column}
 use Rattle.ps_values.specs.declared.values.Value.{Value}
 use Rattle.ps_values.specs.Values.{equal_sql, truth_of}
 use Rattle.ps_sql.specs.declared.expressions.Expr.{Expr}
-use Rattle.ps_sql.specs.Meaning.{Given, is_true, array_of}
+use Rattle.ps_sql.specs.Meaning.{Given, is_true, array_of, holds}
 use Rattle.ps_rules.specs.declared.matches.Match.{Match}
 use Rattle.ps_rules.specs.declared.branches.Branch.{Branch}
 use Rattle.ps_rules.specs.declared.queries.Planned.{Planned}
@@ -15,7 +15,7 @@ use Rattle.ps_rules.specs.Names.{is_in, has_repeated}
 use Rattle.ps_rules.specs.Branches.{has_parameter, mentions, branches_of}
 use Rattle.ps_rules.specs.Checks.{in_condition, is_bound}
 use Rattle.ps_rules.specs.Laws.{SameTest, HoldsWhereMet, VectorDoesNotMatter}
-use Rattle.ps_rules.specs.Meeting.{holds, is_among, allows, meets, meets_some}
+use Rattle.ps_rules.specs.Meeting.{is_among, allows, meets, meets_some}
 use Rattle.ps_rules.specs.RuleSets.{IsSoundQuery}
 use Rattle.ps_rules.specs.Vectors.{vector_at}
 use Rattle.ps_rules.specs.Buckets.{bucket_name_of}

@@ -8,13 +8,12 @@ use Rattle.std.specs.BTreeMap.{is_at}
 use Rattle.ps_values.specs.declared.columns.Column.{Column}
 use Rattle.ps_values.specs.declared.values.Value.{Value}
 use Rattle.ps_values.specs.Values.{compare_values, is_null}
-use Rattle.ps_sql.specs.Meaning.{Given}
+use Rattle.ps_sql.specs.Meaning.{Given, holds}
 use Rattle.ps_sql.specs.declared.expressions.Expr.{Expr}
 use Rattle.ps_sql.specs.declared.queries.Output.{Output}
 use Rattle.ps_rules.specs.declared.matches.Match.{Match}
 use Rattle.ps_rules.specs.declared.branches.Branch.{Branch}
 use Rattle.ps_rules.specs.Branches.{has_parameter}
-use Rattle.ps_rules.specs.Meeting.{holds}
 use Rattle.std.specs.BTreeSet.{BTreeSet}
 use Rattle.ps_bucket_eval.specs.Types.{Placed, PlaceFault, TooWide, Memory}
 use Rattle.ps_bucket_eval.specs.Entries.{RowOf, buckets_of}

@@ -1,28 +1,18 @@
 -- The vectors of a parameter query on one row more.
-use Rattle.std.proofs.Common.{◌≡◌, ℕ, ◌+◌, ◌<◌, true, false, not, cond, List, [], ◌∷◌, ◌++◌, Option, None, length, drop, get_or, filter, flat_map, refl, sym, ap, ◌∙◌, append-nil, arith}
-use Rattle.std.specs.Prelude.{◌&&◌, bytes_eq}
-use Rattle.std.specs.List.{list_any}
+use Rattle.std.proofs.Common.{◌≡◌, ℕ, ◌+◌, ◌<◌, true, cond, List, [], ◌∷◌, ◌++◌, Option, None, length, drop, get_or, filter, flat_map, refl, sym, ap, ◌∙◌, append-nil, arith}
+use Rattle.std.specs.Prelude.{bytes_eq}
 use Rattle.ps_values.specs.declared.columns.Column.{Column}
 use Rattle.ps_values.specs.declared.values.Value.{Value}
 use Rattle.ps_values.specs.declared.values.Value.TheVariants.{Null}
-use Rattle.ps_values.specs.Values.{is_null}
 use Rattle.ps_sql.specs.declared.queries.ParameterQuery.{ParameterQuery}
 use Rattle.ps_sql.specs.Meaning.{Asker}
-use Rattle.ps_rules.specs.Meeting.{holds}
-use Rattle.ps_rules.specs.Vectors.{SourceRow, asked_of, rows_read, vector_values, vector_on, query_vectors, vector_at}
+use Rattle.ps_sql.specs.Vectors.{SourceRow, vector_on, at_row}
+use Rattle.ps_rules.specs.Vectors.{rows_read, query_vectors, vector_at}
 use Rattle.ps_grant.specs.declared.live_rows.LiveRow.{LiveRow}
-use Rattle.ps_grant.specs.Sources.{entry_of, entries_of, row_of, rows_in, at_row}
+use Rattle.ps_grant.specs.Sources.{entry_of, entries_of, row_of, rows_in}
 use Rattle.ps_grant.proofs.StepLaws.{next_is}
 
 module _ (names : List (List ℕ)) (asker : Asker) (query : ParameterQuery) where
-  -- where the condition holds and no value is Null
-  pub vector_there : (row : SourceRow) (values : List Value) → holds (asked_of asker row) query.condition ≡ true → list_any is_null values ≡ false → values ≡ vector_values names asker query row
-      → vector_on names asker query row ≡ values ∷ []
-  vector_there row values held null is =
-      ap (λ (vs : List Value). cond (holds (asked_of asker row) query.condition && not (list_any is_null vs)) (vs ∷ []) []) (sym is)
-      ∙ ap (λ b. cond (b && not (list_any is_null values)) (values ∷ []) []) held
-      ∙ ap (λ b. cond (not b) (values ∷ []) []) null
-
   -- a query without FROM reads the one row that is none
   pub vector_alone : (source : List SourceRow) (id : List ℕ) (row : List Column) → query.table ≡ None → id ≡ [] → row ≡ [] → vector_on names asker query (at_row id row) ≡ query_vectors names asker source query
   vector_alone source id row table no_id no_columns =

@@ -14,7 +14,7 @@ use Rattle.ps_sql.specs.declared.expressions.Expr.TheVariants as exprs
 use Rattle.ps_sql.specs.declared.expressions.Operator.{Operator}
 use Rattle.ps_sql.specs.declared.expressions.Operator.TheVariants as operators
 use Rattle.ps_sql.specs.declared.queries.Output.{Output}
-use Rattle.ps_sql.specs.Meaning.{Given, value_of, is_true, any_equals, array_of}
+use Rattle.ps_sql.specs.Meaning.{Given, value_of, is_true, any_equals, array_of, holds}
 use Rattle.ps_sql_eval.specs.Evaluated.{values_in, values_of_items}
 use Rattle.ps_rules.specs.declared.matches.Match.{Match}
 use Rattle.ps_rules.specs.declared.branches.Branch.{Branch}
@@ -22,7 +22,7 @@ use Rattle.ps_rules.specs.declared.queries.Planned.{Planned}
 use Rattle.ps_rules.specs.Branches.{has_parameter, match_of_side, match_of_sides, match_of_layer, match_of, branch_with, leaf_branch, joined, crossed, branches_in, branches_of}
 use Rattle.ps_rules.specs.Checks.{is_bound}
 use Rattle.ps_rules.specs.Laws.{is_leaf_layer, is_leaf, EitherSide, BothSides, LeafAlone, SameTest, VectorDoesNotMatter}
-use Rattle.ps_rules.specs.Meeting.{holds, is_among, allows, meets, meets_some}
+use Rattle.ps_rules.specs.Meeting.{is_among, allows, meets, meets_some}
 use Rattle.ps_rules.specs.RuleSets.{IsSoundQuery}
 use Rattle.ps_rules.specs.Vectors.{vector_at}
 use Rattle.ps_grant.specs.Solving.{allowed_by, is_equal_to, allows_vector, all_allow, IsUnbound}

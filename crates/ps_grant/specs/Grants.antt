@@ -4,11 +4,11 @@ use Rattle.std.specs.List.{list_any}
 use Rattle.ps_values.specs.declared.values.Value.{Value}
 use Rattle.ps_changes.specs.Source.{Key, Version, Source}
 use Rattle.ps_sql.specs.declared.queries.DataQuery.{DataQuery}
-use Rattle.ps_sql.specs.Meaning.{Asker, Given}
+use Rattle.ps_sql.specs.Meaning.{Asker, Given, holds}
 use Rattle.ps_rules.specs.declared.definitions.Definition.{Definition}
 use Rattle.ps_rules.specs.declared.queries.Planned.{Planned}
-use Rattle.ps_rules.specs.Meeting.{holds}
-use Rattle.ps_rules.specs.Vectors.{SourceRow, asked_of, parameter_vectors, vector_at}
+use Rattle.ps_sql.specs.Vectors.{SourceRow, asked_of}
+use Rattle.ps_rules.specs.Vectors.{parameter_vectors, vector_at}
 use Rattle.ps_grant.specs.declared.copies.Granted.{Granted}
 use Rattle.ps_grant.specs.Objects.{object_id, object_data}
 use Rattle.ps_grant.specs.Sources.{row_of, rows_in}

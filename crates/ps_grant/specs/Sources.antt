@@ -2,7 +2,7 @@
 use Rattle.std.specs.Prelude.{ℕ, List, [], map}
 use Rattle.ps_values.specs.declared.columns.Column.{Column}
 use Rattle.ps_changes.specs.Source.{Key, Version, Source}
-use Rattle.ps_rules.specs.Vectors.{SourceRow}
+use Rattle.ps_sql.specs.Vectors.{SourceRow}
 use Rattle.ps_grant.specs.declared.live_rows.LiveRow.{LiveRow}
 
 -- a live row as an entry of the source: its table and id, and how its last change left it
@@ -18,7 +18,3 @@ row_of entry = record { table = entry.0.0; id = entry.0.1; row = entry.1.columns
 
 abbrev pub rows_in : Source → List SourceRow
 rows_in source = map row_of source
-
--- a row of no table
-abbrev pub at_row : List ℕ → List Column → SourceRow
-at_row id row = record { table = []; id = id; row = row }

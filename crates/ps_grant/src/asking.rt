@@ -1,101 +1,20 @@
 //! The parameter vectors of a definition, from its parameter queries.
 
-ghost use Rattle.std.specs.Prelude.{◌≡◌, Some, IfOk, OnOk, map, filter, flat_map, bytes_eq};
-ghost use Rattle.std.specs.List.{list_any};
-ghost use Rattle.ps_values.specs.Values.{is_null};
-ghost use Rattle.ps_rules.specs.Meeting.{holds as holds_for};
-ghost use Rattle.ps_rules.specs.Vectors.{SourceRow, output_value as value_of_output, vector_on, query_vectors, parameter_vectors};
-ghost use Rattle.ps_sql_eval.specs.Evaluated.{asker_of, without_bucket};
+ghost use Rattle.std.specs.Prelude.{IfOk, OnOk, filter, flat_map, bytes_eq};
+ghost use Rattle.ps_sql.specs.Vectors.{SourceRow, vector_on as vectors_on, at_row};
+ghost use Rattle.ps_rules.specs.Vectors.{query_vectors, parameter_vectors};
+ghost use Rattle.ps_sql_eval.specs.Evaluated.{asker_of};
 ghost use Rattle.ps_grant.specs.Solving.{HaveSame, Gains};
-ghost use Rattle.ps_grant.specs.Sources.{entries_of, rows_in, at_row};
+ghost use Rattle.ps_grant.specs.Sources.{entries_of, rows_in};
 
 use crate::LiveRow;
 use crate::vectors::VectorSet;
 use ps_changes::Row;
 use ps_rules::Definition;
-use ps_sql::{Expr, Output, ParameterQuery};
-use ps_sql_eval::{Asker, eval_without_bucket};
-use ps_values::{Items, Memory, Text, Truth, Value, truth_of};
+use ps_sql::ParameterQuery;
+use ps_sql_eval::{Asker, vector_on};
+use ps_values::{Items, Memory, Text};
 use std::alloc::Global;
-
-/// Whether a condition that is there holds on a row, with no parameter in it.
-pub(crate) fn holds(
-    alloc: Global,
-    condition: &Expr,
-    asker: &Asker,
-    id: &Text,
-    row: &Row,
-) -> Result<bool, Memory>
-    ensures { IfOk result (λ held. held ≡ holds_for (without_bucket asker.now id.now row.now) (Some condition.now)) }
-{
-    let value = eval_without_bucket(alloc, condition, asker, id, row)?;
-    Ok(truth_of(&value) == Truth::True)
-}
-
-// The value of the output of a name.
-fn output_value(
-    alloc: Global,
-    outputs: &[Output],
-    name: &Text,
-    asker: &Asker,
-    id: &Text,
-    row: &Row,
-) -> Result<Value, Memory>
-    ensures { IfOk result (λ value. value ≡ value_of_output (without_bucket asker.now id.now row.now) outputs.now name.now) }
-{
-    'outputs: for output in outputs {
-        if output.name.equals(name) {
-            return eval_without_bucket(alloc, &output.expr, asker, id, row);
-        }
-    }
-    Ok(Value::Null)
-}
-
-// The values of the outputs, in the order of the names.
-fn output_values(
-    alloc: Global,
-    names: &[Text],
-    outputs: &[Output],
-    asker: &Asker,
-    id: &Text,
-    row: &Row,
-) -> Result<Vec<Value>, Memory>
-    ensures { IfOk result (λ values. values.items ≡ map (value_of_output (without_bucket asker.now id.now row.now) outputs.now) names.now) }
-{
-    let mut values = Vec::new(alloc);
-    'names: for name in names {
-        values.push(output_value(alloc, outputs, name, asker, id, row)?)?;
-    }
-    Ok(values)
-}
-
-// Whether some value is Null.
-fn has_null(values: &[Value]) -> bool
-    ensures { result ≡ list_any is_null values.now }
-{
-    'values: for value in values {
-        if value.is_null() {
-            return true;
-        }
-    }
-    false
-}
-
-// Whether the condition of a parameter query holds on a row.
-fn lets_through(
-    alloc: Global,
-    query: &ParameterQuery,
-    asker: &Asker,
-    id: &Text,
-    row: &Row,
-) -> Result<bool, Memory>
-    ensures { IfOk result (λ held. held ≡ holds_for (without_bucket asker.now id.now row.now) query.now.condition) }
-{
-    match &query.condition {
-        Some(condition) => holds(alloc, condition, asker, id, row),
-        None => Ok(true),
-    }
-}
 
 // Puts the vector of a parameter query on a row among others, if it has one.
 fn add_on(
@@ -107,16 +26,12 @@ fn add_on(
     id: &Text,
     row: &Row,
 ) -> Result<(), Memory>
-    ensures { OnOk result (Gains vectors.old vectors.new (vector_on names.now (asker_of asker.now) query.now (at_row id.now row.now))) }
+    ensures { OnOk result (Gains vectors.old vectors.new (vectors_on names.now (asker_of asker.now) query.now (at_row id.now row.now))) }
 {
-    if !lets_through(alloc, query, asker, id, row)? {
-        return Ok(());
+    match vector_on(alloc, names, query, asker, id, row)? {
+        Some(values) => vectors.insert(values.into_vec()),
+        None => Ok(()),
     }
-    let values = output_values(alloc, names, query.outputs.as_slice(), asker, id, row)?;
-    if has_null(values.as_slice()) {
-        return Ok(());
-    }
-    vectors.insert(values)
 }
 
 // Puts the vectors of a parameter query on the rows of its table among others.
@@ -130,7 +45,7 @@ fn add_from(
     rows: &[LiveRow],
 ) -> Result<(), Memory>
     ensures { OnOk result (Gains vectors.old vectors.new
-        (flat_map (vector_on names.now (asker_of asker.now) query.now) (filter (λ (r : SourceRow). bytes_eq r.table table.now) (rows_in (entries_of rows.now))))) }
+        (flat_map (vectors_on names.now (asker_of asker.now) query.now) (filter (λ (r : SourceRow). bytes_eq r.table table.now) (rows_in (entries_of rows.now))))) }
 {
     'rows: for live in rows {
         if !live.table.equals(table) {

@@ -1,36 +1,24 @@
 -- The rows that notes are of, as they stood.
-use Rattle.std.proofs.Common.{◌≡◌, ℕ, Bool, true, false, cond, List, [], ◌∷◌, ◌++◌, Option, Some, None, map, drop, length, get_or, ◌<◌, ◌+◌, refl, sym, ap, ◌∙◌, subst, append-nil, append_assoc, inl, inr}
-use Rattle.std.specs.Prelude.{◌⊎◌, ◌&&◌, not, nat_le, if◌then◌else◌, option_map, filter, flat_map, bytes_eq}
-use Rattle.std.specs.List.{list_any, filter_map, cons_option}
+use Rattle.std.proofs.Common.{◌≡◌, ℕ, Bool, true, false, cond, List, [], ◌∷◌, ◌++◌, Option, Some, None, drop, length, get_or, ◌<◌, ◌+◌, refl, sym, ap, ◌∙◌, subst, append-nil, append_assoc, inl, inr}
+use Rattle.std.specs.Prelude.{◌⊎◌, ◌&&◌, nat_le, if◌then◌else◌, option_map, filter, flat_map, bytes_eq}
+use Rattle.std.specs.List.{filter_map, cons_option}
 use Rattle.std.proofs.lemmas.Bool.{and_parts}
 use Rattle.std.proofs.lemmas.List.{drop_more}
 use Rattle.std.proofs.lemmas.Slice.Eq.{bytes_eq-Decides}
 use Rattle.ps_values.specs.declared.columns.Column.{Column}
-use Rattle.ps_values.specs.declared.values.Value.{Value}
-use Rattle.ps_values.specs.Values.{is_null}
 use Rattle.ps_sql.specs.Meaning.{Asker}
 use Rattle.ps_sql.specs.declared.queries.ParameterQuery.{ParameterQuery}
 use Rattle.ps_rules.specs.declared.definitions.Definition.{Definition}
-use Rattle.ps_rules.specs.Meeting.{holds}
-use Rattle.ps_rules.specs.Vectors.{SourceRow, asked_of, rows_read, vector_values}
-use Rattle.ps_rules.specs.Buckets.{bucket_name_of}
+use Rattle.ps_sql.specs.Vectors.{SourceRow, at_row}
+use Rattle.ps_rules.specs.Vectors.{rows_read}
 use Rattle.ps_params.specs.Notes.{Note, counts_for, row_after, row_at}
-use Rattle.ps_params.specs.Kept.{row_under, standing, rows_of, at_row, names_on, names_over, query_names}
+use Rattle.ps_params.specs.Kept.{row_under, standing, rows_of, names_on, names_over, query_names}
 use Rattle.ps_params.proofs.Members.{Has}
 
 pub next_is : {A : Type 0} (xs : List A) (i : ℕ) (x : A) → i < length xs → x ≡ get_or xs i x → drop i xs ≡ x ∷ drop (i + 1) xs
 next_is xs i x within is = drop_more xs i x within ∙ ap (λ y. y ∷ drop (i + 1) xs) (sym is)
 
 module _ (definition : Definition) (asker : Asker) (query : ParameterQuery) where
-  -- where the condition holds and no value is Null
-  pub name_there : (row : SourceRow) (values : List Value) → holds (asked_of asker row) query.condition ≡ true → list_any is_null values ≡ false → values ≡ vector_values definition.names asker query row
-      → names_on definition asker query row ≡ bucket_name_of definition.name values ∷ []
-  name_there row values held null is =
-      ap (map (bucket_name_of definition.name))
-      (ap (λ (vs : List Value). cond (holds (asked_of asker row) query.condition && not (list_any is_null vs)) (vs ∷ []) []) (sym is)
-      ∙ ap (λ b. cond (b && not (list_any is_null values)) (values ∷ []) []) held
-      ∙ ap (λ b. cond (not b) (values ∷ []) []) null)
-
   -- a query without FROM reads the one row that is none
   pub name_alone : (source : List SourceRow) (id : List ℕ) (row : List Column) → query.table ≡ None → id ≡ [] → row ≡ [] → names_on definition asker query (at_row id row) ≡ query_names definition asker source query
   name_alone source id row table no_id no_columns =

@@ -7,7 +7,8 @@ use Rattle.ps_sql.specs.Meaning.{Asker}
 use Rattle.ps_sql.specs.declared.queries.ParameterQuery.{ParameterQuery}
 use Rattle.ps_rules.specs.declared.definitions.Definition.{Definition}
 use Rattle.ps_rules.specs.declared.queries.Planned.{Planned}
-use Rattle.ps_rules.specs.Vectors.{SourceRow, rows_read, vector_on, query_vectors}
+use Rattle.ps_sql.specs.Vectors.{SourceRow, vector_on}
+use Rattle.ps_rules.specs.Vectors.{rows_read, query_vectors}
 use Rattle.ps_rules.specs.Buckets.{bucket_name_of}
 use Rattle.ps_params.specs.Notes.{Note}
 use Rattle.ps_params.specs.Indexes.{is_table, has_reader, is_read, StandsAt}

@@ -6,11 +6,10 @@ use Rattle.ps_values.specs.declared.values.Value.{Value}
 use Rattle.ps_values.specs.Values.{truth_of, is_null}
 use Rattle.ps_sql.specs.declared.expressions.Expr.{Expr}
 use Rattle.ps_sql.specs.declared.subjects.Subject.TheVariants as subjects
-use Rattle.ps_sql.specs.Meaning.{Asker, Given, value_of, is_true, array_of, column_value}
+use Rattle.ps_sql.specs.Meaning.{Asker, Given, value_of, is_true, array_of, column_value, holds}
 use Rattle.ps_sql.specs.Subjects.{speaks}
 use Rattle.ps_sql_eval.specs.Evaluated.{values_in}
-use Rattle.ps_rules.specs.Meeting.{holds}
-use Rattle.ps_rules.specs.Vectors.{asked_of}
+use Rattle.ps_sql.specs.Vectors.{asked_of}
 use Rattle.ps_params.specs.declared.paths.Path.{Path}
 use Rattle.ps_params.specs.Notes.{Note}
 use Rattle.ps_params.specs.Kept.{row_under}

@@ -4,7 +4,8 @@ use Rattle.ps_values.specs.declared.columns.Column.{Column}
 use Rattle.ps_sql.specs.Meaning.{Asker}
 use Rattle.ps_sql.specs.declared.queries.ParameterQuery.{ParameterQuery}
 use Rattle.ps_rules.specs.declared.definitions.Definition.{Definition}
-use Rattle.ps_rules.specs.Vectors.{SourceRow, vector_on, rows_read}
+use Rattle.ps_sql.specs.Vectors.{SourceRow, vector_on}
+use Rattle.ps_rules.specs.Vectors.{rows_read}
 use Rattle.ps_rules.specs.Buckets.{bucket_name_of}
 use Rattle.ps_params.specs.declared.noted.Noted.{Noted}
 use Rattle.ps_params.specs.declared.paths.Path.{Path}
@@ -31,10 +32,6 @@ standing all upto note = option_map (row_under note) (row_at all note.table note
 -- the rows that some notes are of, as they stood
 abbrev pub rows_of : List Note → ℕ → List Note → List SourceRow
 rows_of all upto notes = filter_map (standing all upto) notes
-
--- a row of no table
-abbrev pub at_row : List ℕ → List Column → SourceRow
-at_row id row = record { table = []; id = id; row = row }
 
 -- the buckets of a query on a row
 abbrev pub names_on : Definition → Asker → ParameterQuery → SourceRow → List (List ℕ)

@@ -4,7 +4,7 @@ use Rattle.ps_changes.specs.declared.changes.Change.{Change}
 use Rattle.ps_changes.specs.declared.changes.Transaction.{Transaction}
 use Rattle.ps_changes.specs.Source.{Key, Version, Source, source_at}
 use Rattle.ps_rules.specs.declared.definitions.Definition.{Definition}
-use Rattle.ps_rules.specs.Vectors.{SourceRow}
+use Rattle.ps_sql.specs.Vectors.{SourceRow}
 use Rattle.ps_params.specs.Notes.{Note}
 use Rattle.ps_params.specs.Indexes.{is_read, StandsAt}
 

@@ -4,7 +4,8 @@ use Rattle.std.specs.List.{AllByRecursion}
 use Rattle.ps_values.specs.declared.values.Value.{Value}
 use Rattle.ps_sql.specs.Meaning.{Asker}
 use Rattle.ps_rules.specs.declared.definitions.Definition.{Definition}
-use Rattle.ps_rules.specs.Vectors.{SourceRow, parameter_vectors}
+use Rattle.ps_sql.specs.Vectors.{SourceRow}
+use Rattle.ps_rules.specs.Vectors.{parameter_vectors}
 use Rattle.ps_rules.specs.Buckets.{bucket_name_of, in_order}
 use Rattle.ps_rules.specs.Laws.{IsSqlValue}
 use Rattle.ps_rules.specs.Names.{is_definition_name}

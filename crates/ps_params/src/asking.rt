@@ -1,15 +1,13 @@
 //! The buckets that parameter queries name for an asker.
 
-ghost use Rattle.std.specs.Prelude.{◌≡◌, true, [], ◌∷◌, ◌++◌, drop, Some, IfOk, OnOk, map, flat_map};
-ghost use Rattle.std.specs.List.{list_any, AllByRecursion};
-ghost use Rattle.ps_values.specs.Values.{is_null};
+ghost use Rattle.std.specs.Prelude.{◌≡◌, true, [], ◌∷◌, ◌++◌, drop, IfOk, OnOk, map, flat_map};
+ghost use Rattle.std.specs.List.{AllByRecursion};
 ghost use Rattle.ps_rules.specs.Buckets.{bucket_name_of};
-ghost use Rattle.ps_rules.specs.Meeting.{holds as holds_for};
 ghost use Rattle.ps_rules.specs.Names.{is_definition_name};
 ghost use Rattle.ps_rules.specs.RuleSets.{IsSound};
-ghost use Rattle.ps_rules.specs.Vectors.{output_value as value_of_output};
-ghost use Rattle.ps_sql_eval.specs.Evaluated.{asker_of, without_bucket};
-ghost use Rattle.ps_params.specs.Kept.{note_of, rows_of, at_row, names_on, query_names, names_in as names_of_definition};
+ghost use Rattle.ps_sql.specs.Vectors.{at_row};
+ghost use Rattle.ps_sql_eval.specs.Evaluated.{asker_of};
+ghost use Rattle.ps_params.specs.Kept.{note_of, rows_of, names_on, query_names, names_in as names_of_definition};
 ghost use Rattle.ps_params.specs.Names.{IsTold};
 ghost use Rattle.ps_params.specs.Places.{notes_at};
 ghost use Rattle.ps_params.specs.Searches.{names_found};
@@ -22,89 +20,10 @@ use crate::noted::Noted;
 use crate::spots::spots;
 use ps_changes::Row;
 use ps_rules::{Definition, bucket_name, have_64_bits, names_are_distinct};
-use ps_sql::{Expr, Output, ParameterQuery};
-use ps_sql_eval::{Asker, eval_without_bucket};
-use ps_values::{Items, Memory, Position, Text, Truth, Value, truth_of};
+use ps_sql::ParameterQuery;
+use ps_sql_eval::{Asker, vector_on};
+use ps_values::{Items, Memory, Position, Text, Value};
 use std::alloc::Global;
-
-// Whether a condition that is there holds on a row, with no parameter in it.
-fn holds(
-    alloc: Global,
-    condition: &Expr,
-    asker: &Asker,
-    id: &Text,
-    row: &Row,
-) -> Result<bool, Memory>
-    ensures { IfOk result (λ held. held ≡ holds_for (without_bucket asker.now id.now row.now) (Some condition.now)) }
-{
-    let value = eval_without_bucket(alloc, condition, asker, id, row)?;
-    Ok(truth_of(&value) == Truth::True)
-}
-
-// The value of the output of a name.
-fn output_value(
-    alloc: Global,
-    outputs: &[Output],
-    name: &Text,
-    asker: &Asker,
-    id: &Text,
-    row: &Row,
-) -> Result<Value, Memory>
-    ensures { IfOk result (λ value. value ≡ value_of_output (without_bucket asker.now id.now row.now) outputs.now name.now) }
-{
-    'outputs: for output in outputs {
-        if output.name.equals(name) {
-            return eval_without_bucket(alloc, &output.expr, asker, id, row);
-        }
-    }
-    Ok(Value::Null)
-}
-
-// The values of the outputs, in the order of the names.
-fn output_values(
-    alloc: Global,
-    names: &[Text],
-    outputs: &[Output],
-    asker: &Asker,
-    id: &Text,
-    row: &Row,
-) -> Result<Vec<Value>, Memory>
-    ensures { IfOk result (λ values. values.items ≡ map (value_of_output (without_bucket asker.now id.now row.now) outputs.now) names.now) }
-{
-    let mut values = Vec::new(alloc);
-    'names: for name in names {
-        values.push(output_value(alloc, outputs, name, asker, id, row)?)?;
-    }
-    Ok(values)
-}
-
-// Whether some value is Null.
-fn has_null(values: &[Value]) -> bool
-    ensures { result ≡ list_any is_null values.now }
-{
-    'values: for value in values {
-        if value.is_null() {
-            return true;
-        }
-    }
-    false
-}
-
-// Whether the condition of a parameter query holds on a row.
-fn lets_through(
-    alloc: Global,
-    query: &ParameterQuery,
-    asker: &Asker,
-    id: &Text,
-    row: &Row,
-) -> Result<bool, Memory>
-    ensures { IfOk result (λ held. held ≡ holds_for (without_bucket asker.now id.now row.now) query.now.condition) }
-{
-    match &query.condition {
-        Some(condition) => holds(alloc, condition, asker, id, row),
-        None => Ok(true),
-    }
-}
 
 // The name of a definition's bucket, which tells that the vector is of integers of signed 64 bits.
 fn bucket_of(alloc: Global, definition: &Text, values: &[Value]) -> Result<Text, Memory>
@@ -130,21 +49,10 @@ fn add_on(
     requires { is_definition_name definition.now.name ≡ true }
     ensures { OnOk result (Gains names.old names.new (names_on definition.now (asker_of asker.now) query.now (at_row id.now row.now))) }
 {
-    if !lets_through(alloc, query, asker, id, row)? {
-        return Ok(());
+    match vector_on(alloc, definition.names.as_slice(), query, asker, id, row)? {
+        Some(values) => names.insert(bucket_of(alloc, &definition.name, values.as_slice())?),
+        None => Ok(()),
     }
-    let values = output_values(
-        alloc,
-        definition.names.as_slice(),
-        query.outputs.as_slice(),
-        asker,
-        id,
-        row,
-    )?;
-    if has_null(values.as_slice()) {
-        return Ok(());
-    }
-    names.insert(bucket_of(alloc, &definition.name, values.as_slice())?)
 }
 
 // A parameter query of a definition, asked for an asker over the rows of its table as they stood at a position.

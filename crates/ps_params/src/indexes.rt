@@ -1,6 +1,6 @@
 ghost use Rattle.std.specs.Prelude.{◌≡◌, ℕ, ◌≤◌, ◌+◌, max, List, [], ◌∷◌, ◌++◌, option_map, if◌then◌else◌, IfOk, OnOk};
 ghost use Rattle.std.specs.List.{list_any};
-ghost use Rattle.ps_rules.specs.Vectors.{SourceRow};
+ghost use Rattle.ps_sql.specs.Vectors.{SourceRow};
 ghost use Rattle.ps_sql_eval.specs.Evaluated.{asker_of};
 ghost use Rattle.ps_params.specs.Notes.{Note, SameFrom};
 ghost use Rattle.ps_params.specs.Indexes.{has_reader as definition_reads, is_read, is_table, StandsAt};

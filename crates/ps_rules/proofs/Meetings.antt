@@ -16,11 +16,11 @@ use Rattle.ps_sql.specs.declared.expressions.Expr.TheOpen as layers
 use Rattle.ps_sql.specs.declared.expressions.Expr.TheVariants as exprs
 use Rattle.ps_sql.specs.declared.expressions.Operator.{Operator}
 use Rattle.ps_sql.specs.declared.expressions.Operator.TheVariants as operators
-use Rattle.ps_sql.specs.Meaning.{Given, value_of, layer_value, two_value, truth_value, least, greatest, is_true, bool_value, any_equals, array_of, within_items}
+use Rattle.ps_sql.specs.Meaning.{Given, value_of, layer_value, two_value, truth_value, least, greatest, is_true, bool_value, any_equals, array_of, within_items, holds}
 use Rattle.ps_rules.specs.declared.matches.Match.{Match}
 use Rattle.ps_rules.specs.declared.branches.Branch.{Branch}
 use Rattle.ps_rules.specs.Branches.{match_of_side, match_of_sides, match_of_layer, match_of, branch_with, leaf_branch, joined, crossed, branches_in, has_parameter}
-use Rattle.ps_rules.specs.Meeting.{holds, is_among, allows, meets, meets_some}
+use Rattle.ps_rules.specs.Meeting.{is_among, allows, meets, meets_some}
 use Rattle.ps_rules.specs.Laws.{is_leaf_layer, is_leaf, HoldsWhereMet, SameTest, NullIsNotAllowed}
 use Rattle.ps_rules.proofs.Spreads.{branches-Or, branches-And, branches-leaf}
 

@@ -9,12 +9,12 @@ use Rattle.ps_sql.specs.declared.expressions.Expr.TheOpen as layers
 use Rattle.ps_sql.specs.declared.expressions.Expr.TheVariants as exprs
 use Rattle.ps_sql.specs.declared.expressions.Operator.{Operator}
 use Rattle.ps_sql.specs.declared.expressions.Operator.TheVariants as operators
-use Rattle.ps_sql.specs.Meaning.{Given, Holds, value_of}
+use Rattle.ps_sql.specs.Meaning.{Given, Holds, value_of, holds}
 use Rattle.ps_rules.specs.declared.matches.Match.{Match}
 use Rattle.ps_rules.specs.Names.{is_definition_name}
 use Rattle.ps_rules.specs.Buckets.{bucket_name_of}
 use Rattle.ps_rules.specs.Branches.{branches_in, branches_of, crossed, leaf_branch, has_parameter}
-use Rattle.ps_rules.specs.Meeting.{holds, allows, meets_some}
+use Rattle.ps_rules.specs.Meeting.{allows, meets_some}
 
 abbrev pub is_either : Operator → Bool
 is_either operators.Or = true

@@ -1,18 +1,13 @@
 -- When a vector of parameter values meets a branch.
-use Rattle.std.specs.Prelude.{Bool, true, false, ◌&&◌, if◌then◌else◌, List, Option, Some, None}
+use Rattle.std.specs.Prelude.{Bool, false, ◌&&◌, if◌then◌else◌, List, Option, Some, None}
 use Rattle.std.specs.List.{list_any, list_all}
 use Rattle.serde_json.specs.Data.{Items}
 use Rattle.ps_values.specs.declared.values.Value.{Value}
-use Rattle.ps_values.specs.Values.{equal_sql, truth_of}
+use Rattle.ps_values.specs.Values.{equal_sql}
 use Rattle.ps_sql.specs.declared.expressions.Expr.{Expr}
-use Rattle.ps_sql.specs.Meaning.{Given, value_of, is_true, any_equals, array_of}
+use Rattle.ps_sql.specs.Meaning.{Given, value_of, is_true, any_equals, array_of, holds}
 use Rattle.ps_rules.specs.declared.matches.Match.{Match}
 use Rattle.ps_rules.specs.declared.branches.Branch.{Branch}
-
--- a condition's truth is True, or there is none
-abbrev pub holds : Given → Option Expr → Bool
-holds given None = true
-holds given (Some condition) = is_true (truth_of (value_of given condition))
 
 -- a value is among the elements of an array
 abbrev pub is_among : Value → Option Items → Bool

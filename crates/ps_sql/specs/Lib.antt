@@ -12,4 +12,5 @@ pub mod Spelled
 pub mod SpelledQueries
 pub mod Spellings
 pub mod ValueLaws
+pub mod Vectors
 pub mod Words

@@ -204,3 +204,8 @@ value_of given expr = fold-Expr Value (layer_value given) expr
 abbrev pub Holds : Given → Option Expr → Type 0
 Holds given None = Unit {0}
 Holds given (Some condition) = truth_of (value_of given condition) ≡ True
+
+-- the same as a test
+abbrev pub holds : Given → Option Expr → Bool
+holds given None = true
+holds given (Some condition) = is_true (truth_of (value_of given condition))

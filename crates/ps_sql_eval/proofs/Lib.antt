@@ -1,5 +1,6 @@
 mod Calls
 mod ArrayItems
 mod Floats
+mod OnRows
 mod Parts
 mod Searches

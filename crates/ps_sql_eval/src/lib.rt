@@ -8,7 +8,9 @@ mod evaluations;
 mod members;
 mod texts;
 mod truths;
+mod vectors;
 
 pub use arrays::elements;
 pub use askers::Asker;
 pub use evaluations::{eval_request, eval_row, eval_without_bucket};
+pub use vectors::{holds, vector_on};

@@ -23,16 +23,16 @@ use Rattle.ps_sql.specs.declared.queries.Output.{Output}
 use Rattle.ps_sql.specs.declared.queries.DataQuery.{DataQuery}
 use Rattle.ps_sql.specs.declared.queries.ParameterQuery.{ParameterQuery}
 use Rattle.ps_sql.specs.declared.subjects.Subject.TheVariants as subjects
-use Rattle.ps_sql.specs.Meaning.{Asker, Given, value_of, text_of, is_true, Holds}
+use Rattle.ps_sql.specs.Meaning.{Asker, Given, value_of, text_of, is_true, Holds, holds}
 use Rattle.ps_sql.specs.Subjects.{speaks, IsSameForEveryAsker}
 use Rattle.ps_sql.specs.Asking.{condition_speaks}
 use Rattle.ps_rules.specs.declared.definitions.Definition.{Definition}
 use Rattle.ps_rules.specs.declared.queries.Planned.{Planned}
 use Rattle.ps_rules.specs.Names.{is_in, has_repeated}
 use Rattle.ps_rules.specs.Checks.{names_of}
-use Rattle.ps_rules.specs.Meeting.{holds}
 use Rattle.ps_rules.specs.RuleSets.{RuleSet, AreRules, IsSound, IsSoundQuery}
-use Rattle.ps_rules.specs.Vectors.{SourceRow, asked_of, rows_read, vector_values, vector_on, query_vectors, parameter_vectors}
+use Rattle.ps_sql.specs.Vectors.{SourceRow, asked_of, vector_values, vector_on}
+use Rattle.ps_rules.specs.Vectors.{rows_read, query_vectors, parameter_vectors}
 use Rattle.ps_grant.specs.declared.copies.Granted.{Granted}
 use Rattle.ps_grant.specs.Objects.{written_id, own_id, object_id, star_columns, output_column, object_data}
 use Rattle.ps_grant.specs.Sources.{row_of as read_row, rows_in}

@@ -21,7 +21,8 @@ use Rattle.ps_write_cp.specs.Numbers.{Made, is_of, covered}
 use Rattle.ps_sql.specs.Meaning.{Asker}
 use Rattle.ps_rules.specs.declared.definitions.Definition.{Definition}
 use Rattle.ps_rules.specs.RuleSets.{RuleSet, AreRules, IsSound as IsSoundDefinition}
-use Rattle.ps_rules.specs.Vectors.{SourceRow, parameter_vectors}
+use Rattle.ps_sql.specs.Vectors.{SourceRow}
+use Rattle.ps_rules.specs.Vectors.{parameter_vectors}
 use Rattle.ps_grant.specs.Sources.{rows_in}
 use Rattle.ps_rules.specs.Buckets.{bucket_name_of}
 use Rattle.ps_params.specs.Names.{definition_names, bucket_names, IsTold, AreTold}

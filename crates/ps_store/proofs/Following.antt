@@ -8,7 +8,7 @@ use Rattle.ps_client_log.specs.Kept.{Kept, bucket_at}
 use Rattle.ps_client_log.specs.Rows.{IsLatestContent, row_at}
 use Rattle.ps_sql.specs.Meaning.{Asker}
 use Rattle.ps_rules.specs.declared.definitions.Definition.{Definition}
-use Rattle.ps_rules.specs.Vectors.{SourceRow}
+use Rattle.ps_sql.specs.Vectors.{SourceRow}
 use Rattle.ps_store.specs.Originals.{timed, ops_from}
 use Rattle.ps_store.specs.Standing.{Holding}
 use Rattle.ps_store.specs.Steps.{Step, lane_ops, source_after, StepsRise}

@@ -15,7 +15,7 @@ use Rattle.ps_changes.specs.Source.{source_at}
 use Rattle.ps_sql.specs.Meaning.{Asker}
 use Rattle.ps_rules.specs.declared.definitions.Definition.{Definition}
 use Rattle.ps_rules.specs.RuleSets.{RuleSet}
-use Rattle.ps_rules.specs.Vectors.{SourceRow}
+use Rattle.ps_sql.specs.Vectors.{SourceRow}
 use Rattle.ps_grant.specs.Sources.{rows_in}
 use Rattle.ps_params.specs.Indexes.{is_read, StandsAt}
 use Rattle.ps_params.specs.Laws.{note_of_change, notes_of_transaction, notes_of, notes_read, NotesReadAreTheSource}

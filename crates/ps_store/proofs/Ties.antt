@@ -8,7 +8,8 @@ use Rattle.ps_sql.specs.Meaning.{Asker}
 use Rattle.ps_rules.specs.declared.definitions.Definition.{Definition}
 use Rattle.ps_rules.specs.declared.queries.Planned.{Planned}
 use Rattle.ps_rules.specs.RuleSets.{RuleSet, AreRules}
-use Rattle.ps_rules.specs.Vectors.{asked_of, parameter_vectors}
+use Rattle.ps_sql.specs.Vectors.{asked_of}
+use Rattle.ps_rules.specs.Vectors.{parameter_vectors}
 use Rattle.ps_grant.specs.declared.copies.Granted.{Granted}
 use Rattle.ps_grant.specs.Grants.{is_granted, copy_with, copy_of, grant_of, granted_by_query, granted_by, granted}
 use Rattle.ps_grant.specs.Latest.{object_of, TiesAgree}

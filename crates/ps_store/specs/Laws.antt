@@ -13,7 +13,8 @@ use Rattle.ps_sql.specs.Meaning.{Asker}
 use Rattle.ps_rules.specs.RuleSets.{RuleSet, AreRules}
 use Rattle.ps_rules.specs.declared.definitions.Definition.{Definition}
 use Rattle.ps_rules.specs.declared.queries.Planned.{Planned}
-use Rattle.ps_rules.specs.Vectors.{SourceRow, parameter_vectors}
+use Rattle.ps_sql.specs.Vectors.{SourceRow}
+use Rattle.ps_rules.specs.Vectors.{parameter_vectors}
 use Rattle.ps_grant.specs.Latest.{due}
 use Rattle.ps_grant.specs.Sources.{rows_in}
 use Rattle.ps_rules.specs.Buckets.{bucket_name_of}

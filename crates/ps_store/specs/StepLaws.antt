@@ -7,7 +7,7 @@ use Rattle.ps_changes.specs.Source.{source_at}
 use Rattle.ps_sql.specs.Meaning.{Asker}
 use Rattle.ps_rules.specs.RuleSets.{RuleSet, AreRules}
 use Rattle.ps_rules.specs.declared.definitions.Definition.{Definition}
-use Rattle.ps_rules.specs.Vectors.{SourceRow}
+use Rattle.ps_sql.specs.Vectors.{SourceRow}
 use Rattle.ps_grant.specs.Grants.{granted}
 use Rattle.ps_grant.specs.Latest.{rows_of}
 use Rattle.ps_grant.specs.Sources.{rows_in}

@@ -8,7 +8,7 @@ use Rattle.ps_rules.specs.declared.branches.Branch.{Branch}
 use Rattle.ps_rules.specs.Meeting.{meets_some}
 use Rattle.ps_grant.specs.Grants.{given_for}
 use Rattle.ps_grant.specs.Solving.{IsUnbound}
-use Rattle.ps_grant.specs.Sources.{at_row}
+use Rattle.ps_sql.specs.Vectors.{at_row}
 use Rattle.ps_grant.proofs.BranchLaws.{some_branch, none_of}
 use Rattle.ps_grant.proofs.StepLaws.{next_is, holds_later, nothing_left}
 use Rattle.ps_grant.proofs.branching.some_branch_is_met.Goals as goal

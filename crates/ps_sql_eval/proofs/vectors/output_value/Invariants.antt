@@ -1,7 +1,7 @@
 use Rattle.std.proofs.Common.{◌≡◌, drop}
 use Rattle.ps_sql_eval.specs.Evaluated.{without_bucket}
-use Rattle.ps_rules.specs.Vectors.{output_value}
-use Rattle.ps_grant.proofs.asking.output_value.Given as goal
+use Rattle.ps_sql.specs.Vectors.{output_value}
+use Rattle.ps_sql_eval.proofs.vectors.output_value.Given as goal
 
 -- none so far has the name
 abbrev pub invariant-outputs : goal.invariant-outputs

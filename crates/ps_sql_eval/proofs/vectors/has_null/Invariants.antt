@@ -1,7 +1,7 @@
 use Rattle.std.proofs.Common.{◌≡◌, drop}
 use Rattle.std.specs.List.{list_any}
 use Rattle.ps_values.specs.Values.{is_null}
-use Rattle.ps_grant.proofs.asking.has_null.Given as goal
+use Rattle.ps_sql_eval.proofs.vectors.has_null.Given as goal
 
 -- none so far is Null
 abbrev pub invariant-values : goal.invariant-values

@@ -1,8 +1,0 @@
-use Rattle.std.proofs.Common.{◌≡◌, map, take}
-use Rattle.ps_sql_eval.specs.Evaluated.{without_bucket}
-use Rattle.ps_rules.specs.Vectors.{output_value}
-use Rattle.ps_grant.proofs.asking.output_values.Given as goal
-
--- the values so far
-abbrev pub invariant-names : goal.invariant-names
-invariant-names l = l.values.items ≡ map (output_value (without_bucket l.asker l.id l.row) l.outputs) (take l.name-index l.names)
