@@ -1,5 +1,5 @@
 -- The vector of a parameter query on a row, as it is found step by step.
-use Rattle.std.proofs.Common.{◌≡◌, ℕ, true, false, not, cond, List, [], ◌∷◌, ap, ◌∙◌}
+use Rattle.std.proofs.Common.{◌≡◌, ℕ, true, false, not, cond, List, [], ◌∷◌, sym, ap, ◌∙◌}
 use Rattle.std.specs.Prelude.{◌&&◌}
 use Rattle.std.specs.List.{list_any}
 use Rattle.ps_values.specs.declared.values.Value.{Value}
@@ -18,4 +18,4 @@ module _ (names : List (List ℕ)) (asker : Asker) (query : ParameterQuery) (row
       → vector_on names asker query row ≡ cond (not (list_any is_null values)) (values ∷ []) []
   some_where_held values held is =
       ap (λ b. cond (b && not (list_any is_null (vector_values names asker query row))) (vector_values names asker query row ∷ []) []) held
-      ∙ (λ i. cond (not (list_any is_null (is (~ i)))) (is (~ i) ∷ []) [])
+      ∙ ap (λ (vs : List Value). cond (not (list_any is_null vs)) (vs ∷ []) []) (sym is)
