@@ -5,7 +5,8 @@ use Rattle.ps_values.specs.declared.columns.Column.{Column}
 use Rattle.ps_rules.specs.declared.queries.Planned.{Planned}
 use Rattle.ps_rules.specs.declared.definitions.Definition.{Definition}
 use Rattle.ps_bucket_eval.specs.Types.{Placed, PlaceFault, TooWide, Memory}
-use Rattle.ps_bucket_eval.specs.Shown.{alone, object_id, content_of}
+use Rattle.ps_sql.specs.Objects.{object_id, content_of}
+use Rattle.ps_bucket_eval.specs.Shown.{alone}
 use Rattle.ps_bucket_eval.specs.Entries.{RowOf, subkey_of, placed_in, placed_all, buckets_of, query_entries, IsPlaced}
 use Rattle.ps_bucket_eval.specs.Solving.{AddsEntries, row_of, made_in}
 use Rattle.ps_bucket_eval.proofs.Steps.{added_more, added_past}

@@ -10,6 +10,5 @@ pub mod Sets
 mod Sides
 mod Solutions
 mod Solved
-mod Starred
 mod Steps
 mod Taking

@@ -13,7 +13,8 @@ use Rattle.ps_rules.specs.Laws.{NamesDiffer}
 use Rattle.ps_rules.specs.RuleSets.{RuleSet, AreRules, IsSound, IsSoundParameter, IsSoundQuery}
 use Rattle.ps_bucket_eval.specs.Types.{Placed}
 use Rattle.ps_rules.specs.Buckets.{bucket_name_of}
-use Rattle.ps_bucket_eval.specs.Shown.{alone, object_id}
+use Rattle.ps_sql.specs.Objects.{object_id}
+use Rattle.ps_bucket_eval.specs.Shown.{alone}
 use Rattle.ps_bucket_eval.specs.Vectors.{with_vector, holding}
 use Rattle.ps_bucket_eval.specs.Entries.{RowOf, placed_in, entry_of, placed_all, buckets_of, query_entries, definition_entries, entries_of}
 use Rattle.ps_bucket_eval.specs.Laws.{PlacedWhereItHolds}

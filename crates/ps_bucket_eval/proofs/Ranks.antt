@@ -11,7 +11,8 @@ use Rattle.ps_rules.specs.declared.definitions.Definition.{Definition}
 use Rattle.ps_rules.specs.RuleSets.{rises_past, numbers_of}
 use Rattle.ps_bucket_eval.specs.Types.{Placed}
 use Rattle.ps_rules.specs.Buckets.{bucket_name_of}
-use Rattle.ps_bucket_eval.specs.Shown.{alone, object_id}
+use Rattle.ps_sql.specs.Objects.{object_id}
+use Rattle.ps_bucket_eval.specs.Shown.{alone}
 use Rattle.ps_bucket_eval.specs.Vectors.{holding}
 use Rattle.ps_bucket_eval.specs.Entries.{RowOf, placed_in, placed_all, buckets_of, query_entries, definition_entries, entries_of}
 use Rattle.ps_bucket_eval.specs.Laws.{placed_cmp, EntriesRise}

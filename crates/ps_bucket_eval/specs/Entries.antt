@@ -9,7 +9,8 @@ use Rattle.ps_rules.specs.Buckets.{bucket_name_of, in_order}
 use Rattle.ps_bucket_eval.specs.declared.placed.Placed.{Placed}
 use Rattle.ps_bucket_eval.specs.declared.faults.PlaceFault.{PlaceFault}
 use Rattle.ps_bucket_eval.specs.declared.faults.PlaceFault.TheVariants.{TooWide, Memory}
-use Rattle.ps_bucket_eval.specs.Shown.{alone, object_id, content_of}
+use Rattle.ps_sql.specs.Objects.{object_id, content_of}
+use Rattle.ps_bucket_eval.specs.Shown.{alone}
 use Rattle.ps_bucket_eval.specs.Vectors.{holding}
 
 -- a row of a table

@@ -12,7 +12,8 @@ use Rattle.ps_rules.specs.declared.queries.Planned.{Planned}
 use Rattle.ps_rules.specs.RuleSets.{RuleSet}
 use Rattle.ps_rules.specs.Laws.{IsSqlValue}
 use Rattle.ps_bucket_eval.specs.declared.placed.Placed.{Placed}
-use Rattle.ps_bucket_eval.specs.Shown.{alone, object_id}
+use Rattle.ps_sql.specs.Objects.{object_id}
+use Rattle.ps_bucket_eval.specs.Shown.{alone}
 use Rattle.ps_bucket_eval.specs.Vectors.{with_vector}
 use Rattle.ps_bucket_eval.specs.Entries.{RowOf, entry_of}
 

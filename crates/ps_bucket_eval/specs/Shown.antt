@@ -1,45 +1,15 @@
--- The object that a data query shows for a row.
-use Rattle.std.specs.Prelude.{ℕ, List, [], ◌∷◌, ◌++◌, map, if◌then◌else◌, Option, None, bytes_eq, codes}
+-- What data queries are evaluated over.
+use Rattle.std.specs.Prelude.{ℕ, List}
 use Rattle.ps_values.specs.declared.columns.Column.{Column}
 use Rattle.ps_values.specs.declared.values.Value.{Value}
-use Rattle.ps_values.specs.declared.values.Value.TheVariants.{Null, Text}
-use Rattle.ps_values.specs.Documents.{document_of}
-use Rattle.ps_sql.specs.declared.queries.Output.{Output}
-use Rattle.ps_sql.specs.declared.queries.DataQuery.{DataQuery}
-use Rattle.ps_sql.specs.Meaning.{Asker, Given, value_of, text_of}
+use Rattle.ps_values.specs.declared.values.Value.TheVariants.{Null}
+use Rattle.ps_sql.specs.Meaning.{Given}
+use Rattle.ps_sql_eval.specs.Evaluated.{given_of, nobody}
 
--- nobody asks: data queries have no request functions
-abbrev pub nobody : Asker
-nobody = record { user = []; payload = []; parameters = []; client = None }
-
--- what a data query is evaluated over: a row, and the values of the parameters
+-- a row, and the values of the parameters; nobody asks
 abbrev pub over : List ℕ → List Column → (List ℕ → Value) → Given
-over id row bucket = record { asker = nobody; id = id; row = row; bucket = bucket }
+over id row bucket = given_of nobody id row bucket
 
 -- a row, for what has no parameter in it
 abbrev pub alone : List ℕ → List Column → Given
 alone id row = over id row (λ name. Null)
-
--- the value of the first output of a name, or what stands for it where none has that name
-abbrev pub value_named : Given → List ℕ → List Output → Value → Value
-value_named given name [] otherwise = otherwise
-value_named given name (o ∷ os) otherwise = if bytes_eq o.name name then value_of given o.expr else value_named given name os otherwise
-
--- the output `id`: the written one, or the row's id where `*` shows it
-abbrev pub id_value : Given → DataQuery → Value
-id_value given query = value_named given (codes "id") query.outputs (if query.star then Text given.id else Null)
-
--- the object's id is that output's text; where it is Null there is no object
-unfoldable pub object_id : Given → DataQuery → Option (List ℕ)
-object_id given query = text_of (id_value given query)
-
-abbrev pub output_column : Given → Output → Column
-output_column given o = record { name = o.name; value = value_of given o.expr }
-
--- `*` shows each column; of one name the last counts, so a written output stands in the place of a column
-unfoldable pub shown_columns : Given → DataQuery → List Column
-shown_columns given query = (if query.star then given.row else []) ++ map (output_column given) query.outputs
-
--- the object's data: the compact JSON object of all outputs, with its id as a text
-unfoldable pub content_of : Given → DataQuery → List ℕ → List ℕ
-content_of given query object = document_of object (shown_columns given query)

@@ -1,29 +1,16 @@
-ghost use Rattle.std.specs.Prelude.{◌≡◌, [], false, IfOk};
+ghost use Rattle.std.specs.Prelude.{◌≡◌, false, IfOk};
 ghost use Rattle.std.specs.List.{list_any};
 ghost use Rattle.ps_sql.specs.declared.expressions.Expr.{Expr as ExprData};
-ghost use Rattle.ps_sql.specs.Meaning.{value_of, text_of as text_of_value};
+ghost use Rattle.ps_sql.specs.Meaning.{value_of};
 ghost use Rattle.ps_rules.specs.Branches.{has_parameter};
-ghost use Rattle.ps_sql_eval.specs.Evaluated.{asker_of};
-ghost use Rattle.ps_bucket_eval.specs.Shown.{alone, nobody as nobody_asks};
+ghost use Rattle.ps_bucket_eval.specs.Shown.{alone};
 ghost use Rattle.ps_bucket_eval.specs.Solving.{all_hold as all_leaves_hold};
 
 use ps_changes::Row;
 use ps_sql::Expr;
-use ps_sql_eval::{Asker, eval_request};
-use ps_values::{Memory, Text, Truth, Value, decimal, truth_of};
+use ps_sql_eval::{eval_request, nobody};
+use ps_values::{Memory, Text, Truth, Value, truth_of};
 use std::alloc::Global;
-
-// An asker of whom nothing is known: data queries have no request functions. Takes no memory.
-fn nobody(alloc: Global) -> Asker
-    ensures { asker_of result ≡ nobody_asks }
-{
-    Asker {
-        user: Text::from_string(String::new(alloc)),
-        payload: Text::from_string(String::new(alloc)),
-        parameters: Text::from_string(String::new(alloc)),
-        client: None,
-    }
-}
 
 /// The value of an expression without a parameter on a row.
 pub(crate) fn value_on(alloc: Global, expr: &Expr, id: &Text, row: &Row) -> Result<Value, Memory>
@@ -46,15 +33,4 @@ pub(crate) fn all_hold(alloc: Global, rest: &[Expr], id: &Text, row: &Row) -> Re
         }
     }
     Ok(true)
-}
-
-/// The text of a value; Null has none.
-pub(crate) fn text_of(alloc: Global, value: Value) -> Result<Option<Text>, Memory>
-    ensures { IfOk result (λ text. text ≡ text_of_value value) }
-{
-    match value {
-        Value::Null => Ok(None),
-        Value::Int(number) => Ok(Some(decimal(alloc, number)?)),
-        Value::Text(text) => Ok(Some(text)),
-    }
 }

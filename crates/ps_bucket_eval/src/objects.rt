@@ -1,117 +1,36 @@
-ghost use Rattle.std.specs.Prelude.{◌≡◌, [], ◌++◌, false, IfOk, if◌then◌else◌, map};
-ghost use Rattle.ps_bucket_eval.specs.Shown.{alone, id_value as id_value_of, object_id as object_id_of, shown_columns as columns_shown, content_of, output_column};
-ghost use Rattle.ps_bucket_eval.specs.Solving.{outputs_have_parameter};
+//! The object that a data query shows for a row, whoever asks.
 
-use crate::evaluating::{text_of, value_on};
-use ps_changes::{Column, Row};
-use ps_sql::{DataQuery, Output};
-use ps_values::{Items, Memory, Text, Value, document};
+ghost use Rattle.std.specs.Prelude.{◌≡◌, IfOk};
+ghost use Rattle.ps_sql.specs.Objects.{object_id as object_id_of, content_of};
+ghost use Rattle.ps_bucket_eval.specs.Shown.{alone};
+
+use ps_changes::Row;
+use ps_sql::DataQuery;
+use ps_sql_eval::{content, nobody, object_id};
+use ps_values::{Memory, Text};
 use std::alloc::Global;
 
 /// The id of the object that a query shows for a row; None where it is Null, and the query shows none.
-#[tactic(auto, unfolding(crate::specs::Shown::object_id))]
-pub(crate) fn object_id(
+pub(crate) fn shown_id(
     alloc: Global,
     query: &DataQuery,
     id: &Text,
     row: &Row,
 ) -> Result<Option<Text>, Memory>
-    requires { outputs_have_parameter query.now.outputs ≡ false }
     ensures { IfOk result (λ object. object ≡ object_id_of (alone id.now row.now) query.now) }
 {
-    let value = id_value(alloc, query, id, row)?;
-    text_of(alloc, value)
+    object_id(alloc, query, &nobody(alloc), id, row)
 }
 
-// The value of the output `id`: the written one, or the row's id where `*` shows it.
-fn id_value(alloc: Global, query: &DataQuery, id: &Text, row: &Row) -> Result<Value, Memory>
-    requires { outputs_have_parameter query.now.outputs ≡ false }
-    ensures { IfOk result (λ value. value ≡ id_value_of (alone id.now row.now) query.now) }
-{
-    'outputs: for output in query.outputs.as_slice() {
-        if output.name.as_str() == "id" {
-            return value_on(alloc, &output.expr, id, row);
-        }
-    }
-    if query.star {
-        Ok(Value::Text(id.copy(alloc)?))
-    } else {
-        Ok(Value::Null)
-    }
-}
-
-/// The data of the object that a query shows for a row. Where the query shows `*` alone, no column is copied.
-#[tactic(auto, using(crate::proofs::Starred::starred_alone), unfolding(crate::specs::Shown::content_of))]
-pub(crate) fn content(
+/// The data of the object that a query shows for a row.
+pub(crate) fn shown_content(
     alloc: Global,
     query: &DataQuery,
     object: &Text,
     id: &Text,
     row: &Row,
 ) -> Result<Text, Memory>
-    requires { outputs_have_parameter query.now.outputs ≡ false }
     ensures { IfOk result (λ content. content ≡ content_of (alone id.now row.now) query.now object.now) }
 {
-    if query.star && query.outputs.is_empty() {
-        return document(alloc, object, row.columns());
-    }
-    let columns = shown_columns(alloc, query, id, row)?;
-    document(alloc, object, columns.as_slice())
-}
-
-// The columns that a query shows: of one name the last counts.
-#[tactic(auto, unfolding(crate::specs::Shown::shown_columns))]
-fn shown_columns(
-    alloc: Global,
-    query: &DataQuery,
-    id: &Text,
-    row: &Row,
-) -> Result<Items<Column>, Memory>
-    requires { outputs_have_parameter query.now.outputs ≡ false }
-    ensures { IfOk result (λ columns. columns ≡ columns_shown (alone id.now row.now) query.now) }
-{
-    let starred = starred_columns(alloc, query.star, row)?;
-    with_outputs(alloc, starred, query.outputs.as_slice(), id, row)
-}
-
-// All columns of a row where `*` stands.
-fn starred_columns(alloc: Global, star: bool, row: &Row) -> Result<Items<Column>, Memory>
-    ensures { IfOk result (λ columns. columns ≡ (if star then row.now else [])) }
-{
-    if !star {
-        return Ok(Items::new(alloc));
-    }
-    copy_columns(alloc, row.columns())
-}
-
-// Equal columns.
-fn copy_columns(alloc: Global, all: &[Column]) -> Result<Items<Column>, Memory>
-    ensures { IfOk result (λ copies. copies ≡ all.now) }
-{
-    let mut copies = Items::new(alloc);
-    'copies: for one in all {
-        let name = one.name.copy(alloc)?;
-        let value = one.value.copy(alloc)?;
-        copies.push(Column { name, value })?;
-    }
-    Ok(copies)
-}
-
-// The written outputs behind columns.
-fn with_outputs(
-    alloc: Global,
-    mut columns: Items<Column>,
-    outputs: &[Output],
-    id: &Text,
-    row: &Row,
-) -> Result<Items<Column>, Memory>
-    requires { outputs_have_parameter outputs.now ≡ false }
-    ensures { IfOk result (λ all. all ≡ columns ++ map (output_column (alone id.now row.now)) outputs.now) }
-{
-    'outputs: for output in outputs {
-        let name = output.name.copy(alloc)?;
-        let value = value_on(alloc, &output.expr, id, row)?;
-        columns.push(Column { name, value })?;
-    }
-    Ok(columns)
+    content(alloc, query, object, &nobody(alloc), id, row)
 }

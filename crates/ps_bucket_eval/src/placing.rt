@@ -11,7 +11,7 @@ ghost use Rattle.ps_bucket_eval.specs.Solving.{sides_have_parameter, names_from,
 
 use crate::evaluating::all_hold;
 use crate::laws::{branches_are_solved, entries_stand_where_conditions_hold};
-use crate::objects::{content, object_id};
+use crate::objects::{shown_content, shown_id};
 use crate::solving::allowed_each;
 use crate::{PlaceFault, Placed};
 use ps_bucket_log::Key;
@@ -95,7 +95,7 @@ fn place_query(
     if !planned.query.table.equals(table) {
         return Ok(());
     }
-    let Some(object) = object_id(alloc, &planned.query, id, row)? else {
+    let Some(object) = shown_id(alloc, &planned.query, id, row)? else {
         return Ok(());
     };
     let room = top as usize - placed.len();
@@ -123,7 +123,7 @@ fn place_in(
     if buckets.is_empty() {
         return Ok(());
     }
-    let content = content(alloc, &planned.query, &object, id, row)?;
+    let content = shown_content(alloc, &planned.query, &object, id, row)?;
     let subkey = subkey(alloc, planned.number, table, id)?;
     push_entries(alloc, planned, object, subkey, content, buckets, placed)
 }

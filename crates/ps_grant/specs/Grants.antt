@@ -7,10 +7,10 @@ use Rattle.ps_sql.specs.declared.queries.DataQuery.{DataQuery}
 use Rattle.ps_sql.specs.Meaning.{Asker, Given, holds}
 use Rattle.ps_rules.specs.declared.definitions.Definition.{Definition}
 use Rattle.ps_rules.specs.declared.queries.Planned.{Planned}
+use Rattle.ps_sql.specs.Objects.{object_id, content_of}
 use Rattle.ps_sql.specs.Vectors.{SourceRow, asked_of}
 use Rattle.ps_rules.specs.Vectors.{parameter_vectors, vector_at}
 use Rattle.ps_grant.specs.declared.copies.Granted.{Granted}
-use Rattle.ps_grant.specs.Objects.{object_id, object_data}
 use Rattle.ps_grant.specs.Sources.{row_of, rows_in}
 
 -- what a data query's condition is evaluated over: a row, and a vector of the parameters' values
@@ -30,7 +30,7 @@ abbrev pub copy_with : Asker → Planned → Key × Version → List ℕ → Gra
 copy_with asker planned entry id = record {
   kind = planned.query.kind;
   id = id;
-  content = object_data (asked_of asker (row_of entry)) planned.query id;
+  content = content_of (asked_of asker (row_of entry)) planned.query id;
   position = record { 0 = entry.1.position };
   index = entry.1.index;
   number = planned.number;

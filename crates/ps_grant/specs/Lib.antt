@@ -2,7 +2,6 @@ pub mod Grants
 pub mod Latest
 pub mod Laws
 pub mod Mapped
-pub mod Objects
 pub mod Solving
 pub mod Sources
 pub mod Types

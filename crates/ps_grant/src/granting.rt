@@ -1,14 +1,11 @@
 //! The copies that rules grant to an asker.
 
-ghost use Rattle.std.specs.Prelude.{◌≡◌, ◌++◌, [], IfOk, OnOk, flat_map, unwrap_or, false, if◌then◌else◌};
+ghost use Rattle.std.specs.Prelude.{◌≡◌, ◌++◌, IfOk, OnOk, flat_map, false};
 ghost use Rattle.std.specs.List.{AllByRecursion};
-ghost use Rattle.ps_values.specs.declared.values.Value.{Value as ValueData};
-ghost use Rattle.ps_sql.specs.Meaning.{text_of};
 ghost use Rattle.ps_rules.specs.Names.{has_repeated};
 ghost use Rattle.ps_rules.specs.RuleSets.{IsSound, IsSoundQuery};
-ghost use Rattle.ps_sql_eval.specs.Evaluated.{asker_of, without_bucket};
+ghost use Rattle.ps_sql_eval.specs.Evaluated.{asker_of};
 ghost use Rattle.ps_grant.specs.Grants.{copy_of, grant_of, granted_by_query, granted_by, granted};
-ghost use Rattle.ps_grant.specs.Objects.{written_id, object_id, output_columns};
 ghost use Rattle.ps_grant.specs.Solving.{AreAsLong};
 ghost use Rattle.ps_grant.specs.Sources.{entries_of, entry_of};
 
@@ -16,98 +13,10 @@ use crate::asking::vectors_of;
 use crate::branching::holds_for_a_vector;
 use crate::vectors::VectorSet;
 use crate::{Granted, LiveRow, SourceRows};
-use ps_changes::Row;
 use ps_rules::{Definition, Planned, Rules};
-use ps_sql::{DataQuery, Output};
-use ps_sql_eval::{Asker, eval_without_bucket};
-use ps_values::{Column, Items, Memory, Text, Value, decimal, document};
+use ps_sql_eval::{Asker, content, object_id};
+use ps_values::{Items, Memory, Text};
 use std::alloc::Global;
-
-// The value of the output `id` as it is written; none where it is not.
-fn written_id_value(
-    alloc: Global,
-    outputs: &[Output],
-    asker: &Asker,
-    id: &Text,
-    row: &Row,
-) -> Result<Option<Value>, Memory>
-    ensures { IfOk result (λ value. (other : ValueData) → unwrap_or value other ≡ written_id (without_bucket asker.now id.now row.now) outputs.now other) }
-{
-    'outputs: for output in outputs {
-        if output.name.as_str() == "id" {
-            return Ok(Some(eval_without_bucket(alloc, &output.expr, asker, id, row)?));
-        }
-    }
-    Ok(None)
-}
-
-// The text of a value; none where it is Null.
-fn text_of_value(alloc: Global, value: Value) -> Result<Option<Text>, Memory>
-    ensures { IfOk result (λ text. text ≡ text_of value) }
-{
-    match value {
-        Value::Null => Ok(None),
-        Value::Int(number) => Ok(Some(decimal(alloc, number)?)),
-        Value::Text(text) => Ok(Some(text)),
-    }
-}
-
-// The id of the object that a data query makes of a row.
-fn id_of_object(
-    alloc: Global,
-    query: &DataQuery,
-    asker: &Asker,
-    id: &Text,
-    row: &Row,
-) -> Result<Option<Text>, Memory>
-    ensures { IfOk result (λ found. found ≡ object_id (without_bucket asker.now id.now row.now) query.now) }
-{
-    match written_id_value(alloc, query.outputs.as_slice(), asker, id, row)? {
-        Some(value) => text_of_value(alloc, value),
-        None => {
-            if query.star {
-                Ok(Some(id.copy(alloc)?))
-            } else {
-                Ok(None)
-            }
-        }
-    }
-}
-
-// The columns that `*` gives.
-fn columns_of_star(alloc: Global, query: &DataQuery, row: &Row) -> Result<Items<Column>, Memory>
-    ensures { IfOk result (λ columns. columns ≡ (if query.now.star then row.now else [])) }
-{
-    let mut columns = Items::new(alloc);
-    if !query.star {
-        return Ok(columns);
-    }
-    'columns: for column in row.columns() {
-        let name = column.name.copy(alloc)?;
-        let value = column.value.copy(alloc)?;
-        columns.push(Column { name, value })?;
-    }
-    Ok(columns)
-}
-
-// All columns of the object that a data query makes of a row.
-fn columns_of_object(
-    alloc: Global,
-    query: &DataQuery,
-    asker: &Asker,
-    id: &Text,
-    row: &Row,
-) -> Result<Items<Column>, Memory>
-    ensures { IfOk result (λ columns. columns ≡ output_columns (without_bucket asker.now id.now row.now) query.now) }
-{
-    let mut columns = columns_of_star(alloc, query, row)?;
-    'outputs: for output in query.outputs.as_slice() {
-        let name = output.name.copy(alloc)?;
-        let value = eval_without_bucket(alloc, &output.expr, asker, id, row)?;
-        columns.push(Column { name, value })?;
-    }
-    Ok(columns)
-}
 
 // The copy that a data query makes of a row; none where the object has no id.
 fn copy_on(
@@ -118,11 +27,10 @@ fn copy_on(
 ) -> Result<Option<Granted>, Memory>
     ensures { IfOk result (λ copy. copy ≡ copy_of (asker_of asker.now) planned.now (entry_of live.now)) }
 {
-    let Some(id) = id_of_object(alloc, &planned.query, asker, &live.id, &live.row)? else {
+    let Some(id) = object_id(alloc, &planned.query, asker, &live.id, &live.row)? else {
         return Ok(None);
     };
-    let columns = columns_of_object(alloc, &planned.query, asker, &live.id, &live.row)?;
-    let content = document(alloc, &id, columns.as_slice())?;
+    let content = content(alloc, &planned.query, &id, asker, &live.id, &live.row)?;
     Ok(Some(Granted {
         kind: planned.query.kind.copy(alloc)?,
         id,

@@ -5,6 +5,7 @@ pub mod Inputs
 pub mod Lexemes
 pub mod Json
 pub mod Meaning
+pub mod Objects
 pub mod Subjects
 pub mod Queries
 pub mod Readings

@@ -4,3 +4,4 @@ mod Floats
 mod OnRows
 mod Parts
 mod Searches
+mod Starred

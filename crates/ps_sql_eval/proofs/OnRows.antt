@@ -1,5 +1,5 @@
 -- The vector of a parameter query on a row, as it is found step by step.
-use Rattle.std.proofs.Common.{◌≡◌, ℕ, true, false, not, cond, List, [], ◌∷◌, sym, ap, ◌∙◌}
+use Rattle.std.proofs.Common.{◌≡◌, ℕ, true, not, cond, List, [], ◌∷◌, sym, ap, ◌∙◌}
 use Rattle.std.specs.Prelude.{◌&&◌}
 use Rattle.std.specs.List.{list_any}
 use Rattle.ps_values.specs.declared.values.Value.{Value}
@@ -9,11 +9,7 @@ use Rattle.ps_sql.specs.Meaning.{Asker, holds}
 use Rattle.ps_sql.specs.Vectors.{SourceRow, asked_of, vector_values, vector_on}
 
 module _ (names : List (List ℕ)) (asker : Asker) (query : ParameterQuery) (row : SourceRow) where
-  -- where the condition does not hold
-  pub none_unless_held : holds (asked_of asker row) query.condition ≡ false → vector_on names asker query row ≡ []
-  none_unless_held held = ap (λ b. cond (b && not (list_any is_null (vector_values names asker query row))) (vector_values names asker query row ∷ []) []) held
-
-  -- where it does, by whether a value is Null
+  -- where the condition holds, by whether a value is Null
   pub some_where_held : (values : List Value) → holds (asked_of asker row) query.condition ≡ true → values ≡ vector_values names asker query row
       → vector_on names asker query row ≡ cond (not (list_any is_null values)) (values ∷ []) []
   some_where_held values held is =

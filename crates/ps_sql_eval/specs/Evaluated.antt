@@ -15,6 +15,10 @@ use Rattle.ps_sql_eval.specs.declared.askers.Asker.{Asker}
 abbrev pub asker_of : Asker → meaning.Asker
 asker_of asker = record { user = asker.user; payload = asker.payload; parameters = asker.parameters; client = asker.client }
 
+-- nobody asks: data queries have no request functions
+abbrev pub nobody : meaning.Asker
+nobody = record { user = []; payload = []; parameters = []; client = None }
+
 -- an asker, a row with its id, and a bucket's parameters
 abbrev pub given_of : meaning.Asker → List ℕ → List Column → (List ℕ → Value) → Given
 given_of asker id row bucket = record { asker = asker; id = id; row = row; bucket = bucket }

@@ -1,3 +1,6 @@
+ghost use Rattle.std.specs.Prelude.{◌≡◌};
+ghost use Rattle.ps_sql_eval.specs.Evaluated.{asker_of, nobody as nobody_asks};
+
 use ps_values::Text;
 use std::alloc::Global;
 
@@ -15,7 +18,9 @@ pub struct Asker {
 }
 
 /// An asker of whom nothing is known. Takes no memory.
-pub(crate) fn nobody(alloc: Global) -> Asker {
+pub fn nobody(alloc: Global) -> Asker
+    ensures { asker_of result ≡ nobody_asks }
+{
     Asker {
         user: Text::from_string(String::new(alloc)),
         payload: Text::from_string(String::new(alloc)),

@@ -6,11 +6,13 @@ mod askers;
 mod columns;
 mod evaluations;
 mod members;
+mod objects;
 mod texts;
 mod truths;
 mod vectors;
 
 pub use arrays::elements;
-pub use askers::Asker;
+pub use askers::{Asker, nobody};
 pub use evaluations::{eval_request, eval_row, eval_without_bucket};
+pub use objects::{content, object_id};
 pub use vectors::{holds, vector_on};

@@ -8,7 +8,7 @@ use ps_values::{Memory, Text, Value, decimal};
 use std::alloc::Global;
 
 /// The text of a value: of an integer its decimal text, of Null none.
-fn text_of(alloc: Global, value: Value) -> Result<Option<Text>, Memory>
+pub(crate) fn text_of(alloc: Global, value: Value) -> Result<Option<Text>, Memory>
     ensures { IfOk result (λ text. text ≡ text_in value) }
 {
     match value {

@@ -12,6 +12,7 @@ use Rattle.std.proofs.lemmas.List.{length-map}
 use Rattle.std.proofs.lemmas.Option.{same_Some}
 use Rattle.std.proofs.lemmas.Slice.Eq.{bytes_eq-Decides}
 use Rattle.ps_values.specs.declared.values.Value.{Value}
+use Rattle.ps_values.specs.declared.values.Value.TheVariants.{Null, Text}
 use Rattle.ps_values.specs.declared.values.Truth.{Truth}
 use Rattle.ps_values.specs.declared.values.Truth.TheVariants.{True, False, Unknown}
 use Rattle.ps_values.specs.Values.{truth_of}
@@ -34,12 +35,13 @@ use Rattle.ps_rules.specs.RuleSets.{RuleSet, AreRules, IsSound, IsSoundQuery}
 use Rattle.ps_sql.specs.Vectors.{SourceRow, asked_of, vector_values, vector_on}
 use Rattle.ps_rules.specs.Vectors.{rows_read, query_vectors, parameter_vectors}
 use Rattle.ps_grant.specs.declared.copies.Granted.{Granted}
-use Rattle.ps_grant.specs.Objects.{written_id, own_id, object_id, star_columns, output_column, object_data}
 use Rattle.ps_grant.specs.Sources.{row_of as read_row, rows_in}
 use Rattle.ps_grant.specs.Grants.{given_for, holds_for_some, is_granted, copy_with, copy_of, grant_of, granted_by_query, granted_by, granted}
 use Rattle.ps_bucket_eval.specs.declared.placed.Placed.{Placed}
 use Rattle.ps_rules.specs.Buckets.{bucket_name_of, in_order}
-use Rattle.ps_bucket_eval.specs.Shown.{nobody, alone, value_named, object_id as shown_id, output_column as shown_column, shown_columns, content_of}
+use Rattle.ps_sql.specs.Objects.{value_named, object_id, output_column, shown_columns, content_of}
+use Rattle.ps_sql_eval.specs.Evaluated.{nobody}
+use Rattle.ps_bucket_eval.specs.Shown.{alone}
 use Rattle.ps_bucket_eval.specs.Vectors.{with_vector, holding}
 use Rattle.ps_bucket_eval.specs.Entries.{RowOf, placed_in, entry_of, placed_all, buckets_of, query_entries, definition_entries, entries_of}
 use Rattle.ps_rules.specs.Laws.{NamesDiffer}
@@ -184,14 +186,14 @@ module _ (same : IsSameForEveryAsker) where
   same_holds given None h = refl
   same_holds given (Some e) h = ap (λ v. is_true (truth_of v)) (same e given nobody h)
 
-  same_written : (given : Given) (outputs : List Output) (other : Value) → some_asks outputs ≡ false → written_id given outputs other ≡ value_named (unasked given) (codes "id") outputs other
+  same_written : (given : Given) (outputs : List Output) (other : Value) → some_asks outputs ≡ false → value_named given (codes "id") outputs other ≡ value_named (unasked given) (codes "id") outputs other
   same_written given [] other h = refl
   same_written given (o ∷ os) other h =
       let parts = or_parts (speaks subjects.Asker o.expr) (some_asks os) h in
-      ap (λ v. if bytes_eq o.name (codes "id") then v else written_id given os other) (same o.expr given nobody parts.0)
+      ap (λ v. if bytes_eq o.name (codes "id") then v else value_named given (codes "id") os other) (same o.expr given nobody parts.0)
       ∙ ap (λ v. if bytes_eq o.name (codes "id") then value_of (unasked given) o.expr else v) (same_written given os other parts.1)
 
-  same_columns : (given : Given) (outputs : List Output) → some_asks outputs ≡ false → map (output_column given) outputs ≡ map (shown_column (unasked given)) outputs
+  same_columns : (given : Given) (outputs : List Output) → some_asks outputs ≡ false → map (output_column given) outputs ≡ map (output_column (unasked given)) outputs
   same_columns given [] h = refl
   same_columns given (o ∷ os) h =
       let parts = or_parts (speaks subjects.Asker o.expr) (some_asks os) h in
@@ -199,13 +201,13 @@ module _ (same : IsSameForEveryAsker) where
       λ i. record { name = o.name; value = head i } ∷ tail i
 
   -- the object that a query makes of a row
-  same_object : (asker : Asker) (row : SourceRow) (query : DataQuery) → some_asks query.outputs ≡ false → object_id (asked_of asker row) query ≡ shown_id (alone row.id row.row) query
-  unfolding shown_id
-  same_object asker row query h = ap text_of (same_written (asked_of asker row) query.outputs (own_id (asked_of asker row) query) h)
+  same_object : (asker : Asker) (row : SourceRow) (query : DataQuery) → some_asks query.outputs ≡ false → object_id (asked_of asker row) query ≡ object_id (alone row.id row.row) query
+  unfolding object_id
+  same_object asker row query h = ap text_of (same_written (asked_of asker row) query.outputs (if query.star then Text row.id else Null) h)
 
-  same_data : (asker : Asker) (row : SourceRow) (query : DataQuery) (id : List ℕ) → some_asks query.outputs ≡ false → object_data (asked_of asker row) query id ≡ content_of (alone row.id row.row) query id
+  same_data : (asker : Asker) (row : SourceRow) (query : DataQuery) (id : List ℕ) → some_asks query.outputs ≡ false → content_of (asked_of asker row) query id ≡ content_of (alone row.id row.row) query id
   unfolding content_of shown_columns
-  same_data asker row query id h = ap (λ columns. document_of id (star_columns (asked_of asker row) query ++ columns)) (same_columns (asked_of asker row) query.outputs h)
+  same_data asker row query id h = ap (λ columns. document_of id ((if query.star then row.row else []) ++ columns)) (same_columns (asked_of asker row) query.outputs h)
 
 -- ---- definitions and their vectors
 
@@ -238,12 +240,12 @@ each_named d asker rows values names h = go d.parameters names h
 record IsShape (d : Definition) (q : Planned) (row : RowOf) (x : Placed) : Type 0 where
   pub table : q.query.table ≡ row.table
   pub object : List ℕ
-  pub shows : shown_id (alone row.id row.row) q.query ≡ Some object
+  pub shows : object_id (alone row.id row.row) q.query ≡ Some object
   pub values : List Value
   pub is : entry_of d q row object values ≡ x
 
 module _ (d : Definition) (q : Planned) (row : RowOf) (x : Placed) where
-  all_shape : q.query.table ≡ row.table → (o : Option (List ℕ)) → shown_id (alone row.id row.row) q.query ≡ o → Has (placed_all d row q o) x → IsShape d q row x
+  all_shape : q.query.table ≡ row.table → (o : Option (List ℕ)) → object_id (alone row.id row.row) q.query ≡ o → Has (placed_all d row q o) x → IsShape d q row x
   unfolding buckets_of
   all_shape table None e h = absurd h
   all_shape table (Some object) e h =
@@ -255,8 +257,8 @@ module _ (d : Definition) (q : Planned) (row : RowOf) (x : Placed) where
   unfolding query_entries
   query_shape h = go (bytes_eq q.query.table row.table) refl h
     where
-      go : (b : Bool) → bytes_eq q.query.table row.table ≡ b → Has (if b then placed_all d row q (shown_id (alone row.id row.row) q.query) else []) x → IsShape d q row x
-      go true e i = all_shape (same_name q.query.table row.table e) (shown_id (alone row.id row.row) q.query) refl i
+      go : (b : Bool) → bytes_eq q.query.table row.table ≡ b → Has (if b then placed_all d row q (object_id (alone row.id row.row) q.query) else []) x → IsShape d q row x
+      go true e i = all_shape (same_name q.query.table row.table e) (object_id (alone row.id row.row) q.query) refl i
       go false e i = absurd i
 
 -- ---- copies and entries
@@ -280,7 +282,7 @@ module _ (rules : RuleSet) (asker : Asker) (source : Source) (are : AreRules rul
   nobody_asked d q i j = or_parts (some_asks q.query.outputs) (condition_speaks subjects.Asker q.query.condition) (query_at d q i j).no_asker
 
   is_vector : (key : Key) (version : Version) (d : Definition) (q : Planned) (object : List ℕ) (values : List Value) → Has rules.definitions d → Has d.queries q → Has (vectors d) values
-      → q.query.table ≡ key.0 → shown_id (alone key.1 version.columns) q.query ≡ Some object → IsVectorOf rules (row_of key version.columns) d q object values
+      → q.query.table ≡ key.0 → object_id (alone key.1 version.columns) q.query ≡ Some object → IsVectorOf rules (row_of key version.columns) d q object values
   is_vector key version d q object values i j k table shows = record {
     of_rules = has_contains rules.definitions d i;
     of_definition = has_contains d.queries q j;
@@ -329,7 +331,7 @@ module _ (rules : RuleSet) (asker : Asker) (source : Source) (are : AreRules rul
 
   -- the copy that a query makes of a row, for a vector for which its condition holds
   grant_there : (key : Key) (version : Version) (d : Definition) (q : Planned) (object : List ℕ) (values : List Value) → Has rules.definitions d → Has d.queries q → Has (vectors d) values
-      → q.query.table ≡ key.0 → shown_id (alone key.1 version.columns) q.query ≡ Some object → holds (with_vector key.1 version.columns d.names values) q.query.condition ≡ true
+      → q.query.table ≡ key.0 → object_id (alone key.1 version.columns) q.query ≡ Some object → holds (with_vector key.1 version.columns d.names values) q.query.condition ≡ true
       → grant_of asker d.names (vectors d) q (key, version) ≡ Some (copy_with asker q (key, version) object)
   grant_there key version d q object values i j k table shows holds_there =
       let row = read_row (key, version) in

@@ -9,7 +9,8 @@ use Rattle.ps_rules.specs.declared.queries.Planned.{Planned}
 use Rattle.ps_rules.specs.declared.definitions.Definition.{Definition}
 use Rattle.ps_rules.specs.RuleSets.{rises_past, numbers_of}
 use Rattle.ps_bucket_eval.specs.declared.placed.Placed.{Placed}
-use Rattle.ps_bucket_eval.specs.Shown.{alone, object_id}
+use Rattle.ps_sql.specs.Objects.{object_id}
+use Rattle.ps_bucket_eval.specs.Shown.{alone}
 use Rattle.ps_bucket_eval.specs.Entries.{RowOf, subkey_of, placed_in, placed_all, buckets_of, query_entries, definition_entries, entries_of}
 use Rattle.ps_store.specs.Laws.{HaveNumbers}
 use Rattle.ps_store.proofs.Members.{Has, from_map, from_flat, has_contains}

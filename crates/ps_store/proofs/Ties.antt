@@ -13,7 +13,7 @@ use Rattle.ps_rules.specs.Vectors.{parameter_vectors}
 use Rattle.ps_grant.specs.declared.copies.Granted.{Granted}
 use Rattle.ps_grant.specs.Grants.{is_granted, copy_with, copy_of, grant_of, granted_by_query, granted_by, granted}
 use Rattle.ps_grant.specs.Latest.{object_of, TiesAgree}
-use Rattle.ps_grant.specs.Objects.{object_id, object_data}
+use Rattle.ps_sql.specs.Objects.{object_id, content_of}
 use Rattle.ps_grant.specs.Sources.{row_of, rows_in}
 use Rattle.ps_store.proofs.Members.{Has, from_flat, contains_has}
 use Rattle.ps_store.proofs.Queries.{same_place}
@@ -87,7 +87,7 @@ tied_same rules asker source are tell c d h g one object =
     (ap (λ (x : Granted). x.position.0) a.is ∙ one.position ∙ sym (ap (λ (x : Granted). x.position.0) b.is))
     (ap (λ (x : Granted). x.index) a.is ∙ one.index ∙ sym (ap (λ (x : Granted). x.index) b.is)) in
     let id : a.id ≡ b.id = ap (λ (x : Granted). x.id) a.is ∙ ap (λ o. o.1) object ∙ sym (ap (λ (x : Granted). x.id) b.is) in
-    sym (ap (λ (x : Granted). x.content) a.is) ∙ (λ i. object_data (asked_of asker (row_of (entry i))) (place.1 i).query (id i)) ∙ ap (λ (x : Granted). x.content) b.is
+    sym (ap (λ (x : Granted). x.content) a.is) ∙ (λ i. content_of (asked_of asker (row_of (entry i))) (place.1 i).query (id i)) ∙ ap (λ (x : Granted). x.content) b.is
 
 pub ties_agree : (rules : RuleSet) (asker : Asker) (source : Source) → AreRules rules → MomentsTellRows source → TiesAgree (granted rules.definitions asker source)
 ties_agree rules asker source are tell c d h g object below above =

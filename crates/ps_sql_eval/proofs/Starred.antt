@@ -6,7 +6,7 @@ use Rattle.ps_values.specs.Documents.{document_of}
 use Rattle.ps_sql.specs.declared.queries.Output.{Output}
 use Rattle.ps_sql.specs.declared.queries.DataQuery.{DataQuery}
 use Rattle.ps_sql.specs.Meaning.{Given}
-use Rattle.ps_bucket_eval.specs.Shown.{output_column, shown_columns, content_of}
+use Rattle.ps_sql.specs.Objects.{output_column, shown_columns, content_of}
 
 -- the columns that are shown are the row's
 pub starred_alone : (given : Given) (query : DataQuery) (object : List ℕ) (columns : List Column) → query.star ≡ true → query.outputs ≡ [] → columns ≡ given.row

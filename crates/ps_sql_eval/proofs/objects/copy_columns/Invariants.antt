@@ -1,5 +1,5 @@
 use Rattle.std.proofs.Common.{◌≡◌, take}
-use Rattle.ps_bucket_eval.proofs.objects.copy_columns.Given as goal
+use Rattle.ps_sql_eval.proofs.objects.copy_columns.Given as goal
 
 -- what was copied so far
 abbrev pub invariant-copies : goal.invariant-copies
