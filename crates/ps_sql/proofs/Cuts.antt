@@ -7,7 +7,8 @@ use Rattle.std.proofs.lemmas.List.Sums.{prefix_len-le-length, prefix_len_passes}
 use Rattle.ps_sql.specs.declared.words.Word.{Word}
 use Rattle.ps_sql.specs.declared.words.Word.TheVariants as words
 use Rattle.ps_sql.specs.declared.words.Mark.{Mark}
-use Rattle.ps_sql.specs.Words.{decimal_after, greatest_number, ends_number, is_digit, begins_name, continues_name, number_at, quoted, quoted_word, behind, marked, single_mark, longest_mark, word_at, CutsBehindAscii}
+use Rattle.ps_values.specs.Numbers.{greatest}
+use Rattle.ps_sql.specs.Words.{decimal_after, ends_number, is_digit, begins_name, continues_name, number_at, quoted, quoted_word, behind, marked, single_mark, longest_mark, word_at, CutsBehindAscii}
 
 -- which way a test went
 pub chosen : {A : Type 0} (b : Bool) (x y z : A) → cond b x y ≡ z → ((b ≡ true) × (x ≡ z)) ⊎ ((b ≡ false) × (y ≡ z))
@@ -126,7 +127,7 @@ pub number_cuts : (bytes : List ℕ) (found : Word × ℕ) → is_digit (get_or 
 unfolding number_at
 number_cuts bytes found first e =
     let n = prefix_len is_digit bytes in let value = decimal_after 0 (take n bytes) in
-    elim (chosen (leb value greatest_number && ends_number (drop n bytes)) (Some (words.Number (pos value), n)) None (Some found) e) [
+    elim (chosen (leb value greatest && ends_number (drop n bytes)) (Some (words.Number (pos value), n)) None (Some found) e) [
       | inl p ↦
           let size : prefix_len is_digit bytes ≡ found.1 = cc (p.1) in
           rw (← size) (prefix_cuts is_digit bytes digit_ascii (within_by_byte bytes 0 (grind (arith, nat_tests))) first)

@@ -10,7 +10,8 @@ use Rattle.ps_sql.specs.declared.words.Word.TheVariants as words
 use Rattle.ps_sql.specs.declared.words.Keyword.{Keyword}
 use Rattle.ps_sql.specs.declared.words.Mark.{Mark}
 use Rattle.ps_sql.specs.declared.words.Mark.TheVariants as marks
-use Rattle.ps_sql.specs.Words.{is_digit, begins_name, continues_name, decimal_after, greatest_number, ends_number, named, keyword_of, name_at, number_at, word_at, quoted, quoted_word, behind, single_mark, longest_mark, marked}
+use Rattle.ps_values.specs.Numbers.{greatest}
+use Rattle.ps_sql.specs.Words.{is_digit, begins_name, continues_name, decimal_after, ends_number, named, keyword_of, name_at, number_at, word_at, quoted, quoted_word, behind, single_mark, longest_mark, marked}
 use Rattle.ps_sql.specs.Spellings.{IsWord, IsName, IsNumber, IsQuoted, IsMark, ends_mark, doubled}
 use Rattle.ps_sql.proofs.Cuts.{chosen, word_cuts, first_cuts, name_cuts, number_cuts, mark_cuts, behind_some, within_by_byte}
 use Rattle.ps_sql.proofs.Quotes.{eqb_yes, eqb_no, quoted_twice, quoted_closed, some_pair}
@@ -102,9 +103,9 @@ number_found : (bytes : List ℕ) (found : Word × ℕ) → is_digit (get_or byt
 unfolding number_at
 number_found bytes found first e =
     let n = prefix_len is_digit bytes in let value = decimal_after 0 (take n bytes) in
-    elim (chosen (leb value greatest_number && ends_number (drop n bytes)) (Some (words.Number (pos value), n)) None (Some found) e) [
+    elim (chosen (leb value greatest && ends_number (drop n bytes)) (Some (words.Number (pos value), n)) None (Some found) e) [
       | inl p ↦
-          let both = and_both (leb value greatest_number) (ends_number (drop n bytes)) p.0 in
+          let both = and_both (leb value greatest) (ends_number (drop n bytes)) p.0 in
           let F : Word × ℕ → Type 0 = λ x. IsWord x.0 (take x.1 bytes) (drop x.1 bytes) in
           subst F (same_Some (words.Number (pos value), n) found p.1) (
             record {
@@ -125,7 +126,7 @@ number_only written after is =
     let digit : is_digit (get_or (written ++ after) 0 0) ≡ true = ap is_digit (first_of written after is.some) ∙ first_passes is_digit written is.each is.some in
     let name : begins_name (get_or (written ++ after) 0 0) ≡ false = grind (arith, nat_tests, digit) in
     let size = prefix_only is_digit written after is.each is.whole in
-    let small : leb (decimal_after 0 written) greatest_number ≡ true = grind (arith, nat_tests, is.small) in
+    let small : leb (decimal_after 0 written) greatest ≡ true = grind (arith, nat_tests, is.small) in
     rw name (rw digit (rw size (rw (taken written after, left written after) (rw (small, is.ends) refl))))
 
 -- quoted texts

@@ -5,7 +5,8 @@ use Rattle.ps_sql.specs.declared.words.Word.{Word}
 use Rattle.ps_sql.specs.declared.words.Word.TheVariants as words
 use Rattle.ps_sql.specs.declared.words.Mark.{Mark}
 use Rattle.ps_sql.specs.declared.words.Mark.TheVariants as marks
-use Rattle.ps_sql.specs.Words.{begins_name, continues_name, is_digit, decimal_after, greatest_number, ends_number, keyword_of}
+use Rattle.ps_values.specs.Numbers.{greatest}
+use Rattle.ps_sql.specs.Words.{begins_name, continues_name, is_digit, decimal_after, ends_number, keyword_of}
 
 -- a letter or `_`, then letters, digits and `_`, as many as there are
 pub record IsName (written after : List ℕ) : Type 0 where
@@ -17,7 +18,7 @@ pub record IsName (written after : List ℕ) : Type 0 where
 pub record IsNumber (written after : List ℕ) : Type 0 where
   pub some : 0 < length written
   pub each : list_all is_digit written ≡ true
-  pub small : decimal_after 0 written ≤ greatest_number
+  pub small : decimal_after 0 written ≤ greatest
   pub whole : is_digit (slice_index after 0) ≡ false
   pub ends : ends_number after ≡ true
 

@@ -2,6 +2,7 @@
 use Rattle.std.specs.Prelude.{ℕ, pos, ◌+◌, ◌-◌, ◌*◌, ◌<◌, ◌≤◌, Bool, not, ◌&&◌, ◌||◌, ◌==◌, nat_le, if◌then◌else◌, List, [], ◌∷◌, ◌++◌, map, take, drop, length, slice_index, Option, Some, None, bytes_eq, codes}
 use Rattle.std.specs.List.{prefix_len}
 use Rattle.std.specs.Char.{to_ascii_lowercase}
+use Rattle.ps_values.specs.Numbers.{greatest}
 use Rattle.ps_sql.specs.declared.words.Word.{Word}
 use Rattle.ps_sql.specs.declared.words.Word.TheVariants as words
 use Rattle.ps_sql.specs.declared.words.Keyword.{Keyword}
@@ -75,16 +76,13 @@ abbrev pub decimal_after : ℕ → List ℕ → ℕ
 decimal_after value [] = value
 decimal_after value (digit ∷ digits) = decimal_after (value * 10 + (digit - 48)) digits
 
-abbrev pub greatest_number : ℕ
-greatest_number = 9223372036854775807
-
 -- a number is followed by no letter, no `_`, and no `.` with a digit
 abbrev pub ends_number : List ℕ → Bool
 ends_number after = not (begins_name (slice_index after 0) || (slice_index after 0 == 46 && is_digit (slice_index after 1)))
 
 unfoldable pub number_at : List ℕ → Option (Word × ℕ)
 number_at bytes = let n = prefix_len is_digit bytes in let value = decimal_after 0 (take n bytes) in
-    if nat_le value greatest_number && ends_number (drop n bytes) then Some (words.Number (pos value), n) else None
+    if nat_le value greatest && ends_number (drop n bytes) then Some (words.Number (pos value), n) else None
 
 -- what a front of a text adds to what is read behind it
 abbrev pub behind : List ℕ → ℕ → Option (List ℕ × ℕ) → Option (List ℕ × ℕ)

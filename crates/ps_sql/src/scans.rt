@@ -1,10 +1,11 @@
 ghost use Rattle.std.specs.Prelude.{◌≡◌, true, ℕ, pos, ◌+◌, ◌-◌, ◌<◌, ◌≤◌, length, take, drop, slice_index, IfOk, IfSome, Some, None, option_map, if◌then◌else◌, nat_le};
 ghost use Rattle.std.specs.List.{prefix_len};
 ghost use Rattle.ps_sql.specs.declared.words.Word.TheVariants as words;
-ghost use Rattle.ps_sql.specs.Words.{CutsBehindAscii, name_at, begins_name, continues_name, decimal_after, ends_number, greatest_number, is_blank, is_digit, is_left_out, clause_word, operator_word, value_word, keyword_of, longest_mark, number_at, quoted, same_word, single_mark, word_at};
+ghost use Rattle.ps_values.specs.Numbers.{greatest};
+ghost use Rattle.ps_sql.specs.Words.{CutsBehindAscii, name_at, begins_name, continues_name, decimal_after, ends_number, is_blank, is_digit, is_left_out, clause_word, operator_word, value_word, keyword_of, longest_mark, number_at, quoted, same_word, single_mark, word_at};
 
 use crate::words::{Keyword, Mark, Word};
-use ps_values::{Memory, Text};
+use ps_values::{GREATEST, Memory, Text};
 use std::alloc::Global;
 
 pub fn is_blank_byte(b: u8) -> bool
@@ -233,12 +234,9 @@ fn is_number_end(after: &[u8]) -> bool
     !(begins_name_byte(first) || (first == b'.' && is_digit_byte(byte_at(after, 1))))
 }
 
-/// The greatest number that a text can hold.
-const GREATEST: u64 = 9223372036854775807;
-
 /// The number that digits write, if it is not too large.
 fn decimal_value(digits: &[u8]) -> Option<u64>
-    ensures { result ≡ (if nat_le (decimal_after 0 digits.now) greatest_number then Some (decimal_after 0 digits.now) else None) }
+    ensures { result ≡ (if nat_le (decimal_after 0 digits.now) greatest then Some (decimal_after 0 digits.now) else None) }
 {
     let mut value: u64 = 0;
     'value: for b in digits {

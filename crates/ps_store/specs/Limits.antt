@@ -1,10 +1,7 @@
 -- What bounds a store.
 use Rattle.std.specs.Prelude.{ℕ, ◌≤◌}
+pub use Rattle.ps_values.specs.Numbers.{greatest}
 use Rattle.ps_store.specs.declared.fixed.Limits.{Limits}
-
--- the greatest position, id and number
-abbrev pub greatest : ℕ
-greatest = 9223372036854775807
 
 abbrev pub usual_limits : Limits
 usual_limits = record { ops = greatest; numbers = greatest; positions = greatest; buckets = 1000; entries = 1000 }

@@ -2,6 +2,7 @@ ghost use Rattle.std.specs.Prelude.{◌≡◌};
 ghost use Rattle.ps_store.specs.Limits.{usual_limits, AreWithin};
 
 use ps_rules::Rules;
+use ps_values::GREATEST;
 
 /// What bounds a store.
 #[derive(Clone, Copy, Debug)]
@@ -25,9 +26,9 @@ impl Limits {
         ensures within { AreWithin result }
     {
         Limits {
-            ops: 9223372036854775807,
-            numbers: 9223372036854775807,
-            positions: 9223372036854775807,
+            ops: GREATEST,
+            numbers: GREATEST,
+            positions: GREATEST,
             buckets: 1000,
             entries: 1000,
         }
