@@ -3,8 +3,8 @@ ghost use Rattle.ps_bucket_log.specs.Logs.{IsRising};
 ghost use Rattle.ps_bucket_log.specs.Batches.{batch_of, batch_from, front_of, takes_next};
 
 use crate::Op;
-use crate::places::{back_past, clear_id, copied, front_upto, last_target};
-use ps_values::{Items, Memory, OpId};
+use crate::places::{back_past, clear_id, front_upto, last_target};
+use ps_values::{Items, Memory, OpId, copy_all};
 use std::alloc::Global;
 
 /// What one read of a log gives.
@@ -50,7 +50,7 @@ fn front_batch(alloc: Global, asked: &[Op]) -> Result<Batch, Memory>
     let count = front_len(asked);
     let taken = &asked[..count];
     Ok(Batch {
-        ops: copied(alloc, taken)?,
+        ops: copy_all(alloc, taken)?,
         has_more: taken.len() < asked.len(),
         target: last_target(taken),
         passed: None,

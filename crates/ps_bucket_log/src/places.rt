@@ -1,13 +1,12 @@
 //! Parts of a list of operations with rising ids, found by their ids.
 
-ghost use Rattle.std.specs.Prelude.{◌≡◌, ◌≤◌, take, drop, length, IfOk};
+ghost use Rattle.std.specs.Prelude.{◌≡◌, ◌≤◌, take, drop, length};
 ghost use Rattle.ps_bucket_log.specs.Ops.{upto as up_to, past, newest, sum_of, later_id, greatest_target};
 ghost use Rattle.ps_bucket_log.specs.Logs.{IsRising, cleared};
 
 use crate::Op;
 use ps_checksum::{Sum, add};
-use ps_values::{Items, Memory, OpId};
-use std::alloc::Global;
+use ps_values::OpId;
 
 // How many operations have ids up to the given one.
 pub fn place_past(ops: &[Op], id: OpId) -> usize
@@ -91,15 +90,4 @@ fn later(a: Option<OpId>, b: Option<OpId>) -> Option<OpId>
         (Some(a), None) => Some(a),
         (Some(a), Some(b)) => Some(if a.0 < b.0 { b } else { a }),
     }
-}
-
-// Equal operations.
-pub fn copied(alloc: Global, ops: &[Op]) -> Result<Items<Op>, Memory>
-    ensures { IfOk result (λ copy. copy ≡ ops.now) }
-{
-    let mut copy = Vec::new(alloc);
-    'ops: for op in ops {
-        copy.push(op.copy(alloc)?)?;
-    }
-    Ok(Items::from_vec(copy))
 }

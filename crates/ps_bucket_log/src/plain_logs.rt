@@ -4,9 +4,9 @@ ghost use Rattle.ps_bucket_log.specs.Logs.{IsLog};
 use crate::batches::{Batch, read_batch};
 use crate::logs::Log;
 use crate::ops::Op;
-use crate::places::{copied, front_upto, newest_id, place_past, total};
+use crate::places::{front_upto, newest_id, place_past, total};
 use ps_checksum::Sum;
-use ps_values::{Items, Memory, OpId};
+use ps_values::{Items, Memory, OpId, copy_all};
 use std::alloc::Global;
 use std::marker::Model;
 
@@ -70,7 +70,7 @@ impl Log for BucketLog {
     }
 
     fn ops(&self, alloc: Global) -> Result<Items<Op>, Memory> {
-        copied(alloc, self.ops.as_slice())
+        copy_all(alloc, self.ops.as_slice())
     }
 
     // It takes no memory, so it never fails.

@@ -1,7 +1,7 @@
 ghost use Rattle.std.specs.Prelude.{◌≡◌, IfOk};
 
 use crate::Row;
-use ps_values::{Items, Memory, Position, Text};
+use ps_values::{Copied, Items, Memory, Position, Text, copy_all};
 use std::alloc::Global;
 
 /// A change of one source row.
@@ -44,11 +44,14 @@ impl Transaction {
     pub fn copy(&self, alloc: Global) -> Result<Transaction, Memory>
         ensures { IfOk result (λ copy. copy ≡ self.now) }
     {
-        let mut changes = Items::new(alloc);
-        'changes: for change in self.changes.as_slice() {
-            changes.push(change.copy(alloc)?)?;
-        }
+        let changes = copy_all(alloc, self.changes.as_slice())?;
         let position = self.position;
         Ok(Transaction { position, changes })
+    }
+}
+
+impl Copied for Change {
+    fn copied(&self, alloc: Global) -> Result<Change, Memory> {
+        self.copy(alloc)
     }
 }

@@ -1,7 +1,7 @@
 ghost use Rattle.std.specs.Prelude.{◌≡◌, true, IfOk};
 ghost use Rattle.ps_changes.specs.Rows.{is_row};
 
-use ps_values::{Column, Items, Memory};
+use ps_values::{Column, Items, Memory, copy_all};
 use std::alloc::Global;
 use std::marker::Model;
 
@@ -40,16 +40,11 @@ impl Row {
     {
         self.columns.as_slice()
     }
+
     /// An equal row.
     pub fn copy(&self, alloc: Global) -> Result<Row, Memory>
         ensures { IfOk result (λ copy. copy ≡ self.now) }
     {
-        let mut columns = Items::new(alloc);
-        'columns: for column in self.columns() {
-            let name = column.name.copy(alloc)?;
-            let value = column.value.copy(alloc)?;
-            columns.push(Column { name, value })?;
-        }
-        Ok(Row::from_columns(columns))
+        Ok(Row::from_columns(copy_all(alloc, self.columns())?))
     }
 }

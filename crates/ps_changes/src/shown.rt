@@ -1,4 +1,5 @@
-use ps_values::Text;
+use ps_values::{Copied, Memory, Text};
+use std::alloc::Global;
 
 /// A row as a client shows it.
 #[derive(Debug, Drop, PartialEq, Eq)]
@@ -9,4 +10,13 @@ pub struct Shown {
     pub id: Text,
     /// Its data: a compact JSON object.
     pub content: Text,
+}
+
+impl Copied for Shown {
+    fn copied(&self, alloc: Global) -> Result<Shown, Memory> {
+        let kind = self.kind.copy(alloc)?;
+        let id = self.id.copy(alloc)?;
+        let content = self.content.copy(alloc)?;
+        Ok(Shown { kind, id, content })
+    }
 }

@@ -12,7 +12,7 @@ ghost use Rattle.ps_client.specs.LocalWrites.{is_of, shown_with};
 
 use ps_changes::Change;
 use ps_client_log::Shown;
-use ps_values::{Items, Memory, Text, document};
+use ps_values::{Copied, Items, Memory, Text, copy_all, document};
 use std::alloc::Global;
 use std::collections::BTreeMap;
 
@@ -25,24 +25,6 @@ fn row_of_parts(alloc: Global, kind: &Text, id: &Text, content: &Text) -> Result
         id: id.copy(alloc)?,
         content: content.copy(alloc)?,
     })
-}
-
-// An equal row.
-fn row_copied(alloc: Global, row: &Shown) -> Result<Shown, Memory>
-    ensures { IfOk result (λ copy. copy ≡ row.now) }
-{
-    row_of_parts(alloc, &row.kind, &row.id, &row.content)
-}
-
-// Equal rows.
-fn rows_copied(alloc: Global, rows: &[Shown]) -> Result<Items<Shown>, Memory>
-    ensures { IfOk result (λ copies. copies ≡ rows.now) }
-{
-    let mut copies = Vec::with_capacity(alloc, rows.len())?;
-    'rows: for row in rows {
-        copies.push(row_copied(alloc, row)?)?;
-    }
-    Ok(Items::from_vec(copies))
 }
 
 // Whether a row comes before another by kind and id.
@@ -124,7 +106,7 @@ pub fn rows_in_order(alloc: Global, rows: &[Shown]) -> Result<Items<Shown>, Memo
 {
     // Those of a checkpoint are in order as they are shown.
     if are_in_order(rows) {
-        return rows_copied(alloc, rows);
+        return copy_all(alloc, rows);
     }
     rows_sorted(alloc, rows)
 }
@@ -143,7 +125,7 @@ fn unchanged(alloc: Global, rows: &[Shown], change: &Change) -> Result<Items<Sho
     let mut others = Items::new(alloc);
     'rows: for row in rows {
         if !is_changed(row, change) {
-            others.push(row_copied(alloc, row)?)?;
+            others.push(row.copied(alloc)?)?;
         }
     }
     Ok(others)

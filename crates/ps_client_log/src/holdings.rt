@@ -8,13 +8,12 @@ ghost use Rattle.ps_client_log.specs.Soundness.{same_row};
 ghost use Rattle.std.specs.List.{IsDistinct};
 
 use crate::buckets::Buckets;
-use crate::edits::edits_copied;
 use crate::queues::Queue;
 use crate::rooms::rooms_for;
 use crate::{Edit, State, Target};
 use indexmap::IndexMap;
 use ps_changes::Shown;
-use ps_values::{Items, Memory, Text};
+use ps_values::{Items, Memory, Text, copy_all};
 use std::alloc::Global;
 
 // A client's state in memory.
@@ -146,9 +145,9 @@ impl Holdings {
         ensures err { OnErr result (kept_by self.new ≡ kept_by self.old) }
         ensures held { IsHeld self.new }
     {
-        let copies = edits_copied(alloc, edits)?;
+        let copies = copy_all(alloc, edits)?;
         let rooms = self.prepare(alloc, edits)?;
-        self.make_all(copies);
+        self.make_all(copies.into_vec());
         self.tidy(&rooms);
         Ok(())
     }

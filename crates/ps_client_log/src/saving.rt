@@ -1,28 +1,24 @@
 //! The states that tell what is held in memory.
 
-ghost use Rattle.std.specs.Prelude.{◌≡◌, ℕ, ◌+◌, ◌%◌, ◌^◌, List, IfOk, OnOk, OnErr, map, bytes_eq, option_map};
+ghost use Rattle.std.specs.Prelude.{◌≡◌, ℕ, ◌+◌, ◌%◌, ◌^◌, List, IfOk, OnOk, map, bytes_eq};
 ghost use Rattle.std.specs.List.{All, IsDistinct};
-ghost use Rattle.indexmap.specs.IndexMap.{get};
-ghost use Rattle.ps_bucket_log.specs.declared.ops.Key.{Key as OwnKey};
 ghost use Rattle.ps_bucket_log.specs.Ops.{same_key};
-ghost use Rattle.ps_client_log.specs.Kept.{held_in, held_sum, bucket_in, bucket_kept, kept_of};
-ghost use Rattle.ps_client_log.specs.Images.{key_eq, put_at, image_of, bucket_found};
+ghost use Rattle.ps_client_log.specs.Kept.{held_sum, bucket_in, kept_of};
+ghost use Rattle.ps_client_log.specs.Images.{image_of, bucket_found};
 ghost use Rattle.ps_client_log.specs.Saving.{held_of, keys_held, names_of, IsBucketOf, Adds};
 ghost use Rattle.ps_client_log.specs.Soundness.{IsSoundState};
 ghost use Rattle.ps_client_log.specs.Logs.{IsHeld};
 ghost use Rattle.ps_client_log.specs.Rooms.{kept_by};
 
 use crate::buckets::Buckets;
-use crate::edits::rows_copied;
 use crate::holdings::Holdings;
 use crate::images::{Entry, Image};
 use crate::slots::Slot;
 use crate::{BucketState, Held, State};
 use indexmap::IndexMap;
 use ps_bucket_log::Key;
-use ps_changes::Change;
 use ps_checksum::{Sum, add};
-use ps_values::{Items, Memory, Text};
+use ps_values::{Items, Memory, Text, copy_all};
 use std::alloc::Global;
 
 // An entry as a state lists it.
@@ -113,17 +109,6 @@ fn states_of(alloc: Global, buckets: &Buckets) -> Result<Items<BucketState>, Mem
     Ok(states)
 }
 
-// Equal changes.
-fn changes_copied(alloc: Global, changes: &[Change]) -> Result<Items<Change>, Memory>
-    ensures { IfOk result (λ copy. copy ≡ changes.now) }
-{
-    let mut copy = Items::new(alloc);
-    'changes: for change in changes {
-        copy.push(change.copy(alloc)?)?;
-    }
-    Ok(copy)
-}
-
 // The state that is held.
 pub fn state_of(alloc: Global, holdings: &Holdings) -> Result<State, Memory>
     requires { IsHeld holdings.now }
@@ -131,8 +116,8 @@ pub fn state_of(alloc: Global, holdings: &Holdings) -> Result<State, Memory>
     ensures sound { IfOk result IsSoundState }
 {
     let buckets = states_of(alloc, &holdings.buckets)?;
-    let queue = changes_copied(alloc, holdings.queue.as_slice())?;
-    let shown = rows_copied(alloc, holdings.shown.as_slice())?;
+    let queue = copy_all(alloc, holdings.queue.as_slice())?;
+    let shown = copy_all(alloc, holdings.shown.as_slice())?;
     Ok(State {
         buckets,
         queue,

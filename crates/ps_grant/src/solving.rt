@@ -10,7 +10,7 @@ ghost use Rattle.ps_grant.specs.Solving.{allowed_by, allows_vector, all_allow as
 use ps_changes::Row;
 use ps_rules::Match;
 use ps_sql_eval::{Asker, elements, eval_without_bucket};
-use ps_values::{Items, Memory, Text, Truth, Value, equal_sql};
+use ps_values::{Items, Memory, Text, Truth, Value, copy_all, equal_sql};
 use std::alloc::Global;
 
 /// The values that a match allows for its parameter.
@@ -178,19 +178,9 @@ fn extend_one(
     ensures { OnOk result (longer.new ≡ longer.old ++ map (λ value. front.now ++ value ∷ []) values.now) }
 {
     'values: for value in values {
-        let mut vector = copy_values(alloc, front)?;
+        let mut vector = copy_all(alloc, front)?;
         vector.push(value.copy(alloc)?)?;
         longer.push(vector)?;
     }
     Ok(())
-}
-
-fn copy_values(alloc: Global, values: &[Value]) -> Result<Items<Value>, Memory>
-    ensures { IfOk result (λ copies. copies ≡ values.now) }
-{
-    let mut copies = Items::new(alloc);
-    'values: for value in values {
-        copies.push(value.copy(alloc)?)?;
-    }
-    Ok(copies)
 }

@@ -1,9 +1,8 @@
 ghost use Rattle.std.specs.Prelude.{◌≡◌, IfOk};
 ghost use Rattle.ps_rules.specs.RuleSets.{AreRules, RuleSet};
 
-use crate::copies::copy_definitions;
 use crate::{Definition, Warning};
-use ps_values::{Items, Memory};
+use ps_values::{Items, Memory, copy_all};
 use std::alloc::Global;
 use std::marker::Model;
 
@@ -63,19 +62,8 @@ impl Rules {
         ensures { IfOk result (λ copy. copy ≡ self.now) }
     {
         Ok(Rules {
-            definitions: copy_definitions(alloc, self.definitions.as_slice())?,
-            warnings: copy_warnings(alloc, self.warnings.as_slice())?,
+            definitions: copy_all(alloc, self.definitions.as_slice())?,
+            warnings: copy_all(alloc, self.warnings.as_slice())?,
         })
     }
-}
-
-// Equal warnings, in order.
-fn copy_warnings(alloc: Global, all: &[Warning]) -> Result<Items<Warning>, Memory>
-    ensures { IfOk result (λ copies. copies ≡ all.now) }
-{
-    let mut copies = Items::new(alloc);
-    'copies: for one in all {
-        copies.push(*one)?;
-    }
-    Ok(copies)
 }

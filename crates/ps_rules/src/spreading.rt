@@ -5,11 +5,10 @@ ghost use Rattle.ps_rules.specs.declared.branches.Branch.{Branch as BranchData};
 ghost use Rattle.ps_rules.specs.Branches.{match_of as match_in, match_of_side, match_of_sides, leaf_branch, joined, crossed, branches_in, branches_of as branches_in_condition};
 ghost use Rattle.ps_rules.specs.Laws.{is_leaf as stands_alone, is_spread, is_either};
 
-use crate::copies::{copy_branches, exprs_behind, matches_behind};
 use crate::walks::has_parameter;
 use crate::{Branch, Match};
 use ps_sql::{Expr, Operator};
-use ps_values::{Items, Memory};
+use ps_values::{Items, Memory, copy_all, copy_behind};
 use std::alloc::Global;
 
 /// The most branches that a condition may have.
@@ -150,8 +149,8 @@ fn join(alloc: Global, branch: Branch, other: &Branch) -> Result<Branch, Memory>
 {
     let Branch { matches, rest } = branch;
     Ok(Branch {
-        matches: matches_behind(alloc, matches, other.matches.as_slice())?,
-        rest: exprs_behind(alloc, rest, other.rest.as_slice())?,
+        matches: copy_behind(alloc, matches, other.matches.as_slice())?,
+        rest: copy_behind(alloc, rest, other.rest.as_slice())?,
     })
 }
 
@@ -204,7 +203,7 @@ fn spread_onto(alloc: Global, branches: Items<Branch>, expr: &Expr) -> Result<It
             right,
         } => {
             if is_or(*operator) {
-                let again = copy_branches(alloc, branches.as_slice())?;
+                let again = copy_all(alloc, branches.as_slice())?;
                 let first = spread_onto(alloc, branches, left.get())?;
                 let second = spread_onto(alloc, again, right.get())?;
                 both(first, second)

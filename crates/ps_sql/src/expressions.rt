@@ -1,6 +1,6 @@
 ghost use Rattle.std.specs.Prelude.{◌≡◌, IfOk};
 
-use ps_values::{Boxed, Items, Memory, Text};
+use ps_values::{Boxed, Copied, Items, Memory, Text};
 use std::alloc::Global;
 
 /// A function of the profile, with its number of arguments.
@@ -122,7 +122,7 @@ impl Expr {
                 arguments,
             } => Ok(Expr::Call {
                 function: *function,
-                arguments: copy_all(alloc, arguments.as_slice())?,
+                arguments: copy_exprs(alloc, arguments.as_slice())?,
             }),
             Expr::CastText { of } => Ok(Expr::CastText {
                 of: Boxed::new(alloc, of.get().copy(alloc)?)?,
@@ -149,7 +149,7 @@ impl Expr {
 
 /// Equal expressions, in order.
 #[cycle(copying)]
-fn copy_all(alloc: Global, all: &[Expr]) -> Result<Items<Expr>, Memory>
+fn copy_exprs(alloc: Global, all: &[Expr]) -> Result<Items<Expr>, Memory>
     ensures { IfOk result (λ copies. copies ≡ all.now) }
 {
     let mut copies = Items::new(alloc);
@@ -157,4 +157,10 @@ fn copy_all(alloc: Global, all: &[Expr]) -> Result<Items<Expr>, Memory>
         copies.push(one.copy(alloc)?)?;
     }
     Ok(copies)
+}
+
+impl Copied for Expr {
+    fn copied(&self, alloc: Global) -> Result<Expr, Memory> {
+        self.copy(alloc)
+    }
 }

@@ -1,5 +1,8 @@
+ghost use Rattle.std.specs.Prelude.{◌≡◌, IfOk};
+
 use crate::Expr;
-use ps_values::{Items, Text};
+use ps_values::{Copied, Items, Memory, Text, copy_all};
+use std::alloc::Global;
 
 /// An output of a query: an expression, and the name that it is given.
 #[derive(Debug, Drop)]
@@ -26,4 +29,54 @@ pub struct DataQuery {
     /// The alias, or the table where there is none.
     pub kind: Text,
     pub condition: Option<Expr>,
+}
+
+impl Copied for Output {
+    fn copied(&self, alloc: Global) -> Result<Output, Memory> {
+        let name = self.name.copy(alloc)?;
+        let expr = self.expr.copy(alloc)?;
+        Ok(Output { name, expr })
+    }
+}
+
+// An equal condition.
+fn copy_condition(alloc: Global, condition: &Option<Expr>) -> Result<Option<Expr>, Memory>
+    ensures { IfOk result (λ copy. copy ≡ condition.now) }
+{
+    match condition {
+        None => Ok(None),
+        Some(condition) => Ok(Some(condition.copy(alloc)?)),
+    }
+}
+
+// An equal name of a table.
+fn copy_table(alloc: Global, table: &Option<Text>) -> Result<Option<Text>, Memory>
+    ensures { IfOk result (λ copy. copy ≡ table.now) }
+{
+    match table {
+        None => Ok(None),
+        Some(table) => Ok(Some(table.copy(alloc)?)),
+    }
+}
+
+impl Copied for ParameterQuery {
+    fn copied(&self, alloc: Global) -> Result<ParameterQuery, Memory> {
+        Ok(ParameterQuery {
+            outputs: copy_all(alloc, self.outputs.as_slice())?,
+            table: copy_table(alloc, &self.table)?,
+            condition: copy_condition(alloc, &self.condition)?,
+        })
+    }
+}
+
+impl Copied for DataQuery {
+    fn copied(&self, alloc: Global) -> Result<DataQuery, Memory> {
+        Ok(DataQuery {
+            star: self.star,
+            outputs: copy_all(alloc, self.outputs.as_slice())?,
+            table: self.table.copy(alloc)?,
+            kind: self.kind.copy(alloc)?,
+            condition: copy_condition(alloc, &self.condition)?,
+        })
+    }
 }

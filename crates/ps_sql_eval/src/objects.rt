@@ -9,7 +9,7 @@ use crate::evaluations::eval_without_bucket;
 use crate::texts::text_of;
 use ps_changes::{Column, Row};
 use ps_sql::{DataQuery, Output};
-use ps_values::{Items, Memory, Text, Value, document};
+use ps_values::{Items, Memory, Text, Value, copy_all, document};
 use std::alloc::Global;
 
 /// The id of the object that a data query shows an asker for a row, where every parameter of a bucket is Null: the text of its output
@@ -92,20 +92,7 @@ fn starred_columns(alloc: Global, star: bool, row: &Row) -> Result<Items<Column>
     if !star {
         return Ok(Items::new(alloc));
     }
-    copy_columns(alloc, row.columns())
-}
-
-// Equal columns.
-fn copy_columns(alloc: Global, all: &[Column]) -> Result<Items<Column>, Memory>
-    ensures { IfOk result (λ copies. copies ≡ all.now) }
-{
-    let mut copies = Items::new(alloc);
-    'copies: for one in all {
-        let name = one.name.copy(alloc)?;
-        let value = one.value.copy(alloc)?;
-        copies.push(Column { name, value })?;
-    }
-    Ok(copies)
+    copy_all(alloc, row.columns())
 }
 
 // The written outputs behind columns.

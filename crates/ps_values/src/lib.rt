@@ -19,7 +19,7 @@ mod writing;
 pub use boxes::Boxed;
 pub use columns::Column;
 pub use conversions::{ValueFault, plain, plain_json, value_of_json};
-pub use copies::{Copied, copy_all};
+pub use copies::{Copied, copy_all, copy_behind};
 pub use documents::{document, json_of_value, object_of_columns, quoted, read_json, text_of_json};
 pub use ids::{OpId, Position};
 pub use laws::{

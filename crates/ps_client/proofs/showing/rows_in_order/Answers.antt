@@ -7,9 +7,9 @@ use Rattle.ps_client.proofs.showing.rows_in_order.Goals as goal
 pub returns-then-are_in_order-clause-in_order : goal.returns-then-are_in_order-clause-in_order
 returns-then-are_in_order-clause-in_order c =
     let sorted : AreInOrder c.args.rows.now = c.are_in_order.ensures (search rules) in
-    IfOk-weaker c.rows_copied.result _ _ (λ copies is. subst AreInOrder (sym is) sorted) c.rows_copied.ensures
+    IfOk-weaker c.copy_all.result _ _ (λ copies is. subst AreInOrder (sym is) sorted) c.copy_all.ensures
 
 pub returns-then-are_in_order-clause-same : goal.returns-then-are_in_order-clause-same
 returns-then-are_in_order-clause-same c =
     let sorted : AreInOrder c.args.rows.now = c.are_in_order.ensures (search rules) in
-    IfOk-weaker c.rows_copied.result _ _ (λ copies is object. ap (row_at object) is ∙ sym (shown_found c.args.rows.now sorted object.0 object.1)) c.rows_copied.ensures
+    IfOk-weaker c.copy_all.result _ _ (λ copies is object. ap (row_at object) is ∙ sym (shown_found c.args.rows.now sorted object.0 object.1)) c.copy_all.ensures

@@ -1,6 +1,0 @@
-use Rattle.std.proofs.Common.{◌≡◌, ◌++◌, take}
-use Rattle.ps_rules.proofs.copies.exprs_behind.Given as goal
-
--- what was copied so far
-abbrev pub invariant-copies : goal.invariant-copies
-invariant-copies l = l.both ≡ l.fn.before ++ take l.one-index l.all
