@@ -1,5 +1,5 @@
 -- The checks of each definition: parameter queries before data queries, each query at its scalar.
-use Rattle.std.specs.Prelude.{ℕ, ◌+◌, Bool, false, not, ◌||◌, ◌&&◌, ◌==◌, nat_lt, if◌then◌else◌, List, [], ◌∷◌, ◌++◌, map, length, Option, Some, None, Result, Ok, bytes_eq, codes}
+use Rattle.std.specs.Prelude.{ℕ, ◌+◌, Bool, false, not, ◌||◌, ◌&&◌, ◌==◌, nat_lt, if◌then◌else◌, List, [], ◌∷◌, ◌++◌, map, length, Option, Some, None, Result, Ok, Err, bytes_eq, codes}
 use Rattle.std.specs.List.{list_any, list_all}
 use Rattle.ps_sql.specs.declared.expressions.Expr.{Expr}
 use Rattle.ps_sql.specs.declared.queries.Output.{Output}
@@ -70,6 +70,11 @@ abbrev pub client_warning : Written → ParameterQuery → List Warning
 client_warning written query = if some_expr asks_parameters query.outputs query.condition
     then record { kind = kinds.ClientParameters; line = written.line; column = written.column } ∷ [] else []
 
+-- one that is read, behind those that are known and with its warning
+abbrev pub known_by : List ParameterQuery → List Warning → Written → Result ParameterQuery RulesFault → Result Known RulesFault
+known_by queries warnings written (Ok query) = Ok (record { queries = queries ++ query ∷ []; warnings = warnings ++ client_warning written query })
+known_by queries warnings written (Err fault) = Err fault
+
 -- a parameter query behind those that are known
 unfoldable pub known_with : Known → Written → Result Known RulesFault
 known_with known written = do
@@ -85,6 +90,11 @@ all_known known (written ∷ others) = do
   all_known more others
 
 -- ---- data queries
+
+-- one that is read, with its number and its branches
+abbrev pub planned_with : DataQuery → ℕ → Result (List Branch) RulesFault → Result Planned RulesFault
+planned_with query number (Ok branches) = Ok (record { query = query; number = number; branches = branches })
+planned_with query number (Err fault) = Err fault
 
 -- the checks of a data query that is read
 unfoldable pub planned_from : List (List ℕ) → ℕ → ℕ → ℕ → DataQuery → Result Planned RulesFault

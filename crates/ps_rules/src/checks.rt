@@ -1,15 +1,16 @@
 //! The checks of a definition: parameter queries before data queries, each query at its scalar.
 
-ghost use Rattle.std.specs.Prelude.{◌≡◌, ◌∷◌, [], ◌++◌, ◌<◌, ◌↔◌, not, IfOk, IsTrue, Some, None, length, map, bytes_eq, codes, if◌then◌else◌};
+ghost use Rattle.std.specs.Prelude.{◌≡◌, ℕ, List, ◌∷◌, [], ◌++◌, ◌<◌, ◌↔◌, not, IfOk, IsTrue, Some, None, length, map, bytes_eq, codes, if◌then◌else◌};
 ghost use Rattle.std.specs.List.{list_any, list_all};
 ghost use Rattle.ps_sql.specs.declared.expressions.Expr.{Expr as ExprData};
 ghost use Rattle.ps_sql.specs.declared.queries.Output.{Output as OutputData};
 ghost use Rattle.ps_sql.specs.Readings.{parameter_query_of, data_query_of};
 ghost use Rattle.ps_rules.specs.declared.matches.Match.{Match as MatchData};
+ghost use Rattle.ps_rules.specs.declared.warnings.Warning.{Warning as WarningData};
 ghost use Rattle.ps_rules.specs.Faults.{Reads, sql, placed_fault};
 ghost use Rattle.ps_rules.specs.Names.{is_in, are_in, has_repeated, output_names};
 ghost use Rattle.ps_rules.specs.Branches.{mentions, has_parameter as has_a_parameter, asks_parameters as asks};
-ghost use Rattle.ps_rules.specs.Checks.{some_expr, in_condition, names_of, is_mixed as mixes, has_no_id as lacks_id, has_unknown as knows_not, has_many_branches as has_many, is_bound as binds, is_matched as matches_all, client_warning, known_with, all_known, planned_from, planned_of, all_planned, data_warning, checked_of};
+ghost use Rattle.ps_rules.specs.Checks.{some_expr, in_condition, names_of, is_mixed as mixes, has_no_id as lacks_id, has_unknown as knows_not, has_many_branches as has_many, is_bound as binds, is_matched as matches_all, client_warning, known_by, known_with, all_known, planned_with, planned_from, planned_of, all_planned, data_warning, checked_of};
 
 use crate::drafts::{Checked, Draft, Known, Written};
 use crate::name_sets::NameSet;
@@ -294,29 +295,33 @@ fn warned(
     Ok(all)
 }
 
-// A parameter query behind those that are known.
+// A parameter query that is written somewhere, which goes with those that are known.
 #[tactic(auto, unfolding(crate::specs::Checks::known_with))]
+fn fitting_query(
+    alloc: Global,
+    known: &[ParameterQuery],
+    written: &Written,
+) -> Result<ParameterQuery, RulesFault>
+    ensures { (warnings : List WarningData) → Reads (known_by known.now warnings written.now result) (known_with (record { queries = known.now; warnings = warnings }) written.now) }
+{
+    let line = written.line;
+    let column = written.column;
+    let query = parameter_query(alloc, written)?;
+    let outputs = query.outputs.as_slice();
+    let Some(names) = distinct_names(alloc, outputs)? else {
+        return Err(RulesFault::DuplicateName { line, column });
+    };
+    if is_mixed(alloc, known, outputs, &names)? {
+        return Err(RulesFault::MixedOutput { line, column });
+    }
+    Ok(query)
+}
+
+// A parameter query behind those that are known.
 fn with_parameter_query(alloc: Global, known: Known, written: &Written) -> Result<Known, RulesFault>
     ensures { Reads result (known_with known written.now) }
 {
-    let query = parameter_query(alloc, written)?;
-    let Some(names) = distinct_names(alloc, query.outputs.as_slice())? else {
-        return Err(RulesFault::DuplicateName {
-            line: written.line,
-            column: written.column,
-        });
-    };
-    if is_mixed(
-        alloc,
-        known.queries.as_slice(),
-        query.outputs.as_slice(),
-        &names,
-    )? {
-        return Err(RulesFault::MixedOutput {
-            line: written.line,
-            column: written.column,
-        });
-    }
+    let query = fitting_query(alloc, known.queries.as_slice(), written)?;
     let Known {
         mut queries,
         warnings,
@@ -346,29 +351,28 @@ fn parameter_queries(
 
 // ---- data queries
 
-// The checks of a data query that is read.
+// The branches of a data query that is read and passes its checks.
 #[tactic(auto, unfolding(crate::specs::Checks::planned_from))]
-fn plan(
+fn checked_branches(
     alloc: Global,
     names: &NameSet,
-    number: u32,
     written: &Written,
-    query: DataQuery,
-) -> Result<Planned, RulesFault>
-    ensures { Reads result (planned_from names.now number written.now.line written.now.column query) }
+    query: &DataQuery,
+) -> Result<Items<Branch>, RulesFault>
+    ensures { (number : ℕ) → Reads (planned_with query.now number result) (planned_from names.now number written.now.line written.now.column query.now) }
 {
     let line = written.line;
     let column = written.column;
     if distinct_names(alloc, query.outputs.as_slice())?.is_none() {
         return Err(RulesFault::DuplicateName { line, column });
     }
-    if has_no_id(&query) {
+    if has_no_id(query) {
         return Err(RulesFault::NoId { line, column });
     }
-    if has_unknown_in(&query, names) {
+    if has_unknown_in(query, names) {
         return Err(RulesFault::UnknownParameter { line, column });
     }
-    if has_many_branches(&query) {
+    if has_many_branches(query) {
         return Err(RulesFault::TooManyBranches { line, column });
     }
     let branches = branches_of(alloc, &query.condition)?;
@@ -377,11 +381,7 @@ fn plan(
     {
         return Err(RulesFault::UnmatchedParameter { line, column });
     }
-    Ok(Planned {
-        query,
-        number,
-        branches,
-    })
+    Ok(branches)
 }
 
 // The data query that is written somewhere, with its number.
@@ -395,7 +395,12 @@ fn planned(
     ensures { Reads result (planned_of names.now number written.now) }
 {
     let query = data_query(alloc, written)?;
-    plan(alloc, names, number, written, query)
+    let branches = checked_branches(alloc, names, written, &query)?;
+    Ok(Planned {
+        query,
+        number,
+        branches,
+    })
 }
 
 // The data queries of a definition, with the numbers past `before`.
