@@ -9,56 +9,11 @@ use Rattle.ps_sql.specs.declared.expressions.Expr.TheOpen as layers
 use Rattle.ps_sql.specs.declared.expressions.Expr.TheVariants as exprs
 use Rattle.ps_sql.specs.declared.expressions.Operator.{Operator}
 use Rattle.ps_sql.specs.declared.expressions.Operator.TheVariants as operators
-use Rattle.ps_sql.specs.declared.subjects.Subject.TheVariants as subjects
-use Rattle.ps_sql.specs.Subjects.{speaks, layer_speaks, any_true}
 use Rattle.ps_rules.specs.declared.matches.Match.{Match}
 use Rattle.ps_rules.specs.declared.branches.Branch.{Branch}
 use Rattle.ps_rules.specs.Branches.{finds, layer_finds, has_parameter, match_of_side, match_of_sides, match_of_layer, match_of, branch_with, leaf_branch, joined, crossed, branches_in, branches_of}
 use Rattle.ps_rules.specs.Laws.{EitherSide, BothSides, LeafAlone, is_leaf_layer, is_leaf}
 use Rattle.ps_bucket_eval.proofs.Members.{Has, has_cases, from_flat, from_map}
-
--- ---- a parameter stands in an expression where it speaks of the bucket
-
-has_rolled : (test : List ℕ → Bool) (layer : Expr-F Expr) → finds test false (roll-Expr layer) ≡ layer_finds test false (map-Expr Expr Bool (finds test false) layer)
-unfolding finds
-has_rolled test layer = fold-roll-Expr Bool (layer_finds test false) layer
-
-speaks_rolled : (layer : Expr-F Expr) → speaks subjects.Bucket (roll-Expr layer) ≡ layer_speaks subjects.Bucket (map-Expr Expr Bool (speaks subjects.Bucket) layer)
-speaks_rolled layer = fold-roll-Expr Bool (layer_speaks subjects.Bucket) layer
-
-abbrev SpeaksAs : Expr → Type 0
-SpeaksAs e = speaks subjects.Bucket e ≡ has_parameter e
-
-all_speak : (xs : List ((e : Expr) × SpeaksAs e)) → any_true (map (speaks subjects.Bucket) (map (λ p. p.0) xs)) ≡ list_any (λ b. b) (map has_parameter (map (λ p. p.0) xs))
-all_speak [] = refl
-all_speak (x ∷ xs) = λ i. x.1 i || all_speak xs i
-
-layer_same : (y : Expr-F ((e : Expr) × SpeaksAs e))
-    → layer_speaks subjects.Bucket (map-Expr Expr Bool (speaks subjects.Bucket) (map-Expr ((e : Expr) × SpeaksAs e) Expr (λ p. p.0) y))
-    ≡ layer_finds (λ name. true) false (map-Expr Expr Bool has_parameter (map-Expr ((e : Expr) × SpeaksAs e) Expr (λ p. p.0) y))
-layer_same layers.Null = refl
-layer_same (layers.Number n) = refl
-layer_same (layers.Text t) = refl
-layer_same (layers.Column name) = refl
-layer_same (layers.Bucket name) = refl
-layer_same layers.UserId = refl
-layer_same layers.Jwt = refl
-layer_same layers.Parameters = refl
-layer_same (layers.Call function arguments) = all_speak arguments
-layer_same (layers.CastText of) = of.1
-layer_same (layers.Not of) = of.1
-layer_same (layers.IsNull of negated) = of.1
-layer_same (layers.Two operator left right) = λ i. left.1 i || right.1 i
-
-rolled_same : (y : Expr-F ((e : Expr) × SpeaksAs e)) → SpeaksAs (roll-Expr (map-Expr ((e : Expr) × SpeaksAs e) Expr (λ p. p.0) y))
-rolled_same y = let layer = map-Expr ((e : Expr) × SpeaksAs e) Expr (λ p. p.0) y in
-    speaks_rolled layer ∙ layer_same y ∙ sym (has_rolled (λ name. true) layer)
-
-speaks_as : (e : Expr) → SpeaksAs e
-speaks_as = ind-Expr SpeaksAs (λ x y is. subst (λ (z : Expr-F Expr). SpeaksAs (roll-Expr z)) is (rolled_same y))
-
-pub speaks_not : (e : Expr) → has_parameter e ≡ false → speaks subjects.Bucket e ≡ false
-speaks_not e h = speaks_as e ∙ h
 
 -- ---- the matches of a condition
 
@@ -69,6 +24,10 @@ pub record IsPlain (test : List ℕ → Bool) (m : Match) : Type 0 where
 
 abbrev pub ArePlain : (List ℕ → Bool) → List Branch → Type 0
 ArePlain test branches = (b : Branch) (m : Match) → Has branches b → Has b.matches m → IsPlain test m
+
+has_rolled : (test : List ℕ → Bool) (layer : Expr-F Expr) → finds test false (roll-Expr layer) ≡ layer_finds test false (map-Expr Expr Bool (finds test false) layer)
+unfolding finds
+has_rolled test layer = fold-roll-Expr Bool (layer_finds test false) layer
 
 finds-Two : (test : List ℕ → Bool) (operator : Operator) (left right : Expr) → finds test false (exprs.Two operator left right) ≡ (finds test false left || finds test false right)
 unfolding finds

@@ -8,13 +8,14 @@ use Rattle.ps_values.specs.declared.values.Value.{Value}
 use Rattle.ps_values.specs.Values.{equal_sql, truth_of}
 use Rattle.ps_sql.specs.declared.expressions.Expr.{Expr}
 use Rattle.ps_sql.specs.Meaning.{Given, is_true, array_of, holds}
+use Rattle.ps_sql.specs.Subjects.{IsSameForEveryBucket}
 use Rattle.ps_rules.specs.declared.matches.Match.{Match}
 use Rattle.ps_rules.specs.declared.branches.Branch.{Branch}
 use Rattle.ps_rules.specs.declared.queries.Planned.{Planned}
 use Rattle.ps_rules.specs.Names.{is_in, has_repeated}
 use Rattle.ps_rules.specs.Branches.{has_parameter, mentions, branches_of}
 use Rattle.ps_rules.specs.Checks.{in_condition, is_bound}
-use Rattle.ps_rules.specs.Laws.{SameTest, HoldsWhereMet, VectorDoesNotMatter}
+use Rattle.ps_rules.specs.Laws.{SameTest, HoldsWhereMet}
 use Rattle.ps_rules.specs.Meeting.{is_among, allows, meets, meets_some}
 use Rattle.ps_rules.specs.RuleSets.{IsSoundQuery}
 use Rattle.ps_rules.specs.Vectors.{vector_at}
@@ -34,7 +35,7 @@ pub record BranchLaws : Type 0 where
   pub spread : SpreadLaws
   pub same_test : SameTest
   pub where_met : HoldsWhereMet
-  pub vector : VectorDoesNotMatter
+  pub vector : IsSameForEveryBucket
 
 -- ---- what the checks of a query say of its branches
 
@@ -87,10 +88,10 @@ module _ (laws : BranchLaws) (id : List ℕ) (row : List Column) where
 
   -- a match allows a vector where it permits the value of its parameter
   allows_as : (bucket : List ℕ → Value) (m : Match) → has_parameter m.other ≡ false → allows (over id row bucket) m ≡ permits here m (bucket m.name)
-  allows_as bucket m h = ap (λ w. if m.listed then is_among (bucket m.name) (array_of w) else is_true (equal_sql (bucket m.name) w)) (laws.vector here bucket m.other h)
+  allows_as bucket m h = ap (λ w. if m.listed then is_among (bucket m.name) (array_of w) else is_true (equal_sql (bucket m.name) w)) (sym (laws.vector m.other here bucket h))
 
   leaf_as : (bucket : List ℕ → Value) (e : Expr) → has_parameter e ≡ false → holds (over id row bucket) (Some e) ≡ holds here (Some e)
-  leaf_as bucket e h = ap (λ w. is_true (truth_of w)) (laws.vector here bucket e h)
+  leaf_as bucket e h = ap (λ w. is_true (truth_of w)) (sym (laws.vector e here bucket h))
 
   rest_as : (bucket : List ℕ → Value) (es : List Expr) → list_any (λ (e : Expr). has_parameter e) es ≡ false → list_all (λ (e : Expr). holds (over id row bucket) (Some e)) es ≡ all_hold here es
   rest_as bucket [] h = refl

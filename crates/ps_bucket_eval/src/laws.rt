@@ -6,10 +6,8 @@ ghost use Rattle.ps_bucket_eval.specs.Entries.{RowOf, entries_of};
 ghost use Rattle.ps_bucket_eval.specs.Laws.{PlacedWhereItHolds, EntriesRise};
 ghost use Rattle.ps_bucket_eval.specs.Solving.{SolvesBuckets, HasPlainSides};
 
-use ps_rules::{
-    conditions_hold_where_a_branch_is_met, names_are_distinct, spread_as_written,
-    vectors_do_not_matter,
-};
+use ps_rules::{conditions_hold_where_a_branch_is_met, names_are_distinct, spread_as_written};
+use ps_sql::same_for_every_bucket;
 use ps_values::{compare_is_a_total_order, equal_where_both_are_present};
 
 /// A law: for every vector at all, a data query's condition holds on a row for which it shows an object exactly where the
@@ -20,7 +18,7 @@ pub fn entries_stand_where_conditions_hold()
 {
     conditions_hold_where_a_branch_is_met();
     spread_as_written();
-    vectors_do_not_matter();
+    same_for_every_bucket();
     compare_is_a_total_order();
     equal_where_both_are_present();
     names_are_distinct();
@@ -34,7 +32,7 @@ pub(crate) fn branches_are_solved()
 {
     conditions_hold_where_a_branch_is_met();
     spread_as_written();
-    vectors_do_not_matter();
+    same_for_every_bucket();
     compare_is_a_total_order();
     equal_where_both_are_present();
 }

@@ -15,13 +15,14 @@ use Rattle.ps_sql.specs.declared.expressions.Operator.{Operator}
 use Rattle.ps_sql.specs.declared.expressions.Operator.TheVariants as operators
 use Rattle.ps_sql.specs.declared.queries.Output.{Output}
 use Rattle.ps_sql.specs.Meaning.{Given, value_of, is_true, any_equals, array_of, holds}
+use Rattle.ps_sql.specs.Subjects.{IsSameForEveryBucket}
 use Rattle.ps_sql_eval.specs.Evaluated.{values_in, values_of_items}
 use Rattle.ps_rules.specs.declared.matches.Match.{Match}
 use Rattle.ps_rules.specs.declared.branches.Branch.{Branch}
 use Rattle.ps_rules.specs.declared.queries.Planned.{Planned}
 use Rattle.ps_rules.specs.Branches.{has_parameter, match_of_side, match_of_sides, match_of_layer, match_of, branch_with, leaf_branch, joined, crossed, branches_in, branches_of}
 use Rattle.ps_rules.specs.Checks.{is_bound}
-use Rattle.ps_rules.specs.Laws.{is_leaf_layer, is_leaf, EitherSide, BothSides, LeafAlone, SameTest, VectorDoesNotMatter}
+use Rattle.ps_rules.specs.Laws.{is_leaf_layer, is_leaf, EitherSide, BothSides, LeafAlone, SameTest}
 use Rattle.ps_rules.specs.Meeting.{is_among, allows, meets, meets_some}
 use Rattle.ps_rules.specs.RuleSets.{IsSoundQuery}
 use Rattle.ps_rules.specs.Vectors.{vector_at}
@@ -250,12 +251,12 @@ among_values law x (Some items) = by items where
   by no_items = refl
   by (item d ds) = ap (λ b. b || any_equals x ds) (equal_turned law (json_value d) x) ∙ ap (λ b. is_true (equal_sql x (json_value d)) || b) (by ds)
 
-module _ (law : IsEqualWherePresent) (free : VectorDoesNotMatter) (given : Given) (names : List (List ℕ)) (vector : List Value) where
+module _ (law : IsEqualWherePresent) (free : IsSameForEveryBucket) (given : Given) (names : List (List ℕ)) (vector : List Value) where
   abbrev at : Given
   at = record given { bucket = vector_at names vector }
 
   value_same : (e : Expr) → has_parameter e ≡ false → value_of at e ≡ value_of given e
-  value_same e h = free given (vector_at names vector) e h
+  value_same e h = sym (free e given (vector_at names vector) h)
 
   leaves_same : (es : List Expr) → list_any has_parameter es ≡ false → list_all (λ (e : Expr). holds at (Some e)) es ≡ list_all (λ (e : Expr). holds given (Some e)) es
   leaves_same [] h = refl
@@ -278,7 +279,7 @@ module _ (law : IsEqualWherePresent) (free : VectorDoesNotMatter) (given : Given
   branch_same b unbound = λ i. matches_same b.matches unbound.matches i && leaves_same b.rest unbound.rest i
 
 -- where all other leaves hold, some vector meets a branch exactly where all matches allow one; else none does
-module _ (law : IsEqualWherePresent) (free : VectorDoesNotMatter) (given : Given) (names : List (List ℕ)) (vectors : List (List Value)) (b : Branch) (unbound : IsUnbound b) where
+module _ (law : IsEqualWherePresent) (free : IsSameForEveryBucket) (given : Given) (names : List (List ℕ)) (vectors : List (List Value)) (b : Branch) (unbound : IsUnbound b) where
   abbrev meets_by : List Value → Bool
   meets_by vector = meets (record given { bucket = vector_at names vector }) b
 

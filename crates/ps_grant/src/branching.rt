@@ -15,11 +15,8 @@ ghost use Rattle.ps_sql.specs.Vectors.{at_row};
 use crate::solving::{Allowed, all_allow as allow, allowed_by_all, solve};
 use crate::vectors::VectorSet;
 use ps_changes::Row;
-use ps_rules::{
-    Branch, Planned, conditions_hold_where_a_branch_is_met, spread_as_written,
-    vectors_do_not_matter,
-};
-use ps_sql::Expr;
+use ps_rules::{Branch, Planned, conditions_hold_where_a_branch_is_met, spread_as_written};
+use ps_sql::{Expr, same_for_every_bucket};
 use ps_sql_eval::{Asker, holds};
 use ps_values::{
     Items, Memory, Text, Value, compare_is_a_total_order, equal_where_both_are_present,
@@ -92,7 +89,7 @@ fn branch_is_met(
     ensures { IfOk result (λ met. met ≡ list_any (λ vector. meets (given_for (asker_of asker.now) names.now (at_row id.now row.now) vector) branch.now) vectors.now) }
 {
     equal_where_both_are_present();
-    vectors_do_not_matter();
+    same_for_every_bucket();
     if !all_hold(alloc, branch.rest.as_slice(), asker, id, row)? {
         return Ok(false);
     }

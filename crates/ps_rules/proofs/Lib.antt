@@ -4,7 +4,6 @@ mod DefinitionNames
 pub mod Drafted
 pub mod Finds
 pub mod FoundRules
-pub mod Independence
 pub mod Kept
 pub mod Meetings
 pub mod NameLaws

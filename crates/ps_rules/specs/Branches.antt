@@ -8,6 +8,8 @@ use Rattle.ps_sql.specs.declared.expressions.Expr.TheOpen as layers
 use Rattle.ps_sql.specs.declared.expressions.Expr.TheVariants as exprs
 use Rattle.ps_sql.specs.declared.expressions.Operator.{Operator}
 use Rattle.ps_sql.specs.declared.expressions.Operator.TheVariants as operators
+use Rattle.ps_sql.specs.declared.subjects.Subject.TheVariants as subjects
+use Rattle.ps_sql.specs.Subjects.{speaks}
 use Rattle.ps_rules.specs.declared.matches.Match.{Match}
 use Rattle.ps_rules.specs.declared.branches.Branch.{Branch}
 
@@ -33,7 +35,7 @@ mentions test expr = finds test false expr
 
 -- a parameter stands in it
 abbrev pub has_parameter : Expr → Bool
-has_parameter expr = mentions (λ name. true) expr
+has_parameter expr = speaks subjects.Bucket expr
 
 -- `request.parameters()` stands in it
 abbrev pub asks_parameters : Expr → Bool

@@ -9,11 +9,11 @@ use Rattle.ps_sql.specs.declared.expressions.Expr.TheOpen as layers
 use Rattle.ps_sql.specs.declared.expressions.Expr.TheVariants as exprs
 use Rattle.ps_sql.specs.declared.expressions.Operator.{Operator}
 use Rattle.ps_sql.specs.declared.expressions.Operator.TheVariants as operators
-use Rattle.ps_sql.specs.Meaning.{Given, Holds, value_of, holds}
+use Rattle.ps_sql.specs.Meaning.{Given, Holds, holds}
 use Rattle.ps_rules.specs.declared.matches.Match.{Match}
 use Rattle.ps_rules.specs.Names.{is_definition_name}
 use Rattle.ps_rules.specs.Buckets.{bucket_name_of}
-use Rattle.ps_rules.specs.Branches.{branches_in, branches_of, crossed, leaf_branch, has_parameter}
+use Rattle.ps_rules.specs.Branches.{branches_in, branches_of, crossed, leaf_branch}
 use Rattle.ps_rules.specs.Meeting.{allows, meets_some}
 
 abbrev pub is_either : Operator → Bool
@@ -56,10 +56,6 @@ SameTest = (given : Given) (condition : Option Expr) → holds given condition �
 -- Null is never allowed for a parameter
 abbrev pub NullIsNotAllowed : Type 0
 NullIsNotAllowed = (given : Given) (m : Match) → given.bucket m.name ≡ Null → allows given m ≡ false
-
--- an expression without a parameter has the same value for each vector
-abbrev pub VectorDoesNotMatter : Type 0
-VectorDoesNotMatter = (given : Given) (vector : List ℕ → Value) (expr : Expr) → has_parameter expr ≡ false → value_of (record given { bucket = vector }) expr ≡ value_of given expr
 
 -- an integer has signed 64 bits
 abbrev pub IsSqlValue : Value → Type 0

@@ -9,16 +9,17 @@ ghost use Rattle.ps_rules.specs.declared.matches.Match.{Match as MatchData};
 ghost use Rattle.ps_rules.specs.declared.warnings.Warning.{Warning as WarningData};
 ghost use Rattle.ps_rules.specs.Faults.{Reads, sql, placed_fault};
 ghost use Rattle.ps_rules.specs.Names.{is_in, are_in, has_repeated, output_names};
-ghost use Rattle.ps_rules.specs.Branches.{mentions, has_parameter as has_a_parameter, asks_parameters as asks};
+ghost use Rattle.ps_rules.specs.Branches.{mentions, has_parameter, asks_parameters as asks};
 ghost use Rattle.ps_rules.specs.Checks.{some_expr, in_condition, names_of, is_mixed as mixes, has_no_id as lacks_id, has_unknown as knows_not, has_many_branches as has_many, is_bound as binds, is_matched as matches_all, client_warning, known_by, known_with, all_known, planned_with, planned_from, planned_of, all_planned, data_warning, checked_of};
 
 use crate::drafts::{Checked, Draft, Known, Written};
 use crate::name_sets::NameSet;
 use crate::spreading::{MOST_BRANCHES, branches_of, count_branches};
-use crate::walks::{any_has_parameter, asks_parameters, has_parameter, has_unknown};
+use crate::walks::{asks_parameters, has_unknown};
 use crate::{Branch, Definition, Match, Planned, RulesFault, Warning, WarningKind};
 use ps_sql::{
-    DataQuery, Expr, Output, ParameterQuery, SqlFault, read_data_query, read_parameter_query,
+    DataQuery, Expr, Output, ParameterQuery, SqlFault, Subject, read_data_query,
+    read_parameter_query,
 };
 use ps_values::{Items, Memory, Text};
 use std::alloc::Global;
@@ -185,6 +186,13 @@ fn matched_names(alloc: Global, matches: &[Match]) -> Result<NameSet, Memory>
     Ok(names)
 }
 
+// Whether a parameter stands in one of the expressions.
+fn any_has_parameter(all: &[Expr]) -> bool
+    ensures { result ≡ list_any (λ (e : ExprData). has_parameter e) all.now }
+{
+    all.iter().any(|one| one.speaks_of(Subject::Bucket))
+}
+
 // Whether each parameter is matched in a branch, and stands in none of its other leaves.
 fn is_bound(alloc: Global, names: &NameSet, branch: &Branch) -> Result<bool, Memory>
     ensures { IfOk result (λ bound. bound ≡ binds names.now branch.now) }
@@ -210,9 +218,11 @@ fn are_bound(alloc: Global, names: &NameSet, branches: &[Branch]) -> Result<bool
 
 // Whether a parameter stands in an output.
 fn has_parameter_in(outputs: &[Output]) -> bool
-    ensures { result ≡ list_any (λ (o : OutputData). has_a_parameter o.expr) outputs.now }
+    ensures { result ≡ list_any (λ (o : OutputData). has_parameter o.expr) outputs.now }
 {
-    outputs.iter().any(|output| has_parameter(&output.expr))
+    outputs
+        .iter()
+        .any(|output| output.expr.speaks_of(Subject::Bucket))
 }
 
 // ---- parameter queries

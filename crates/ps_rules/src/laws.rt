@@ -1,6 +1,6 @@
 //! The laws of branches and of buckets' names. Each is the contract of a function that does nothing.
 
-ghost use Rattle.ps_rules.specs.Laws.{EitherSide, BothSides, LeafAlone, HoldsWhereMet, SameTest, NullIsNotAllowed, VectorDoesNotMatter, NamesDiffer};
+ghost use Rattle.ps_rules.specs.Laws.{EitherSide, BothSides, LeafAlone, HoldsWhereMet, SameTest, NullIsNotAllowed, NamesDiffer};
 
 use ps_values::equal_where_both_are_present;
 
@@ -24,11 +24,6 @@ pub fn conditions_hold_where_a_branch_is_met()
 /// A law: no match allows Null.
 pub fn null_is_not_allowed()
     ensures { NullIsNotAllowed }
-{}
-
-/// A law: an expression in which no parameter stands has one value for all vectors.
-pub fn vectors_do_not_matter()
-    ensures { VectorDoesNotMatter }
 {}
 
 /// A law: different pairs of a definition's name and a vector give different names of buckets.

@@ -25,7 +25,7 @@ pub use definitions::Definition;
 pub use faults::RulesFault;
 pub use laws::{
     conditions_hold_where_a_branch_is_met, names_are_distinct, null_is_not_allowed,
-    spread_as_written, vectors_do_not_matter,
+    spread_as_written,
 };
 pub use matches::Match;
 pub use naming::{bucket_name, have_64_bits};

@@ -5,9 +5,8 @@ ghost use Rattle.ps_rules.specs.declared.branches.Branch.{Branch as BranchData};
 ghost use Rattle.ps_rules.specs.Branches.{match_of as match_in, match_of_side, match_of_sides, leaf_branch, joined, crossed, branches_in, branches_of as branches_in_condition};
 ghost use Rattle.ps_rules.specs.Laws.{is_leaf as stands_alone, is_spread, is_either};
 
-use crate::walks::has_parameter;
 use crate::{Branch, Match};
-use ps_sql::{Expr, Operator};
+use ps_sql::{Expr, Operator, Subject};
 use ps_values::{Items, Memory, copy_all, copy_behind};
 use std::alloc::Global;
 
@@ -85,7 +84,7 @@ fn match_of_one_side(
     let Expr::Bucket { name } = side else {
         return Ok(None);
     };
-    if has_parameter(other) {
+    if other.speaks_of(Subject::Bucket) {
         return Ok(None);
     }
     Ok(Some(Match {

@@ -4,47 +4,10 @@ ghost use Rattle.std.specs.Prelude.{◌≡◌, not, map};
 ghost use Rattle.std.specs.List.{list_any};
 ghost use Rattle.ps_sql.specs.declared.expressions.Expr.{Expr as ExprData};
 ghost use Rattle.ps_rules.specs.Names.{is_in};
-ghost use Rattle.ps_rules.specs.Branches.{has_parameter as has_a_parameter, mentions, asks_parameters as asks};
+ghost use Rattle.ps_rules.specs.Branches.{mentions, asks_parameters as asks};
 
 use crate::name_sets::NameSet;
 use ps_sql::Expr;
-
-/// Whether a parameter stands in an expression.
-#[cycle(parameter)]
-#[tactic(auto, using(crate::proofs::Finds::found_in))]
-pub(crate) fn has_parameter(expr: &Expr) -> bool
-    ensures { result ≡ has_a_parameter expr.now }
-{
-    match expr {
-        Expr::Bucket { .. } => true,
-        Expr::Call { arguments, .. } => any_has_parameter(arguments.as_slice()),
-        Expr::CastText { of } | Expr::Not { of } | Expr::IsNull { of, .. } => {
-            has_parameter(of.get())
-        }
-        Expr::Two { left, right, .. } => has_parameter(left.get()) || has_parameter(right.get()),
-        Expr::Null
-        | Expr::Number(_)
-        | Expr::Text(_)
-        | Expr::Column { .. }
-        | Expr::UserId
-        | Expr::Jwt
-        | Expr::Parameters => false,
-    }
-}
-
-/// Whether a parameter stands in one of the expressions.
-#[cycle(parameter)]
-#[tactic(auto)]
-pub(crate) fn any_has_parameter(all: &[Expr]) -> bool
-    ensures { result ≡ list_any (λ (e : ExprData). has_a_parameter e) all.now }
-{
-    'all: for one in all {
-        if has_parameter(one) {
-            return true;
-        }
-    }
-    false
-}
 
 /// Whether a parameter stands in an expression that has none of the names.
 #[cycle(unknown)]

@@ -3,8 +3,8 @@ use crate::rules_faults::show_fault;
 use ps_rules::{
     Branch, Definition, Match, Planned, Rules, RulesFault, Warning, WarningKind,
     conditions_hold_where_a_branch_is_met, null_is_not_allowed, read_rules, spread_as_written,
-    vectors_do_not_matter,
 };
+use ps_sql::same_for_every_bucket;
 use ps_values::Memory;
 use std::alloc::{AllocError, Global};
 
@@ -154,11 +154,11 @@ fn show_match(out: &mut String, one: &Match) -> Result<(), AllocError> {
     show(out, &one.other)
 }
 
-/// Calls the laws of branches.
+/// Calls the laws of branches, and that of what has no parameter.
 pub fn laws(alloc: Global) -> Result<String, Memory> {
     spread_as_written();
     conditions_hold_where_a_branch_is_met();
     null_is_not_allowed();
-    vectors_do_not_matter();
+    same_for_every_bucket();
     Ok(String::from_str(alloc, "called")?)
 }

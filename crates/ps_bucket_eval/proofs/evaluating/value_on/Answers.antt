@@ -2,11 +2,7 @@ use Rattle.std.proofs.Common.{ap, ◌∙◌, ℕ, List}
 use Rattle.ps_values.specs.declared.values.Value.TheVariants.{Null}
 use Rattle.ps_sql.specs.Meaning.{Asker, value_of}
 use Rattle.ps_sql_eval.specs.Evaluated.{given_of}
-use Rattle.ps_bucket_eval.proofs.Sides.{speaks_not}
 use Rattle.ps_bucket_eval.proofs.evaluating.value_on.Goals as goal
-
-pub eval_request-requires : goal.eval_request-requires
-eval_request-requires c = speaks_not c.args.expr.now c.requires
 
 pub returns : goal.returns
 returns c =

@@ -13,6 +13,6 @@ returns c =
       spread = spread;
       same_test = c.conditions_hold_where_a_branch_is_met.ensures.same;
       where_met = c.conditions_hold_where_a_branch_is_met.ensures.holds;
-      vector = c.vectors_do_not_matter.ensures;
+      vector = c.same_for_every_bucket.ensures;
     } in
     record { solved = solves laws; plain = plain_sides laws }

@@ -14,7 +14,7 @@ returns c =
       spread = spread;
       same_test = c.conditions_hold_where_a_branch_is_met.ensures.same;
       where_met = c.conditions_hold_where_a_branch_is_met.ensures.holds;
-      vector = c.vectors_do_not_matter.ensures;
+      vector = c.same_for_every_bucket.ensures;
     } in
     record {
       placed = λ rules source are. placed_where_holds laws c.names_are_distinct.ensures rules source are;

@@ -13,7 +13,7 @@ use Rattle.ps_grant.proofs.branching.branch_is_met.Goals as goal
 pub returns-then-not-branch : goal.returns-then-not-branch
 returns-then-not-branch c =
     let given : Given = without_bucket c.args.asker.now c.args.id.now c.args.row.now in
-    met_nowhere c.equal_where_both_are_present.ensures c.vectors_do_not_matter.ensures given c.args.names.now c.args.vectors.now c.args.branch.now c.requires.unbound
+    met_nowhere c.equal_where_both_are_present.ensures c.same_for_every_bucket.ensures given c.args.names.now c.args.vectors.now c.args.branch.now c.requires.unbound
     (ap (λ (es : List Expr). list_all (λ (e : Expr). holds given (Some e)) es) (sym c.as_slice.ensures) ∙ sym c.in_ok-all_hold.ensures ∙ c.if-not-branch.true)
 
 pub returns : goal.returns
@@ -24,5 +24,5 @@ returns c =
     subst (λ b. IfOk c.some_allowed.result (λ met. met ≡ b))
     (ap (λ (all : List Allowed). list_any (all_allow c.args.names.now all) c.args.vectors.now)
     (c.as_slice-3.ensures ∙ c.in_ok-all.ensures ∙ ap (λ (ms : List Match). map (allowed_by given) ms) c.as_slice-2.ensures)
-    ∙ met_where_allowed c.equal_where_both_are_present.ensures c.vectors_do_not_matter.ensures given c.args.names.now c.args.vectors.now c.args.branch.now c.requires.unbound rest)
+    ∙ met_where_allowed c.equal_where_both_are_present.ensures c.same_for_every_bucket.ensures given c.args.names.now c.args.vectors.now c.args.branch.now c.requires.unbound rest)
     c.some_allowed.ensures
