@@ -1,11 +1,14 @@
 -- The turns of the reading of outputs.
-use Rattle.std.proofs.Common.{◌≡◌, ℕ, zero, suc, ◌-◌, ◌<◌, List, length, refl, ap, subst, arith}
+use Rattle.std.proofs.Common.{◌≡◌, ℕ, zero, suc, ◌-◌, ◌<◌, List, length, refl, ap, sym, ◌∙◌, subst, arith}
 use Rattle.std.specs.Prelude.{Result, Ok, Err, OnOk, IfOk, if◌then◌else◌}
 use Rattle.ps_sql.specs.declared.words.Mark.TheVariants as marks
 use Rattle.ps_sql.specs.declared.contexts.Context.{Context}
 use Rattle.ps_sql.specs.declared.contexts.Listed.{Listed}
-use Rattle.ps_sql.specs.Inputs.{Input, ◌>>=◌, next, past, is_mark, refusal}
-use Rattle.ps_sql.specs.Queries.{item, items, parameter_query, data_query}
+use Rattle.ps_sql.specs.declared.contexts.Body.{Body}
+use Rattle.ps_sql.specs.declared.contexts.Scope.TheVariants as scopes
+use Rattle.ps_sql.specs.declared.words.Keyword.TheVariants as keywords
+use Rattle.ps_sql.specs.Inputs.{Input, ◌>>=◌, next, past, is_mark, refusal, expect_keyword}
+use Rattle.ps_sql.specs.Queries.{item, items, outputs, condition, finish, body, parameters_of, scope_of, table_clause, data_of, source, parameter_query, data_query}
 use Rattle.ps_sql.specs.SpelledQueries.{IsParameterQuery, IsDataQuery}
 use Rattle.ps_sql.specs.declared.queries.ParameterQuery.{ParameterQuery}
 use Rattle.ps_sql.specs.declared.queries.DataQuery.{DataQuery}
@@ -33,6 +36,42 @@ items_turn (suc turns) context limit listed input e = ap (λ n. item context lim
     if is_mark marks.Comma (next x.1) then items n context limit x.0 (past 1 x.1) else Ok x) (omega arith)
 
 pub ruleset items_laws = (items_none, items_turn)
+
+-- steps, one behind the other
+
+same_steps : {A B : Type 0} (m : Result A SqlFault) (f g : A → Result B SqlFault) → ((x : A) → f x ≡ g x) → (m >>= f) ≡ (m >>= g)
+same_steps (Ok x) f g h = h x
+same_steps (Err fault) f g h = refl
+
+grouped : {A B C : Type 0} (m : Result A SqlFault) (f : A → Result B SqlFault) (g : B → Result C SqlFault) → ((m >>= f) >>= g) ≡ (m >>= λ x. f x >>= g)
+grouped (Ok x) f g = refl
+grouped (Err fault) f g = refl
+
+-- a query's last three steps, as one
+body_then : {X : Type 0} (context : Context) (limit : ℕ) (start input : Input) (build : Body → X)
+    → (outputs context limit start >>= λ listed. condition context limit input >>= λ filter. finish filter.1 >>= λ rest. Ok (build (record { listed = listed.0; condition = filter.0 })))
+    ≡ (body context limit start input >>= λ read. Ok (build read.0))
+unfolding body
+body_then context limit start input build = sym (grouped (outputs context limit start) _ _ ∙ same_steps (outputs context limit start) _ _
+    (λ listed. grouped (condition context limit input) _ _ ∙ same_steps (condition context limit input) _ _ (λ filter. grouped (finish filter.1) _ _)))
+
+pub parameter_parts : (limit : ℕ) (input : Input) → parameter_query limit input ≡ (expect_keyword keywords.Select input >>= λ start.
+    outputs (parameters_of scopes.Any) limit start >>= λ ahead. table_clause ahead.1 >>= λ table. body (parameters_of (scope_of table.0)) limit start table.1 >>= λ read.
+    Ok (record { outputs = read.0.listed.outputs; table = table.0; condition = read.0.condition }))
+unfolding parameter_query
+parameter_parts limit input = same_steps (expect_keyword keywords.Select input) _ _ (λ start. same_steps (outputs (parameters_of scopes.Any) limit start) _ _
+    (λ ahead. same_steps (table_clause ahead.1) _ _ (λ table. body_then (parameters_of (scope_of table.0)) limit start table.1
+    (λ read. record { outputs = read.listed.outputs; table = table.0; condition = read.condition }))))
+
+pub data_parts : (limit : ℕ) (input : Input) → data_query limit input ≡ (expect_keyword keywords.Select input >>= λ start.
+    outputs (data_of scopes.Any) limit start >>= λ ahead. source ahead.1 >>= λ from. body (data_of (scopes.Of from.0.kind)) limit start from.1 >>= λ read.
+    Ok (record { star = read.0.listed.star; outputs = read.0.listed.outputs; table = from.0.table; kind = from.0.kind; condition = read.0.condition }))
+unfolding data_query
+data_parts limit input = same_steps (expect_keyword keywords.Select input) _ _ (λ start. same_steps (outputs (data_of scopes.Any) limit start) _ _
+    (λ ahead. same_steps (source ahead.1) _ _ (λ from. body_then (data_of (scopes.Of from.0.kind)) limit start from.1
+    (λ read. record { star = read.listed.star; outputs = read.listed.outputs; table = from.0.table; kind = from.0.kind; condition = read.condition }))))
+
+pub ruleset parts = (parameter_parts, data_parts)
 
 some_reading : {X : Type 0} (text : List ℕ) (lexemes : List Lexeme) (answer : Result X SqlFault) → AreLexemes 0 text lexemes → OnOk answer ((xs : List Lexeme) × AreLexemes 0 text xs)
 some_reading text lexemes (Ok x) are = (lexemes, are)

@@ -12,6 +12,7 @@ use Rattle.ps_sql.specs.declared.contexts.Scope.TheVariants as scopes
 use Rattle.ps_sql.specs.declared.contexts.Context.{Context}
 use Rattle.ps_sql.specs.declared.contexts.Listed.{Listed}
 use Rattle.ps_sql.specs.declared.contexts.Source.{Source}
+use Rattle.ps_sql.specs.declared.contexts.Body.{Body}
 use Rattle.ps_sql.specs.declared.faults.SqlFault.{SqlFault}
 use Rattle.ps_sql.specs.declared.faults.SqlFault.TheVariants as faults
 use Rattle.ps_sql.specs.Inputs.{Input, ◌>>=◌, next, here, past, is_mark, is_keyword, name_of, refusal, expect_keyword, expect_name}
@@ -67,6 +68,14 @@ behind_semicolon input = if is_mark marks.Semicolon (next input) then past 1 inp
 -- nothing is left but a `;`
 unfoldable pub finish : Input → Result Input SqlFault
 finish input = let rest = behind_semicolon input in if is_some (next rest) then Err (refusal rest) else Ok rest
+
+-- the outputs, and from another place on the condition and the end
+unfoldable pub body : Context → ℕ → Input → Input → Result (Body × Input) SqlFault
+body context limit start input = do
+  listed ← outputs context limit start
+  filter ← condition context limit input
+  rest ← finish filter.1
+  Ok (record { listed = listed.0; condition = filter.0 }, rest)
 
 -- the table of a parameter query
 

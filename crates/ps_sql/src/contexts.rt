@@ -57,3 +57,10 @@ pub struct Source {
     /// The alias, or the table where there is none.
     pub kind: Text,
 }
+
+/// What a query lists, and the condition behind its table.
+#[derive(Debug, Drop)]
+pub struct Body {
+    pub listed: Listed,
+    pub condition: Option<Expr>,
+}

@@ -6,9 +6,9 @@ ghost use Rattle.ps_sql.specs.SpelledQueries.{IsDataQuery, IsParameterQuery};
 ghost use Rattle.ps_sql.specs.Inputs.{next};
 ghost use Rattle.ps_sql.specs.Lexemes.{AreLexemes, Stops};
 ghost use Rattle.ps_sql.specs.Readings.{parameter_query_of, data_query_of};
-ghost use Rattle.ps_sql.specs.Queries.{alias, begins_clause, condition, data_query, finish, item, items, nothing_listed, output, outputs, own_name, own_output, parameter_query, parameters_of, scope_of, source, table_clause};
+ghost use Rattle.ps_sql.specs.Queries.{alias, begins_clause, body, condition, data_of, data_query, finish, item, items, nothing_listed, output, outputs, own_name, own_output, parameter_query, parameters_of, scope_of, source, table_clause};
 
-use crate::contexts::{Context, Listed, Scope, Source};
+use crate::contexts::{Body, Context, Listed, Scope, Source};
 use crate::cursors::Cursor;
 use crate::grammars::expr;
 use crate::lexemes::lexemes;
@@ -206,6 +206,39 @@ fn source(alloc: Global, cursor: &mut Cursor<'_>) -> Result<Source, SqlFault>
     alias(alloc, table, cursor)
 }
 
+/// The outputs as they stand while nothing is known of the table: they tell where it is named.
+fn outputs_ahead(
+    alloc: Global,
+    is_data: bool,
+    limit: usize,
+    cursor: &mut Cursor<'_>,
+) -> Result<Listed, SqlFault>
+    ensures { ReadsOn result cursor.new (outputs (record { is_data = is_data; scope = Scope.Any }) limit cursor.old) }
+{
+    let any = Context {
+        is_data,
+        scope: Scope::Any,
+    };
+    outputs(alloc, &any, limit, cursor)
+}
+
+/// The outputs again, with what the table allows, and the condition and the end, which stand elsewhere.
+#[tactic(auto, unfolding(crate::specs::Queries::body))]
+fn body(
+    alloc: Global,
+    context: &Context,
+    limit: usize,
+    again: &mut Cursor<'_>,
+    cursor: &mut Cursor<'_>,
+) -> Result<Body, SqlFault>
+    ensures { ReadsOn result cursor.new (body context.now limit again.old cursor.old) }
+{
+    let listed = outputs(alloc, context, limit, again)?;
+    let condition = condition(alloc, context, limit, cursor)?;
+    finish(cursor)?;
+    Ok(Body { listed, condition })
+}
+
 /// What a parameter query's columns may be.
 fn parameter_context(alloc: Global, table: &Option<Text>) -> Result<Context, Memory>
     ensures { IfOk result (λ context. context ≡ parameters_of (scope_of table.now)) }
@@ -221,7 +254,7 @@ fn parameter_context(alloc: Global, table: &Option<Text>) -> Result<Context, Mem
 }
 
 /// The words of a parameter query. The outputs are read once to find the table, and again with what it allows.
-#[tactic(auto, unfolding(crate::specs::Queries::parameter_query))]
+#[tactic(auto, using(crate::proofs::QueryLaws::parts))]
 fn parameter_query(
     alloc: Global,
     limit: usize,
@@ -231,16 +264,10 @@ fn parameter_query(
 {
     cursor.expect_keyword(Keyword::Select)?;
     let mut again = cursor.again();
-    let any = Context {
-        is_data: false,
-        scope: Scope::Any,
-    };
-    outputs(alloc, &any, limit, cursor)?;
+    outputs_ahead(alloc, false, limit, cursor)?;
     let table = table_clause(alloc, cursor)?;
     let context = parameter_context(alloc, &table)?;
-    let listed = outputs(alloc, &context, limit, &mut again)?;
-    let condition = condition(alloc, &context, limit, cursor)?;
-    finish(cursor)?;
+    let Body { listed, condition } = body(alloc, &context, limit, &mut again, cursor)?;
     Ok(ParameterQuery {
         outputs: listed.outputs,
         table,
@@ -248,31 +275,32 @@ fn parameter_query(
     })
 }
 
-/// The words of a data query.
-#[tactic(auto, unfolding(crate::specs::Queries::data_query))]
+/// What a data query's columns may be.
+fn data_context(alloc: Global, kind: &Text) -> Result<Context, Memory>
+    ensures { IfOk result (λ context. context ≡ data_of (Scope.Of kind.now)) }
+{
+    Ok(Context {
+        is_data: true,
+        scope: Scope::Of(kind.copy(alloc)?),
+    })
+}
+
+/// The words of a data query, whose outputs are read twice as those of a parameter query.
+#[tactic(auto, using(crate::proofs::QueryLaws::parts))]
 fn data_query(alloc: Global, limit: usize, cursor: &mut Cursor<'_>) -> Result<DataQuery, SqlFault>
     ensures { Reads result (data_query limit cursor.old) }
 {
     cursor.expect_keyword(Keyword::Select)?;
     let mut again = cursor.again();
-    let any = Context {
-        is_data: true,
-        scope: Scope::Any,
-    };
-    outputs(alloc, &any, limit, cursor)?;
-    let Source { table, kind } = source(alloc, cursor)?;
-    let context = Context {
-        is_data: true,
-        scope: Scope::Of(kind.copy(alloc)?),
-    };
-    let Listed { star, outputs } = outputs(alloc, &context, limit, &mut again)?;
-    let condition = condition(alloc, &context, limit, cursor)?;
-    finish(cursor)?;
+    outputs_ahead(alloc, true, limit, cursor)?;
+    let from = source(alloc, cursor)?;
+    let context = data_context(alloc, &from.kind)?;
+    let Body { listed, condition } = body(alloc, &context, limit, &mut again, cursor)?;
     Ok(DataQuery {
-        star,
-        outputs,
-        table,
-        kind,
+        star: listed.star,
+        outputs: listed.outputs,
+        table: from.table,
+        kind: from.kind,
         condition,
     })
 }
