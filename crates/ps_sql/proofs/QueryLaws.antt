@@ -8,7 +8,7 @@ use Rattle.ps_sql.specs.declared.contexts.Body.{Body}
 use Rattle.ps_sql.specs.declared.contexts.Scope.TheVariants as scopes
 use Rattle.ps_sql.specs.declared.words.Keyword.TheVariants as keywords
 use Rattle.ps_sql.specs.Inputs.{Input, ◌>>=◌, next, past, is_mark, refusal, expect_keyword}
-use Rattle.ps_sql.specs.Queries.{item, items, outputs, condition, finish, body, parameters_of, scope_of, table_clause, data_of, source, parameter_query, data_query}
+use Rattle.ps_sql.specs.Queries.{item, items, outputs, condition, finish, ending, body, parameters_of, scope_of, table_clause, data_of, source, parameter_query, data_query}
 use Rattle.ps_sql.specs.SpelledQueries.{IsParameterQuery, IsDataQuery}
 use Rattle.ps_sql.specs.declared.queries.ParameterQuery.{ParameterQuery}
 use Rattle.ps_sql.specs.declared.queries.DataQuery.{DataQuery}
@@ -51,9 +51,10 @@ grouped (Err fault) f g = refl
 body_then : {X : Type 0} (context : Context) (limit : ℕ) (start input : Input) (build : Body → X)
     → (outputs context limit start >>= λ listed. condition context limit input >>= λ filter. finish filter.1 >>= λ rest. Ok (build (record { listed = listed.0; condition = filter.0 })))
     ≡ (body context limit start input >>= λ read. Ok (build read.0))
-unfolding body
+unfolding body ending
 body_then context limit start input build = sym (grouped (outputs context limit start) _ _ ∙ same_steps (outputs context limit start) _ _
-    (λ listed. grouped (condition context limit input) _ _ ∙ same_steps (condition context limit input) _ _ (λ filter. grouped (finish filter.1) _ _)))
+    (λ listed. grouped (ending context limit input) _ _ ∙ grouped (condition context limit input) _ _ ∙ same_steps (condition context limit input) _ _
+    (λ filter. grouped (finish filter.1) _ _)))
 
 pub parameter_parts : (limit : ℕ) (input : Input) → parameter_query limit input ≡ (expect_keyword keywords.Select input >>= λ start.
     outputs (parameters_of scopes.Any) limit start >>= λ ahead. table_clause ahead.1 >>= λ table. body (parameters_of (scope_of table.0)) limit start table.1 >>= λ read.

@@ -69,13 +69,19 @@ behind_semicolon input = if is_mark marks.Semicolon (next input) then past 1 inp
 unfoldable pub finish : Input → Result Input SqlFault
 finish input = let rest = behind_semicolon input in if is_some (next rest) then Err (refusal rest) else Ok rest
 
+-- the condition, and nothing behind it
+unfoldable pub ending : Context → ℕ → Input → Result (Option Expr × Input) SqlFault
+ending context limit input = do
+  filter ← condition context limit input
+  rest ← finish filter.1
+  Ok (filter.0, rest)
+
 -- the outputs, and from another place on the condition and the end
 unfoldable pub body : Context → ℕ → Input → Input → Result (Body × Input) SqlFault
 body context limit start input = do
   listed ← outputs context limit start
-  filter ← condition context limit input
-  rest ← finish filter.1
-  Ok (record { listed = listed.0; condition = filter.0 }, rest)
+  last ← ending context limit input
+  Ok (record { listed = listed.0; condition = last.0 }, last.1)
 
 -- the table of a parameter query
 

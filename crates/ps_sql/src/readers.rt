@@ -6,7 +6,7 @@ ghost use Rattle.ps_sql.specs.SpelledQueries.{IsDataQuery, IsParameterQuery};
 ghost use Rattle.ps_sql.specs.Inputs.{next};
 ghost use Rattle.ps_sql.specs.Lexemes.{AreLexemes, Stops};
 ghost use Rattle.ps_sql.specs.Readings.{parameter_query_of, data_query_of};
-ghost use Rattle.ps_sql.specs.Queries.{alias, begins_clause, body, condition, data_of, data_query, finish, item, items, nothing_listed, output, outputs, own_name, own_output, parameter_query, parameters_of, scope_of, source, table_clause};
+ghost use Rattle.ps_sql.specs.Queries.{alias, begins_clause, body, condition, data_of, data_query, ending, finish, item, items, nothing_listed, output, outputs, own_name, own_output, parameter_query, parameters_of, scope_of, source, table_clause};
 
 use crate::contexts::{Body, Context, Listed, Scope, Source};
 use crate::cursors::Cursor;
@@ -222,6 +222,21 @@ fn outputs_ahead(
     outputs(alloc, &any, limit, cursor)
 }
 
+/// The condition, if there is one, and the end.
+#[tactic(auto, unfolding(crate::specs::Queries::ending))]
+fn ending(
+    alloc: Global,
+    context: &Context,
+    limit: usize,
+    cursor: &mut Cursor<'_>,
+) -> Result<Option<Expr>, SqlFault>
+    ensures { ReadsOn result cursor.new (ending context.now limit cursor.old) }
+{
+    let condition = condition(alloc, context, limit, cursor)?;
+    finish(cursor)?;
+    Ok(condition)
+}
+
 /// The outputs again, with what the table allows, and the condition and the end, which stand elsewhere.
 #[tactic(auto, unfolding(crate::specs::Queries::body))]
 fn body(
@@ -234,8 +249,7 @@ fn body(
     ensures { ReadsOn result cursor.new (body context.now limit again.old cursor.old) }
 {
     let listed = outputs(alloc, context, limit, again)?;
-    let condition = condition(alloc, context, limit, cursor)?;
-    finish(cursor)?;
+    let condition = ending(alloc, context, limit, cursor)?;
     Ok(Body { listed, condition })
 }
 
@@ -253,6 +267,20 @@ fn parameter_context(alloc: Global, table: &Option<Text>) -> Result<Context, Mem
     })
 }
 
+/// What stands around the table of a parameter query.
+fn parameter_body(
+    alloc: Global,
+    table: &Option<Text>,
+    limit: usize,
+    again: &mut Cursor<'_>,
+    cursor: &mut Cursor<'_>,
+) -> Result<Body, SqlFault>
+    ensures { ReadsOn result cursor.new (body (parameters_of (scope_of table.now)) limit again.old cursor.old) }
+{
+    let context = parameter_context(alloc, table)?;
+    body(alloc, &context, limit, again, cursor)
+}
+
 /// The words of a parameter query. The outputs are read once to find the table, and again with what it allows.
 #[tactic(auto, using(crate::proofs::QueryLaws::parts))]
 fn parameter_query(
@@ -266,8 +294,7 @@ fn parameter_query(
     let mut again = cursor.again();
     outputs_ahead(alloc, false, limit, cursor)?;
     let table = table_clause(alloc, cursor)?;
-    let context = parameter_context(alloc, &table)?;
-    let Body { listed, condition } = body(alloc, &context, limit, &mut again, cursor)?;
+    let Body { listed, condition } = parameter_body(alloc, &table, limit, &mut again, cursor)?;
     Ok(ParameterQuery {
         outputs: listed.outputs,
         table,
@@ -285,6 +312,20 @@ fn data_context(alloc: Global, kind: &Text) -> Result<Context, Memory>
     })
 }
 
+/// What stands around the table of a data query.
+fn data_body(
+    alloc: Global,
+    kind: &Text,
+    limit: usize,
+    again: &mut Cursor<'_>,
+    cursor: &mut Cursor<'_>,
+) -> Result<Body, SqlFault>
+    ensures { ReadsOn result cursor.new (body (data_of (Scope.Of kind.now)) limit again.old cursor.old) }
+{
+    let context = data_context(alloc, kind)?;
+    body(alloc, &context, limit, again, cursor)
+}
+
 /// The words of a data query, whose outputs are read twice as those of a parameter query.
 #[tactic(auto, using(crate::proofs::QueryLaws::parts))]
 fn data_query(alloc: Global, limit: usize, cursor: &mut Cursor<'_>) -> Result<DataQuery, SqlFault>
@@ -294,8 +335,7 @@ fn data_query(alloc: Global, limit: usize, cursor: &mut Cursor<'_>) -> Result<Da
     let mut again = cursor.again();
     outputs_ahead(alloc, true, limit, cursor)?;
     let from = source(alloc, cursor)?;
-    let context = data_context(alloc, &from.kind)?;
-    let Body { listed, condition } = body(alloc, &context, limit, &mut again, cursor)?;
+    let Body { listed, condition } = data_body(alloc, &from.kind, limit, &mut again, cursor)?;
     Ok(DataQuery {
         star: listed.star,
         outputs: listed.outputs,
