@@ -39,6 +39,15 @@ output context limit input = do
   if is_keyword keywords.As (next x.1) then (expect_name (past 1 x.1) >>= λ name. Ok (record { name = name.0; expr = x.0 }, name.1))
       else (if is_mark marks.Comma (next x.1) || begins_clause x.1 then own_output input x.0 x.1 (own_name x.0) else Err (refusal x.1))
 
+abbrev pub own_or : ℕ → Input → Option (List ℕ) → Result (List ℕ × Input) SqlFault
+own_or start rest None = Err (faults.Unsupported start)
+own_or start rest (Some name) = Ok (name, rest)
+
+-- the name of an output that begins at a place, from what stands behind its expression
+unfoldable pub output_name : ℕ → Expr → Input → Result (List ℕ × Input) SqlFault
+output_name start value rest = if is_keyword keywords.As (next rest) then expect_name (past 1 rest)
+    else (if is_mark marks.Comma (next rest) || begins_clause rest then own_or start rest (own_name value) else Err (refusal rest))
+
 -- an output behind those that were read, or the one `*` of a data query
 unfoldable pub item : Context → ℕ → Listed → Input → Result (Listed × Input) SqlFault
 item context limit listed input = if (context.is_data && not listed.star) && is_mark marks.Star (next input)

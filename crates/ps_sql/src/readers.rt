@@ -6,7 +6,7 @@ ghost use Rattle.ps_sql.specs.SpelledQueries.{IsDataQuery, IsParameterQuery};
 ghost use Rattle.ps_sql.specs.Inputs.{next};
 ghost use Rattle.ps_sql.specs.Lexemes.{AreLexemes, Stops};
 ghost use Rattle.ps_sql.specs.Readings.{parameter_query_of, data_query_of};
-ghost use Rattle.ps_sql.specs.Queries.{alias, begins_clause, body, condition, data_of, data_query, ending, finish, item, items, nothing_listed, output, outputs, own_name, own_output, parameter_query, parameters_of, scope_of, source, table_clause};
+ghost use Rattle.ps_sql.specs.Queries.{alias, begins_clause, body, condition, data_of, data_query, ending, finish, item, items, nothing_listed, output, output_name, outputs, own_name, parameter_query, parameters_of, scope_of, source, table_clause};
 
 use crate::contexts::{Body, Context, Listed, Scope, Source};
 use crate::cursors::Cursor;
@@ -37,8 +37,31 @@ fn own_name_of(alloc: Global, value: &Expr) -> Result<Option<Text>, Memory>
     }
 }
 
+/// The name of an output that begins at `start`: what AS gives it, or its own.
+#[tactic(auto, unfolding(crate::specs::Queries::output_name))]
+fn output_name(
+    alloc: Global,
+    start: u32,
+    value: &Expr,
+    cursor: &mut Cursor<'_>,
+) -> Result<Text, SqlFault>
+    ensures { ReadsOn result cursor.new (output_name start value.now cursor.old) }
+{
+    if cursor.is_keyword(0, Keyword::As) {
+        cursor.skip(1);
+        return cursor.expect_name(alloc);
+    }
+    if !(cursor.is_mark(0, Mark::Comma) || is_clause_next(cursor)) {
+        return Err(cursor.refusal());
+    }
+    match own_name_of(alloc, value)? {
+        Some(name) => Ok(name),
+        None => Err(SqlFault::Unsupported { at: start }),
+    }
+}
+
 /// An output, with its name.
-#[tactic(auto, unfolding(crate::specs::Queries::output))]
+#[tactic(auto, using(crate::proofs::QueryLaws::output_parts))]
 fn output(
     alloc: Global,
     context: &Context,
@@ -47,20 +70,10 @@ fn output(
 ) -> Result<Output, SqlFault>
     ensures { ReadsOn result cursor.new (output context.now limit cursor.old) }
 {
-    let unsupported = cursor.unsupported();
+    let start = cursor.here();
     let value = expr(alloc, context, limit, limit, cursor)?;
-    if cursor.is_keyword(0, Keyword::As) {
-        cursor.skip(1);
-        let name = cursor.expect_name(alloc)?;
-        return Ok(Output { name, expr: value });
-    }
-    if !(cursor.is_mark(0, Mark::Comma) || is_clause_next(cursor)) {
-        return Err(cursor.refusal());
-    }
-    match own_name_of(alloc, &value)? {
-        Some(name) => Ok(Output { name, expr: value }),
-        None => Err(unsupported),
-    }
+    let name = output_name(alloc, start, &value, cursor)?;
+    Ok(Output { name, expr: value })
 }
 
 /// An output behind those that were read, or the one `*` of a data query.
