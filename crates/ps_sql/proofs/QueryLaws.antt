@@ -20,7 +20,7 @@ use Rattle.ps_sql.proofs.OnlyQueries.{parameter_query_reads, data_query_reads}
 use Rattle.ps_sql.specs.declared.words.Lexeme.{Lexeme}
 use Rattle.ps_sql.specs.declared.faults.SqlFault.{SqlFault}
 use Rattle.ps_sql.specs.declared.faults.SqlFault.TheVariants as faults
-use Rattle.ps_sql.specs.Answers.{Reads, AnswersLexemes, AnswersQuery, input_of, StopsAtToken}
+use Rattle.ps_sql.specs.Answers.{Reads, Fails, AnswersLexemes, AnswersQuery, input_of, StopsAtToken}
 use Rattle.ps_sql.specs.Lexemes.{AreLexemes}
 use Rattle.ps_sql.proofs.LexemeLaws.{same_lexemes, not_both, same_stop}
 
@@ -37,7 +37,39 @@ items_turn zero context limit listed input e = absurd (omega arith)
 items_turn (suc turns) context limit listed input e = ap (λ n. item context limit listed input >>= λ x.
     if is_mark marks.Comma (next x.1) then items n context limit x.0 (past 1 x.1) else Ok x) (omega arith)
 
-pub ruleset items_laws = (items_none, items_turn)
+-- a turn behind which there is a comma, the last turn, and one that fails
+pub items_on : (turns : ℕ) (context : Context) (limit : ℕ) (listed : Listed) (input : Input) (x : Listed × Input) (left : ℕ) (rest : Input) → 0 < turns
+    → item context limit listed input ≡ Ok x → is_mark marks.Comma (next x.1) ≡ true → left ≡ turns - 1 → rest ≡ past 1 x.1
+    → items turns context limit listed input ≡ items left context limit x.0 rest
+items_on turns context limit listed input x left rest some read comma fewer further = items_turn turns context limit listed input some
+    ∙ ap (λ m. m >>= go_on) read ∙ ap (λ b. cond b (items (turns - 1) context limit x.0 (past 1 x.1)) (Ok x)) comma
+    ∙ ap (λ n. items n context limit x.0 (past 1 x.1)) (sym fewer) ∙ ap (λ r. items left context limit x.0 r) (sym further) where
+      go_on : Listed × Input → Result (Listed × Input) SqlFault
+      go_on y = if is_mark marks.Comma (next y.1) then items (turns - 1) context limit y.0 (past 1 y.1) else Ok y
+
+pub items_last : (turns : ℕ) (context : Context) (limit : ℕ) (listed : Listed) (input : Input) (x : Listed × Input) → 0 < turns
+    → item context limit listed input ≡ Ok x → is_mark marks.Comma (next x.1) ≡ false → items turns context limit listed input ≡ Ok x
+items_last turns context limit listed input x some read comma = items_turn turns context limit listed input some
+    ∙ ap (λ m. m >>= go_on) read ∙ ap (λ b. cond b (items (turns - 1) context limit x.0 (past 1 x.1)) (Ok x)) comma where
+      go_on : Listed × Input → Result (Listed × Input) SqlFault
+      go_on y = if is_mark marks.Comma (next y.1) then items (turns - 1) context limit y.0 (past 1 y.1) else Ok y
+
+fails_on : {A B : Type 0} (fault : SqlFault) (m : Result A SqlFault) (f : A → Result B SqlFault) → Fails fault m → Fails fault (m >>= f)
+fails_on faults.Memory m f fails = tt
+fails_on (faults.BadToken at) m f fails = ap (λ r. r >>= f) fails
+fails_on (faults.Unexpected at) m f fails = ap (λ r. r >>= f) fails
+fails_on (faults.Unsupported at) m f fails = ap (λ r. r >>= f) fails
+
+pub fails_as : {B : Type 0} (meant : Result B SqlFault) (fault : SqlFault) → meant ≡ Err fault → Fails fault meant
+fails_as meant faults.Memory e = tt
+fails_as meant (faults.BadToken at) e = e
+fails_as meant (faults.Unexpected at) e = e
+fails_as meant (faults.Unsupported at) e = e
+
+pub items_fail : (turns : ℕ) (context : Context) (limit : ℕ) (listed : Listed) (input : Input) (fault : SqlFault) (meant : Result (Listed × Input) SqlFault)
+    → meant ≡ items turns context limit listed input → 0 < turns → Fails fault (item context limit listed input) → Fails fault meant
+items_fail turns context limit listed input fault meant same some fails =
+    subst (Fails fault) (sym (same ∙ items_turn turns context limit listed input some)) (fails_on fault (item context limit listed input) _ fails)
 
 -- steps, one behind the other
 

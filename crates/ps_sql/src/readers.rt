@@ -101,7 +101,7 @@ fn item(
 }
 
 /// Outputs with commas between them.
-#[tactic(auto, using(crate::proofs::QueryLaws::items_laws))]
+#[tactic(auto)]
 fn items(
     alloc: Global,
     context: &Context,
