@@ -1,6 +1,6 @@
 -- What is written is spelled by the grammar, holds no float and nests little: so it is read again.
 use Rattle.std.proofs.Common.{◌≡◌, ◌≢◌, ℕ, suc, ◌+◌, ◌<◌, ◌≤◌, ◌^◌, ℤ, pos, negsuc, Bool, true, false, List, [], ◌∷◌, ◌++◌, Option, Some, None, Ok, length, get_or, take, drop, map, codes, Ordering, Less, Greater, refl, sym, ap, ◌∙◌, arith, add-one, subst, lt-ltb}
-use Rattle.std.specs.Prelude.{not, ◌&&◌, ◌≤ℤ◌}
+use Rattle.std.specs.Prelude.{not, ◌&&◌, ◌≤ℤ◌, decimal, IfSome}
 use Rattle.std.specs.List.{All}
 use Rattle.std.specs.Str.{IsUtf8}
 use Rattle.std.specs.Ordering.{nat_cmp, is_lt, ordering_reverse}
@@ -11,7 +11,7 @@ use Rattle.std.proofs.lemmas.List.Elements.{All-head, All-tail}
 use Rattle.std.proofs.lemmas.Slice.Eq.{bytes_eq-Decides}
 use Rattle.std.proofs.lemmas.Str.{is_utf8-from_IsUtf8}
 use Rattle.std.proofs.lemmas.Int.{ints}
-use Rattle.serde_json.specs.Data.{Data as Json, number, member, put, depth, items_depth, members_depth}
+use Rattle.serde_json.specs.Data.{Data as Json, number, string, array, object, Members, no_members, member, put, depth, items_depth, members_depth}
 use Rattle.serde_json.specs.Find.{of_integer}
 use Rattle.serde_json.specs.Read.{read, max_depth}
 use Rattle.serde_json.specs.View.{items_of}
@@ -26,7 +26,7 @@ use Rattle.ps_changes.specs.Types.{Change, Transaction}
 use Rattle.ps_changes.specs.Rows.{is_id, rises_from, is_row}
 use Rattle.ps_changes.specs.Lines.{longest, line_of, lone_change_of}
 use Rattle.ps_changes.specs.Grammar.{AreColumns, no_columns, with_column, IsChange, AreChanges, no_changes, with_change, IsTransaction, IsTextOf}
-use Rattle.ps_changes.specs.Writing.{members_of, json_with, change_json, transaction_json, change_text, line_text, ReadsBack}
+use Rattle.ps_changes.specs.Writing.{members_of, with_row, IsWritable, json_with, change_json, transaction_json, change_text, line_text, ReadsBack}
 use Rattle.ps_changes.proofs.Spelling.{line_only, lone_change_only}
 
 both : (a b : Bool) → (a && b) ≡ true → (a ≡ true) × (b ≡ true)
@@ -166,6 +166,38 @@ changes_spelled [] h = no_changes
 changes_spelled (change ∷ changes) h =
     with_change (change_json change) (items_of (map change_json changes)) change changes (All-head (λ c. IsChange (change_json c) c) change changes h)
     (changes_spelled changes (All-tail (λ c. IsChange (change_json c) c) change changes h))
+
+json_made : (table id : List ℕ) (row : Option (List Column)) → object (put (codes "table") (string table) (with_row row (put (codes "id") (string id) no_members))) ≡ json_with table id row
+json_made table id None = refl
+json_made table id (Some columns) = refl
+
+-- the members of a change, which go in one after another
+pub change_made : (change : Change) (d : Json) (table id : List ℕ) (first second third : Members) → id ≡ change.id → first ≡ put (codes "id") (string id) no_members
+    → second ≡ with_row change.row first → table ≡ change.table → third ≡ put (codes "table") (string table) second → d ≡ object third → d ≡ change_json change
+unfolding change_json
+change_made change d table id first second third same_id is_first is_second same_table is_third is =
+    rw (is, is_third, is_second, is_first, same_id, same_table) (json_made change.table change.id change.row)
+
+json_spelled : (table id : List ℕ) (row : Option (List Column)) → table ≢ [] → IfSome row (λ columns. AreColumns (members_of columns) columns)
+    → IsChange (json_with table id row) (record { table = table; id = id; row = row })
+json_spelled table id None filled h = record { table = refl; filled = filled; id = refl; row = refl }
+json_spelled table id (Some columns) filled h = record { table = refl; filled = filled; id = refl; row = (members_of columns, refl, refl, h) }
+
+pub change_spelled : (change : Change) → change.table ≢ [] → IfSome change.row (λ columns. AreColumns (members_of columns) columns) → IsChange (change_json change) change
+unfolding change_json
+change_spelled change filled h = json_spelled change.table change.id change.row filled h
+
+pub transaction_made : (transaction : Transaction) (d list : Json) (changes : List Change) (first second : Members) → changes ≡ transaction.changes → list ≡ array (items_of (map change_json changes))
+    → first ≡ put (codes "changes") list no_members → second ≡ put (codes "pos") (string (decimal transaction.position.0)) first → d ≡ object second → d ≡ transaction_json transaction
+unfolding transaction_json
+transaction_made transaction d list changes first second same is_list is_first is_second is = rw (is, is_second, is_first, is_list, same) refl
+
+pub transaction_spelled : (transaction : Transaction) (changes : List Change) → IsWritable transaction → changes ≡ transaction.changes → AreChanges (items_of (map change_json changes)) changes
+    → IsTransaction (transaction_json transaction) transaction
+unfolding transaction_json
+transaction_spelled transaction changes h same each =
+    let each = subst (λ cs. AreChanges (items_of (map change_json cs)) cs) same each in
+    record { above = h.above; within = h.within; position = refl; changes = record { list = items_of (map change_json transaction.changes); is = refl; each = each } }
 
 -- ---- bytes
 

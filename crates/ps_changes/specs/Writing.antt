@@ -1,6 +1,6 @@
 -- The text of a change line: compact, and members stand in the byte order of their names.
 use Rattle.std.specs.Prelude.{◌≢◌, ℕ, ◌<◌, ◌≤◌, List, [], ◌∷◌, All, map, codes, decimal, Option, Some, None, Ok}
-use Rattle.serde_json.specs.Data.{Data as Json, string, array, object, Members, no_members, member}
+use Rattle.serde_json.specs.Data.{Data as Json, string, array, object, Members, no_members, member, put}
 use Rattle.serde_json.specs.View.{items_of}
 use Rattle.serde_json.specs.Written.{compact_text}
 use Rattle.ps_values.specs.declared.columns.Column.{Column}
@@ -13,6 +13,11 @@ use Rattle.ps_changes.specs.Types.{Change, Transaction}
 abbrev pub members_of : List Column → Members
 members_of [] = no_members
 members_of (column ∷ columns) = member column.name (data_of column.value) (members_of columns)
+
+-- members with the operation of a change, and with the row that a PUT has
+abbrev pub with_row : Option (List Column) → Members → Members
+with_row (Some columns) ms = put (codes "row") (object (members_of columns)) (put (codes "op") (string (codes "PUT")) ms)
+with_row None ms = put (codes "op") (string (codes "DELETE")) ms
 
 abbrev pub put_json : List ℕ → List ℕ → List Column → Json
 put_json table id columns = object (

@@ -1,15 +1,15 @@
-ghost use Rattle.std.specs.Prelude.{◌≡◌, ◌≢◌, ◌≤◌, [], map, length, All, IfOk, Ok};
-ghost use Rattle.serde_json.specs.Data.{object, array};
-ghost use Rattle.serde_json.specs.View.{view, items_of};
+ghost use Rattle.std.specs.Prelude.{◌≡◌, ◌≢◌, ◌≤◌, [], map, length, decimal, All, IfSome, IfOk, OnOk, Ok};
+ghost use Rattle.serde_json.specs.Data.{string, object, array, put as with_member};
+ghost use Rattle.serde_json.specs.View.{view, members_view, items_of};
 ghost use Rattle.ps_values.specs.Documents.{data_of};
 ghost use Rattle.ps_values.specs.Conversions.{IsValueOf};
 ghost use Rattle.ps_changes.specs.Lines.{longest, line_of, lone_change_of};
 ghost use Rattle.ps_changes.specs.Grammar.{AreColumns, IsChange, AreChanges, IsTransaction, IsLine, IsLoneChange};
-ghost use Rattle.ps_changes.specs.Writing.{members_of, change_json as json_of_change, transaction_json as json_of_transaction, change_text, line_text, IsWritable};
+ghost use Rattle.ps_changes.specs.Writing.{members_of, with_row, change_json as json_of_change, transaction_json as json_of_transaction, change_text, line_text, IsWritable};
 
 use crate::{Change, Row, Transaction};
 use ps_values::{Memory, Value, decimals_read_back, json_of_value};
-use serde_json::{Map, Value as Json, json, put};
+use serde_json::{Map, Value as Json, put};
 use std::alloc::Global;
 
 /// The bytes of a change line, compact, without a line feed: docs/FORMATS.md, "Change lines". `read_line` gives the transaction again,
@@ -37,15 +37,16 @@ pub fn write_change(alloc: Global, change: &Change) -> Result<Vec<u8>, Memory>
     Ok(json.to_vec(alloc)?)
 }
 
-#[tactic(auto, unfolding(crate::specs::Writing::transaction_json))]
 fn transaction_json(alloc: Global, transaction: &Transaction) -> Result<Json, Memory>
     requires { IsWritable transaction.now }
     ensures value { IfOk result (λ json. view json ≡ json_of_transaction transaction.now) }
     ensures spelled { IfOk result (λ _. IsTransaction (json_of_transaction transaction.now) transaction.now) }
 {
     let changes = list_json(alloc, transaction.changes.as_slice())?;
-    let position = format!(in alloc; "{}", transaction.position.0)?;
-    Ok(json!(in alloc; {"changes": changes, "pos": position})?)
+    let mut members = Map::new(alloc);
+    put(&mut members, alloc, "changes", changes)?;
+    put_decimal(&mut members, alloc, "pos", transaction.position.0)?;
+    Ok(Json::Object(members))
 }
 
 fn list_json(alloc: Global, changes: &[Change]) -> Result<Json, Memory>
@@ -60,19 +61,59 @@ fn list_json(alloc: Global, changes: &[Change]) -> Result<Json, Memory>
     Ok(Json::Array(list))
 }
 
-#[tactic(auto, unfolding(crate::specs::Writing::change_json))]
 fn change_json(alloc: Global, change: &Change) -> Result<Json, Memory>
     requires { change.now.table ≢ [] }
     ensures value { IfOk result (λ json. view json ≡ json_of_change change.now) }
     ensures spelled { IfOk result (λ _. IsChange (json_of_change change.now) change.now) }
 {
-    let (table, id) = (change.table.as_str(), change.id.as_str());
-    match &change.row {
+    let mut members = Map::new(alloc);
+    put_text(&mut members, alloc, "id", change.id.as_str())?;
+    put_row(&mut members, alloc, &change.row)?;
+    put_text(&mut members, alloc, "table", change.table.as_str())?;
+    Ok(Json::Object(members))
+}
+
+// Puts a text under a name.
+fn put_text(
+    members: &mut Map<String, Json>,
+    alloc: Global,
+    name: &str,
+    text: &str,
+) -> Result<(), Memory>
+    ensures { OnOk result (members_view members.new.entries ≡ with_member name.now (string text.now) (members_view members.old.entries)) }
+{
+    let text = Json::String(String::from_str(alloc, text)?);
+    put(members, alloc, name, text)?;
+    Ok(())
+}
+
+// Puts the decimal text of a number under a name.
+fn put_decimal(
+    members: &mut Map<String, Json>,
+    alloc: Global,
+    name: &str,
+    number: u64,
+) -> Result<(), Memory>
+    ensures { OnOk result (members_view members.new.entries ≡ with_member name.now (string (decimal number)) (members_view members.old.entries)) }
+{
+    let text = Json::String(format!(in alloc; "{number}")?);
+    put(members, alloc, name, text)?;
+    Ok(())
+}
+
+// Puts the operation of a change, and the row that a PUT has.
+fn put_row(members: &mut Map<String, Json>, alloc: Global, row: &Option<Row>) -> Result<(), Memory>
+    ensures value { OnOk result (members_view members.new.entries ≡ with_row row.now (members_view members.old.entries)) }
+    ensures spelled { OnOk result (IfSome row.now (λ columns. AreColumns (members_of columns) columns)) }
+{
+    match row {
         Some(row) => {
-            let row = row_json(alloc, row)?;
-            Ok(json!(in alloc; {"id": id, "op": "PUT", "row": row, "table": table})?)
+            let json = row_json(alloc, row)?;
+            put_text(members, alloc, "op", "PUT")?;
+            put(members, alloc, "row", json)?;
+            Ok(())
         }
-        None => Ok(json!(in alloc; {"id": id, "op": "DELETE", "table": table})?),
+        None => put_text(members, alloc, "op", "DELETE"),
     }
 }
 
