@@ -22,7 +22,7 @@ abbrev pub Entry : Type 0
 Entry = Bor (List ℕ) × Bor (Borrowed Global)
 
 -- a front of a front
-fronts : (cs added : List Column) (r : Result (List Column) ChangeFault) → ((r >>= λ columns. Ok (added ++ columns)) >>= λ rest. Ok (cs ++ rest)) ≡ (r >>= λ rest. Ok ((cs ++ added) ++ rest))
+pub fronts : {A : Type 0} (cs added : List A) (r : Result (List A) ChangeFault) → ((r >>= λ columns. Ok (added ++ columns)) >>= λ rest. Ok (cs ++ rest)) ≡ (r >>= λ rest. Ok ((cs ++ added) ++ rest))
 fronts cs added (Err fault) = refl
 fronts cs added (Ok columns) = ap Ok (sym (append_assoc cs added columns))
 

@@ -108,9 +108,8 @@ fn put_row(members: &mut Map<String, Json>, alloc: Global, row: &Option<Row>) ->
 {
     match row {
         Some(row) => {
-            let json = row_json(alloc, row)?;
             put_text(members, alloc, "op", "PUT")?;
-            put(members, alloc, "row", json)?;
+            put(members, alloc, "row", row_json(alloc, row)?)?;
             Ok(())
         }
         None => put_text(members, alloc, "op", "DELETE"),
