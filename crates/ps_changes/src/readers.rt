@@ -3,14 +3,15 @@
 ghost use Rattle.json.specs.Value.{items_view, members_view};
 ghost use Rattle.serde_json.specs.Data.{number, no_members};
 ghost use Rattle.ps_changes.specs.Members.{Reads, Adds};
-ghost use Rattle.ps_changes.specs.Borrowed.{number_in as number_data, seen, items_in, members_in};
-ghost use Rattle.ps_changes.specs.Lines.{text_at, value_in, column_of, columns_of, row_in, row_of, change_of, changes_of, changes_in, position_of, transaction_of};
+ghost use Rattle.ps_changes.specs.Borrowed.{number_in as number_data, seen, items_in, members_in, entries_seen};
+ghost use Rattle.ps_changes.specs.Lines.{text_at, filled_at, value_in, column_of, columns_of, row_in, row_of, row_by_op, change_of, changes_of, changes_in, position_of, transaction_of};
 
 use crate::borrowed::{as_list, as_members, as_text, in_order, member, number_in, owned};
 use crate::{Change, ChangeFault, Row, Transaction};
 use json::Value as Borrowed;
 use ps_values::{Column, Items, Position, Text, Value, ValueFault, read_decimal, value_of_json};
 use std::alloc::Global;
+use std::collections::BTreeMap;
 
 pub fn read_transaction(alloc: Global, json: &Borrowed<'_>) -> Result<Transaction, ChangeFault>
     ensures { Reads result (transaction_of (seen json.now)) }
@@ -52,20 +53,24 @@ fn read_items(alloc: Global, list: &[Borrowed<'_>]) -> Result<Items<Change>, Cha
 pub fn read_object(alloc: Global, json: &Borrowed<'_>) -> Result<Change, ChangeFault>
     ensures { Reads result (change_of (seen json.now)) }
 {
-    let table = read_text(alloc, json, "table")?;
-    if table.bytes().is_empty() {
-        return Err(ChangeFault::BadShape);
-    }
+    let table = read_filled(alloc, json, "table")?;
     let id = read_text(alloc, json, "id")?;
-    let Some(op) = member(json, "op").and_then(as_text) else {
-        return Err(ChangeFault::BadShape);
-    };
-    let row = read_row(alloc, op, json)?;
+    let row = read_row(alloc, json)?;
     Ok(Change { table, id, row })
 }
 
-// The row of a change: a PUT has one, a DELETE has none.
-fn read_row(alloc: Global, op: &str, json: &Borrowed<'_>) -> Result<Option<Row>, ChangeFault>
+// The row of a change, by its operation.
+fn read_row(alloc: Global, json: &Borrowed<'_>) -> Result<Option<Row>, ChangeFault>
+    ensures { Reads result (row_by_op (seen json.now)) }
+{
+    match member(json, "op").and_then(as_text) {
+        Some(op) => read_row_of(alloc, op, json),
+        None => Err(ChangeFault::BadShape),
+    }
+}
+
+// A PUT has a row, a DELETE has none.
+fn read_row_of(alloc: Global, op: &str, json: &Borrowed<'_>) -> Result<Option<Row>, ChangeFault>
     ensures { Reads result (row_of op.now (seen json.now)) }
 {
     if op == "PUT" {
@@ -95,6 +100,17 @@ fn read_text(alloc: Global, json: &Borrowed<'_>, name: &str) -> Result<Text, Cha
     }
 }
 
+// A text that is not empty.
+fn read_filled(alloc: Global, json: &Borrowed<'_>, name: &str) -> Result<Text, ChangeFault>
+    ensures { Reads result (filled_at name.now (seen json.now)) }
+{
+    let text = read_text(alloc, json, name)?;
+    if text.bytes().is_empty() {
+        return Err(ChangeFault::BadShape);
+    }
+    Ok(text)
+}
+
 fn read_columns<'v, 'a>(
     alloc: Global,
     members: &'v Vec<(&'a str, Borrowed<'a>)>,
@@ -102,6 +118,16 @@ fn read_columns<'v, 'a>(
     ensures { Reads result (columns_of (members_in (members_view members.now.items) no_members)) }
 {
     let ordered = in_order(alloc, members)?;
+    ordered_columns(alloc, &ordered)
+}
+
+// The row of members in the order of their names.
+fn ordered_columns<'v, 'a>(
+    alloc: Global,
+    ordered: &BTreeMap<&'a str, &'v Borrowed<'a>>,
+) -> Result<Row, ChangeFault>
+    ensures { Reads result (columns_of (entries_seen ordered.now.entries)) }
+{
     let mut columns = Vec::with_capacity(alloc, ordered.len())?;
     'members: for (name, json) in ordered.iter() {
         push_column(alloc, &mut columns, name, json)?;

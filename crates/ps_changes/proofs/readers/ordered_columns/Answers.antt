@@ -5,7 +5,7 @@ use Rattle.ps_changes.specs.Borrowed.{seen, entries_seen}
 use Rattle.ps_changes.specs.Rows.{is_row}
 use Rattle.ps_changes.specs.Lines.{columns_of}
 use Rattle.ps_changes.proofs.Columns.{member_more, in_order}
-use Rattle.ps_changes.proofs.readers.read_columns.Goals as goal
+use Rattle.ps_changes.proofs.readers.ordered_columns.Goals as goal
 
 pub members-preserved : goal.members-preserved
 members-preserved c =
@@ -17,4 +17,4 @@ members-preserved c =
 pub from_columns-requires : goal.from_columns-requires
 from_columns-requires c =
     let all = c.members.invariant.2 ∙ ap (λ es. columns_of (entries_seen es) >>= λ rest. Ok (c.members.columns.items ++ rest)) c.in-None.ensures.steps.0 in
-    ap is_row c.from_vec.ensures ∙ in_order c.in_ok-ordered.ordered.entries c.members.columns.items c.iter-name-items.ensures.ordered (ap columns_of c.in_ok-ordered.ensures ∙ all ∙ ap Ok (append-nil c.members.columns.items))
+    ap is_row c.from_vec.ensures ∙ in_order c.args.ordered.now.entries c.members.columns.items c.iter-name-items.ensures.ordered (all ∙ ap Ok (append-nil c.members.columns.items))

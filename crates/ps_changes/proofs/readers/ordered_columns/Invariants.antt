@@ -1,14 +1,12 @@
 use Rattle.std.proofs.Common.{◌≡◌, ◌++◌, Ok}
-use Rattle.json.specs.Value.{members_view}
-use Rattle.serde_json.specs.Data.{no_members}
 use Rattle.ps_changes.specs.Members.{◌>>=◌}
-use Rattle.ps_changes.specs.Borrowed.{members_in, entries_seen}
+use Rattle.ps_changes.specs.Borrowed.{entries_seen}
 use Rattle.ps_changes.specs.Lines.{columns_of}
-use Rattle.ps_changes.proofs.readers.read_columns.Given as goal
+use Rattle.ps_changes.proofs.readers.ordered_columns.Given as goal
 
 -- the columns so far, and those of the members that are left, are those of all
 abbrev pub invariant-members : goal.invariant-members
 invariant-members l =
     (goal.iterator-members).can_next l.name-iterator ×
     (goal.iterator-members).is_finite l.name-iterator ×
-    (columns_of (members_in (members_view l.members.items) no_members) ≡ (columns_of (entries_seen l.name-iterator) >>= λ rest. Ok (l.columns.items ++ rest)))
+    (columns_of (entries_seen l.ordered.entries) ≡ (columns_of (entries_seen l.name-iterator) >>= λ rest. Ok (l.columns.items ++ rest)))
