@@ -1,15 +1,32 @@
 -- The turns of the readings that count down.
-use Rattle.std.proofs.Common.{◌≡◌, ℕ, zero, suc, ◌-◌, ◌<◌, List, [], ◌∷◌, ◌++◌, refl, ap, arith}
-use Rattle.std.specs.Prelude.{Ok, Err, if◌then◌else◌}
+use Rattle.std.proofs.Common.{◌≡◌, ℕ, zero, suc, ◌-◌, ◌<◌, List, [], ◌∷◌, ◌++◌, refl, ap, sym, ◌∙◌, arith}
+use Rattle.std.specs.Prelude.{Result, Ok, Err, if◌then◌else◌}
 use Rattle.ps_sql.specs.declared.expressions.Expr.{Expr}
 use Rattle.ps_sql.specs.declared.expressions.Expr.TheVariants as exprs
+use Rattle.ps_sql.specs.declared.faults.SqlFault.{SqlFault}
 use Rattle.ps_sql.specs.declared.faults.SqlFault.TheVariants as faults
 use Rattle.ps_sql.specs.declared.words.Keyword.TheVariants as keywords
 use Rattle.ps_sql.specs.declared.words.Mark.TheVariants as marks
 use Rattle.ps_sql.specs.declared.contexts.Context.{Context}
 use Rattle.ps_sql.specs.declared.contexts.Level.{Level}
-use Rattle.ps_sql.specs.Inputs.{Input, ◌>>=◌, next, second, here, past, is_mark, is_keyword, refusal}
-use Rattle.ps_sql.specs.Grammar.{Reader, expr, whole, negation, more, more_arguments, step, go_on}
+use Rattle.ps_sql.specs.Inputs.{Input, ◌>>=◌, next, second, here, past, is_mark, is_keyword, plain_name_of, refusal, expect_mark, expect_keyword}
+use Rattle.ps_sql.specs.Grammar.{Reader, type_by, as_text, casted, cast, expr, whole, negation, more, more_arguments, step, go_on}
+
+-- steps, one behind the other
+
+pub same_steps : {A B : Type 0} (m : Result A SqlFault) (f g : A → Result B SqlFault) → ((x : A) → f x ≡ g x) → (m >>= f) ≡ (m >>= g)
+same_steps (Ok x) f g h = h x
+same_steps (Err fault) f g h = refl
+
+pub grouped : {A B C : Type 0} (m : Result A SqlFault) (f : A → Result B SqlFault) (g : B → Result C SqlFault) → ((m >>= f) >>= g) ≡ (m >>= λ x. f x >>= g)
+grouped (Ok x) f g = refl
+grouped (Err fault) f g = refl
+
+-- a CAST, by the reading of what ends it
+pub cast_parts : (inner : Reader) (input : Input) → cast inner input ≡ (expect_mark marks.Open (past 1 input) >>= λ opened. inner opened >>= λ x. casted x.0 x.1)
+unfolding cast as_text
+cast_parts inner input = same_steps (expect_mark marks.Open (past 1 input)) _ _ (λ opened. same_steps (inner opened) _ _
+    (λ x. sym (grouped (expect_keyword keywords.As x.1) _ _ ∙ same_steps (expect_keyword keywords.As x.1) _ _ (λ named. grouped (type_by named (plain_name_of (next named))) _ _))))
 
 pub expr_none : (context : Context) (limit depth : ℕ) (input : Input) → depth ≡ 0 → expr context limit depth input ≡ Err (refusal input)
 unfolding expr

@@ -14,6 +14,7 @@ use Rattle.ps_sql.specs.Queries.{own_name, begins_clause, own_output, own_or, ou
 use Rattle.ps_sql.specs.SpelledQueries.{IsParameterQuery, IsDataQuery}
 use Rattle.ps_sql.specs.declared.queries.ParameterQuery.{ParameterQuery}
 use Rattle.ps_sql.specs.declared.queries.DataQuery.{DataQuery}
+use Rattle.ps_sql.proofs.GrammarLaws.{same_steps, grouped}
 use Rattle.ps_sql.proofs.Calm.{Calm, parameter_calm, data_calm}
 use Rattle.ps_sql.proofs.FoundQueries.{parameter_query_found, data_query_found}
 use Rattle.ps_sql.proofs.OnlyQueries.{parameter_query_reads, data_query_reads}
@@ -70,16 +71,6 @@ pub items_fail : (turns : ℕ) (context : Context) (limit : ℕ) (listed : Liste
     → meant ≡ items turns context limit listed input → 0 < turns → Fails fault (item context limit listed input) → Fails fault meant
 items_fail turns context limit listed input fault meant same some fails =
     subst (Fails fault) (sym (same ∙ items_turn turns context limit listed input some)) (fails_on fault (item context limit listed input) _ fails)
-
--- steps, one behind the other
-
-same_steps : {A B : Type 0} (m : Result A SqlFault) (f g : A → Result B SqlFault) → ((x : A) → f x ≡ g x) → (m >>= f) ≡ (m >>= g)
-same_steps (Ok x) f g h = h x
-same_steps (Err fault) f g h = refl
-
-grouped : {A B C : Type 0} (m : Result A SqlFault) (f : A → Result B SqlFault) (g : B → Result C SqlFault) → ((m >>= f) >>= g) ≡ (m >>= λ x. f x >>= g)
-grouped (Ok x) f g = refl
-grouped (Err fault) f g = refl
 
 -- an output, by the reading of its name
 pub output_parts : (context : Context) (limit : ℕ) (input : Input)

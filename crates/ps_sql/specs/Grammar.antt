@@ -154,6 +154,16 @@ abbrev pub type_by : Input → Option (List ℕ) → Result Input SqlFault
 type_by input None = Err (refusal input)
 type_by input (Some name) = if same_word name (codes "TEXT") then Ok (past 1 input) else Err (faults.Unsupported (here input))
 
+-- what ends a CAST: the type, which is TEXT, and a bracket
+unfoldable pub as_text : Input → Result Input SqlFault
+as_text input = do
+  named ← expect_keyword keywords.As input
+  typed ← type_by named (plain_name_of (next named))
+  expect_mark marks.Close typed
+
+abbrev pub casted : Expr → Reader
+casted of input = as_text input >>= λ rest. Ok (exprs.CastText of, rest)
+
 unfoldable pub cast : Reader → Reader
 cast inner input = do
   opened ← expect_mark marks.Open (past 1 input)

@@ -2,13 +2,13 @@ ghost use Rattle.std.specs.Prelude.{◌≡◌, ℕ};
 ghost use Rattle.std.specs.Option.{option_copied};
 ghost use Rattle.ps_sql.specs.Answers.{ReadsOn};
 ghost use Rattle.ps_sql.specs.Inputs.{next};
-ghost use Rattle.ps_sql.specs.Grammar.{ands, arguments, bracketed, call_by, cast, expr, function_of, joins, keyword_value, mark_value, more, negation, operand_at, orders, plain_name, prime, sames, step};
+ghost use Rattle.ps_sql.specs.Grammar.{ands, arguments, bracketed, call_by, expr, function_of, joins, keyword_value, mark_value, more, negation, operand_at, orders, plain_name, prime, sames, step};
 
 use crate::contexts::{Context, Level, Step};
 use crate::cursors::Cursor;
 use crate::primes::{
-    arguments_of, function, is_arithmetic_next, named_value, negative, null_test, operator,
-    quoted_name, text_type,
+    arguments_of, casted, function, is_arithmetic_next, named_value, negative, null_test, operator,
+    quoted_name,
 };
 use crate::words::{Keyword, Mark, Word};
 use crate::{Expr, Function, SqlFault};
@@ -175,10 +175,11 @@ fn step(
         None => Ok(Step::Done(left)),
         Some(operator) => {
             cursor.skip(1);
+            let left = Boxed::new(alloc, left)?;
             let right = operand(alloc, context, limit, depth, level, cursor)?;
             Ok(Step::Goes(Expr::Two {
                 operator,
-                left: Boxed::new(alloc, left)?,
+                left,
                 right: Boxed::new(alloc, right)?,
             }))
         }
@@ -304,7 +305,7 @@ fn plain_name(
 /// What begins with a keyword: NULL, TRUE, FALSE or a CAST.
 #[cycle(grammar)]
 #[inline(never)]
-#[tactic(auto, unfolding(crate::specs::Grammar::cast))]
+#[tactic(auto, using(crate::proofs::GrammarLaws::cast_parts))]
 fn keyword_value(
     alloc: Global,
     context: &Context,
@@ -332,12 +333,7 @@ fn keyword_value(
             cursor.skip(1);
             cursor.expect_mark(Mark::Open)?;
             let of = expr(alloc, context, limit, depth, cursor)?;
-            cursor.expect_keyword(Keyword::As)?;
-            text_type(cursor)?;
-            cursor.expect_mark(Mark::Close)?;
-            Ok(Expr::CastText {
-                of: Boxed::new(alloc, of)?,
-            })
+            casted(alloc, of, cursor)
         }
         Keyword::Select
         | Keyword::From
@@ -396,7 +392,7 @@ fn call(
     if cursor.is_mark(2, Mark::Close) {
         return Err(cursor.unsupported());
     }
-    let unsupported = cursor.unsupported();
+    let start = cursor.here();
     cursor.skip(2);
     let arguments = arguments(alloc, context, limit, depth, cursor)?;
     cursor.expect_mark(Mark::Close)?;
@@ -406,7 +402,7 @@ fn call(
             arguments,
         });
     }
-    Err(unsupported)
+    Err(SqlFault::Unsupported { at: start })
 }
 
 /// Expressions with commas between them.
@@ -421,8 +417,9 @@ fn arguments(
 ) -> Result<Items<Expr>, SqlFault>
     ensures { ReadsOn result cursor.new (arguments limit (expr context.now limit depth) cursor.old) }
 {
+    let first = expr(alloc, context, limit, depth, cursor)?;
     let mut read = Items::new(alloc);
-    read.push(expr(alloc, context, limit, depth, cursor)?)?;
+    read.push(first)?;
     'arguments: for _turn in 0..limit {
         if !cursor.is_mark(0, Mark::Comma) {
             return Ok(read);

@@ -2,7 +2,7 @@ ghost use Rattle.std.specs.Prelude.{◌≡◌, ℕ, bytes_eq};
 ghost use Rattle.std.specs.Option.{option_copied};
 ghost use Rattle.ps_sql.specs.Answers.{ReadsOn, StepsOn};
 ghost use Rattle.ps_sql.specs.Inputs.{next, second, third, name_of, plain_name_of};
-ghost use Rattle.ps_sql.specs.Grammar.{allows_column, allows_qualifier, arity, arithmetic_by, bucket, column, dotted, function_of, is_arithmetic, named_value, negative_by, null_test, operator_at, operator_of_keyword, operator_of_mark, qualified, quoted_name, request, request_value, token_user, type_by};
+ghost use Rattle.ps_sql.specs.Grammar.{allows_column, allows_qualifier, arity, arithmetic_by, as_text, bucket, casted, column, dotted, function_of, is_arithmetic, named_value, negative_by, null_test, operator_at, operator_of_keyword, operator_of_mark, qualified, quoted_name, request, request_value, token_user, type_by};
 
 use crate::contexts::{Context, Level, Scope};
 use crate::cursors::Cursor;
@@ -248,7 +248,7 @@ pub fn arguments_of(function: Function) -> usize
 }
 
 /// The type of a CAST, which is TEXT.
-pub fn text_type(cursor: &mut Cursor<'_>) -> Result<(), SqlFault>
+fn text_type(cursor: &mut Cursor<'_>) -> Result<(), SqlFault>
     ensures { StepsOn result cursor.new (type_by cursor.old (plain_name_of (next cursor.old))) }
 {
     match cursor.plain_name(0) {
@@ -261,6 +261,25 @@ pub fn text_type(cursor: &mut Cursor<'_>) -> Result<(), SqlFault>
             Err(cursor.unsupported())
         }
     }
+}
+
+/// `AS TEXT)`, which ends a CAST.
+#[tactic(auto, unfolding(crate::specs::Grammar::as_text))]
+fn as_text(cursor: &mut Cursor<'_>) -> Result<(), SqlFault>
+    ensures { StepsOn result cursor.new (as_text cursor.old) }
+{
+    cursor.expect_keyword(Keyword::As)?;
+    text_type(cursor)?;
+    cursor.expect_mark(Mark::Close)
+}
+
+/// A CAST, behind its expression.
+pub fn casted(alloc: Global, of: Expr, cursor: &mut Cursor<'_>) -> Result<Expr, SqlFault>
+    ensures { ReadsOn result cursor.new (casted of cursor.old) }
+{
+    let of = Boxed::new(alloc, of)?;
+    as_text(cursor)?;
+    Ok(Expr::CastText { of })
 }
 
 /// A number behind `-`.
@@ -369,13 +388,11 @@ pub fn is_arithmetic_next(cursor: &Cursor<'_>) -> bool
 pub fn null_test(alloc: Global, of: Expr, cursor: &mut Cursor<'_>) -> Result<Expr, SqlFault>
     ensures { ReadsOn result cursor.new (null_test of cursor.old) }
 {
+    let of = Boxed::new(alloc, of)?;
     let negated = cursor.is_keyword(0, Keyword::Not) && !cursor.is_keyword(1, Keyword::In);
     if negated {
         cursor.skip(1);
     }
     cursor.expect_keyword(Keyword::Null)?;
-    Ok(Expr::IsNull {
-        of: Boxed::new(alloc, of)?,
-        negated,
-    })
+    Ok(Expr::IsNull { of, negated })
 }
