@@ -125,13 +125,13 @@ impl Expr {
                 arguments: copy_exprs(alloc, arguments.as_slice())?,
             }),
             Expr::CastText { of } => Ok(Expr::CastText {
-                of: Boxed::new(alloc, of.get().copy(alloc)?)?,
+                of: copy_boxed(alloc, of)?,
             }),
             Expr::Not { of } => Ok(Expr::Not {
-                of: Boxed::new(alloc, of.get().copy(alloc)?)?,
+                of: copy_boxed(alloc, of)?,
             }),
             Expr::IsNull { of, negated } => Ok(Expr::IsNull {
-                of: Boxed::new(alloc, of.get().copy(alloc)?)?,
+                of: copy_boxed(alloc, of)?,
                 negated: *negated,
             }),
             Expr::Two {
@@ -140,11 +140,19 @@ impl Expr {
                 right,
             } => Ok(Expr::Two {
                 operator: *operator,
-                left: Boxed::new(alloc, left.get().copy(alloc)?)?,
-                right: Boxed::new(alloc, right.get().copy(alloc)?)?,
+                left: copy_boxed(alloc, left)?,
+                right: copy_boxed(alloc, right)?,
             }),
         }
     }
+}
+
+/// An equal expression, in a box of its own.
+#[cycle(copying)]
+fn copy_boxed(alloc: Global, one: &Boxed<Expr>) -> Result<Boxed<Expr>, Memory>
+    ensures { IfOk result (λ copy. copy ≡ one.now) }
+{
+    Ok(Boxed::new(alloc, one.get().copy(alloc)?)?)
 }
 
 /// Equal expressions, in order.
