@@ -15,7 +15,7 @@ use crate::ChangeFault;
 use fast_float::Numeral;
 use json::{Error, Reader, Scratch, Value as Borrowed};
 use ps_values::Memory;
-use serde_json::{Map, Number, Value as Json};
+use serde_json::{Map, Number, Value as Json, put};
 use std::alloc::Global;
 use std::collections::BTreeMap;
 
@@ -229,8 +229,7 @@ fn owned_members(
 {
     let mut made = Map::new(alloc);
     'members: for member in members {
-        let name = String::from_str(alloc, member.0)?;
-        made.insert(name, owned(alloc, &member.1)?)?;
+        put(&mut made, alloc, member.0, owned(alloc, &member.1)?)?;
     }
     Ok(made)
 }

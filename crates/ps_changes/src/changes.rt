@@ -31,10 +31,7 @@ impl Change {
     {
         let table = self.table.copy(alloc)?;
         let id = self.id.copy(alloc)?;
-        let row = match &self.row {
-            Some(row) => Some(row.copy(alloc)?),
-            None => None,
-        };
+        let row = copy_row(alloc, &self.row)?;
         Ok(Change { table, id, row })
     }
 }
@@ -54,4 +51,14 @@ impl Copied for Change {
     fn copied(&self, alloc: Global) -> Result<Change, Memory> {
         self.copy(alloc)
     }
+}
+
+// An equal row, or none.
+fn copy_row(alloc: Global, row: &Option<Row>) -> Result<Option<Row>, Memory>
+    ensures { IfOk result (λ copy. copy ≡ row.now) }
+{
+    Ok(match row {
+        Some(row) => Some(row.copy(alloc)?),
+        None => None,
+    })
 }

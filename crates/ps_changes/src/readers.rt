@@ -104,11 +104,10 @@ fn read_text(alloc: Global, json: &Borrowed<'_>, name: &str) -> Result<Text, Cha
 fn read_filled(alloc: Global, json: &Borrowed<'_>, name: &str) -> Result<Text, ChangeFault>
     ensures { Reads result (filled_at name.now (seen json.now)) }
 {
-    let text = read_text(alloc, json, name)?;
-    if text.bytes().is_empty() {
-        return Err(ChangeFault::BadShape);
+    match member(json, name).and_then(as_text) {
+        Some(text) if !text.is_empty() => Ok(Text::from_str(alloc, text)?),
+        _ => Err(ChangeFault::BadShape),
     }
-    Ok(text)
 }
 
 fn read_columns<'v, 'a>(
