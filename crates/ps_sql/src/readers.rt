@@ -101,7 +101,6 @@ fn item(
 }
 
 /// Outputs with commas between them.
-#[tactic(auto)]
 fn items(
     alloc: Global,
     context: &Context,
