@@ -10,8 +10,8 @@ pub returns-clause-held : goal.returns-clause-held
 returns-clause-held c =
     let old = kept_by c.args.self.now in
     let is : kept_by c.tidy.new.self ≡ with_edits old c.args.edits.now =
-    c.tidy.ensures.kept ∙ c.make_all.ensures.kept ∙ ap (λ kept. with_edits kept c.in_ok-copies.copies.items) c.in_ok-rooms.ensures.kept
-    ∙ ap (with_edits old) c.in_ok-copies.ensures in
+    c.tidy.ensures.kept ∙ c.make_all.ensures.kept ∙ ap (λ kept. with_edits kept c.into_vec.result.items) c.in_ok-rooms.ensures.kept
+    ∙ ap (with_edits old) (c.into_vec.ensures ∙ c.in_ok-copies.ensures) in
     record {
       sound = subst IsSound (sym is) (with_edits-sound c.args.edits.now old c.requires.held.sound c.requires.can);
       shown = subst (IsDistinct same_row) (sym c.tidy.ensures.shown)
