@@ -1,7 +1,6 @@
 -- What stands in the sides of a condition's matches.
 use Rattle.std.proofs.Common.{◌≡◌, ℕ, Bool, true, false, List, [], ◌∷◌, ◌++◌, Option, Some, None, refl, sym, ap, ◌∙◌, map, subst, inl, inr}
 use Rattle.std.specs.Prelude.{◌||◌, if◌then◌else◌}
-use Rattle.std.specs.List.{list_any}
 use Rattle.std.specs.Option.{option_or}
 use Rattle.std.proofs.lemmas.Bool.{or_parts}
 use Rattle.ps_sql.specs.declared.expressions.Expr.{Expr, Expr-F, fold-roll-Expr, map-Expr, out-Expr, roll-Expr, roll-out-Expr, out-roll-Expr, ind-Expr}

@@ -14,7 +14,7 @@ use Rattle.ps_core.specs.Lives.{Link, Idle, Streaming}
 use Rattle.ps_core.specs.Runs.{Made}
 use Rattle.ps_session.specs.Sessions.{SessionState}
 use Rattle.ps_core.specs.declared.effects.Effect.{Effect}
-use Rattle.ps_core.specs.Plays.{Play, Outcome, happens, says, with_reader}
+use Rattle.ps_core.specs.Plays.{Play, happens, says, with_reader}
 use Rattle.ps_core.specs.Plays as plays
 use Rattle.ps_core.specs.ReaderEvents.{becomes}
 use Rattle.ps_core.specs.PlaySteps.{Comes}

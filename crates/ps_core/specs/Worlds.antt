@@ -19,7 +19,7 @@ use Rattle.ps_core.specs.Lives.{Link, Idle, Streaming}
 use Rattle.ps_core.specs.Runs.{Made}
 use Rattle.ps_session.specs.Sessions.{SessionState}
 use Rattle.ps_core.specs.Ties.{HasTaken}
-use Rattle.ps_core.specs.Plays.{Play, course, place}
+use Rattle.ps_core.specs.Plays.{Play, course}
 use Rattle.ps_core.specs.Plays as plays
 use Rattle.ps_core.specs.Scripts.{AreLow}
 use Rattle.ps_core.specs.declared.readers.Reader.{Reader}

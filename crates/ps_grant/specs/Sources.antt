@@ -1,6 +1,5 @@
 -- The rows of a source.
-use Rattle.std.specs.Prelude.{ℕ, List, [], map}
-use Rattle.ps_values.specs.declared.columns.Column.{Column}
+use Rattle.std.specs.Prelude.{List, map}
 use Rattle.ps_changes.specs.Source.{Key, Version, Source}
 use Rattle.ps_sql.specs.Vectors.{SourceRow}
 use Rattle.ps_grant.specs.declared.live_rows.LiveRow.{LiveRow}

@@ -22,7 +22,7 @@ use Rattle.ps_store.specs.Stores.{StoreStandsFor}
 use Rattle.ps_session.specs.declared.phases.Phase.{Phase}
 use Rattle.ps_session.specs.declared.phases.Phase.TheVariants.{Start, Download, Void, Done}
 use Rattle.ps_session.specs.Sessions.{SessionState, Turned, IsDrained, begin, requested_in}
-use Rattle.ps_core.specs.Runs.{Made, Turn, turn, all_made, reached, AreToldIn, Climbs}
+use Rattle.ps_core.specs.Runs.{Made, Turn, all_made, reached, AreToldIn, Climbs}
 use Rattle.ps_core.specs.Ties.{HasTaken}
 use Rattle.ps_serve.specs.declared.ends.End.{End}
 use Rattle.ps_serve.specs.declared.ends.End.TheVariants.{Answered, Refused, Drained, Expired, PeerGone, CutRequest, TooMany, Memory}

@@ -13,7 +13,7 @@ use Rattle.ps_sql.specs.declared.words.Mark.TheVariants as marks
 use Rattle.ps_values.specs.Numbers.{greatest}
 use Rattle.ps_sql.specs.Words.{is_digit, begins_name, continues_name, decimal_after, ends_number, named, keyword_of, name_at, number_at, word_at, quoted, quoted_word, behind, single_mark, longest_mark, marked}
 use Rattle.ps_sql.specs.Spellings.{IsWord, IsName, IsNumber, IsQuoted, IsMark, ends_mark, doubled}
-use Rattle.ps_sql.proofs.Cuts.{chosen, word_cuts, first_cuts, name_cuts, number_cuts, mark_cuts, behind_some, within_by_byte}
+use Rattle.ps_sql.proofs.Cuts.{chosen, word_cuts, first_cuts, name_cuts, number_cuts, mark_cuts, behind_some}
 use Rattle.ps_sql.proofs.Quotes.{eqb_yes, eqb_no, quoted_twice, quoted_closed, some_pair}
 
 pub and_both : (a b : Bool) → (a && b) ≡ true → (a ≡ true) × (b ≡ true)

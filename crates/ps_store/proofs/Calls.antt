@@ -1,21 +1,19 @@
 -- What each call leaves.
-use Rattle.std.proofs.Common.{◌≡◌, ℕ, ◌+◌, ◌^◌, ◌≤◌, ◌<◌, max, true, false, Bool, None, List, [], ◌∷◌, ◌++◌, refl, sym, ap, ◌∙◌, subst, length, arith, length-append, Option, take}
+use Rattle.std.proofs.Common.{◌≡◌, ℕ, ◌+◌, ◌^◌, ◌≤◌, ◌<◌, max, true, false, Bool, None, List, [], ◌∷◌, ◌++◌, refl, sym, ap, ◌∙◌, subst, length, arith, length-append}
 use Rattle.std.specs.Prelude.{Ok, Err, nat_lt, Result, OnOk, OnErr, IsErrAnd}
 use Rattle.std.proofs.lemmas.Bool.Decides.{nat_tests}
-use Rattle.std.specs.FinMap.Entries.{find}
-use Rattle.ps_bucket_log.specs.declared.ops.Op.{Op}
 use Rattle.ps_values.specs.declared.ids.Position.{Position}
 use Rattle.ps_write_cp.specs.declared.faults.NumberFault.{NumberFault}
 use Rattle.ps_write_cp.specs.declared.faults.NumberFault.TheVariants as numbering
 use Rattle.ps_write_cp.specs.Kept.{Kept, heads_at, StandsFor, HaveSame, Answers}
-use Rattle.ps_write_cp.specs.Numbers.{Made, heads_of}
+use Rattle.ps_write_cp.specs.Numbers.{Made}
 use Rattle.ps_changes.specs.declared.changes.Change.{Change}
 use Rattle.ps_changes.specs.declared.changes.Transaction.{Transaction}
 use Rattle.ps_changes.specs.Source.{Key}
 use Rattle.ps_params.specs.Indexes.{Index}
 use Rattle.ps_params.specs.Notes.{Note, SameFrom}
 use Rattle.ps_store.specs.declared.events.Event.{Event}
-use Rattle.ps_store.specs.declared.events.Event.TheVariants.{Feed, Close, Commit, Write, WriteCheckpoint}
+use Rattle.ps_store.specs.declared.events.Event.TheVariants.{Feed, Close, Commit, WriteCheckpoint}
 use Rattle.ps_store.specs.declared.faults.FeedFault.{FeedFault}
 use Rattle.ps_store.specs.declared.faults.FeedFault.TheVariants as feeding
 use Rattle.ps_store.specs.declared.fixed.Fixed.{Fixed}
@@ -23,14 +21,14 @@ use Rattle.ps_store.specs.declared.stores.Checkpoint.{Checkpoint}
 use Rattle.ps_store.specs.declared.stores.Store.{Store}
 use Rattle.ps_store.specs.declared.tails.Tail.{Tail}
 use Rattle.ps_store.specs.declared.totals.Totals.{Totals}
-use Rattle.ps_store.specs.Ledgers.{Ledger, timed_of, end_of, head_of, ledger_of, fresh, unwritten, last_number, made_by}
+use Rattle.ps_store.specs.Ledgers.{Ledger, timed_of, end_of, head_of, ledger_of, last_number, made_by}
 use Rattle.ps_store.specs.Limits.{greatest, AreWithin}
 use Rattle.ps_store.specs.Originals.{Timed}
 use Rattle.ps_store.specs.Reach.{Reached, reached, settled}
 use Rattle.ps_store.specs.Rows.{row_at}
 use Rattle.ps_store.specs.StoreLogs.{log_at}
 use Rattle.ps_store.specs.Totals.{totals_of, with_transaction}
-use Rattle.ps_store.specs.Stores.{StoreStandsFor, Feeds, Commits, Stands, IndexStands, IsKept, Uploads, MakesNumber}
+use Rattle.ps_store.specs.Stores.{StoreStandsFor, Feeds, Commits, IsKept, Uploads, MakesNumber}
 use Rattle.ps_store.proofs.Coming.{stands_event, stands_still}
 use Rattle.ps_store.proofs.StoreStands.{unwritten_fed, head_fed, kept_fed, index_fed, kept_commit, index_commit, kept_fresh, numbers_later}
 

@@ -7,7 +7,7 @@ use Rattle.ps_bucket_log.specs.declared.ops.Op.{Op}
 use Rattle.ps_bucket_log.specs.Ops.{id_of}
 use Rattle.ps_changes.specs.declared.shown.Shown.{Shown}
 use Rattle.ps_changes.specs.Source.{Key, key_cmp, Source}
-use Rattle.ps_client_log.specs.Rows.{HeldCopy, place_of, place_cmp, content_of, row_at}
+use Rattle.ps_client_log.specs.Rows.{HeldCopy, content_of, row_at}
 use Rattle.ps_client_log.specs.Rows as held_rows
 use Rattle.ps_sql.specs.Meaning.{Asker}
 use Rattle.ps_rules.specs.declared.definitions.Definition.{Definition}

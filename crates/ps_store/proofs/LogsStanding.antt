@@ -1,10 +1,10 @@
 -- The log of each bucket stands for its original.
-use Rattle.std.proofs.Common.{List, [], ◌∷◌, ℕ, fold}
+use Rattle.std.proofs.Common.{List, [], ◌∷◌, fold}
 use Rattle.ps_bucket_log.specs.Laws.{GrowsLater, StandsLater, StandsForItself}
 use Rattle.ps_compact.specs.Laws.{CompactedStands}
 use Rattle.ps_store.specs.declared.events.Event.{Event}
 use Rattle.ps_store.specs.Ledgers.{Ledger, fresh, ledger_after, IsLegalFrom}
-use Rattle.ps_store.specs.LogLaws.{LogStands, LogsStand}
+use Rattle.ps_store.specs.LogLaws.{LogsStand}
 use Rattle.ps_store.proofs.Growing.{IsSound, sound_fresh, sound_after}
 
 module _ (grows : GrowsLater) (later : StandsLater) (itself : StandsForItself) (compacted : CompactedStands) where

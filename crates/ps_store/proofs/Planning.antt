@@ -1,5 +1,5 @@
 -- One more change in a plan.
-use Rattle.std.proofs.Common.{◌≡◌, ℕ, suc, ◌+◌, ◌≤◌, ◌<◌, Bool, true, false, not, cond, Option, Some, None, List, [], ◌∷◌, ◌++◌, refl, sym, ap, ◌∙◌, subst, length, map, take, fold, get_or, append_assoc, append-nil, length-append, arith}
+use Rattle.std.proofs.Common.{◌≡◌, ℕ, suc, ◌+◌, ◌≤◌, ◌<◌, Bool, true, false, not, cond, Option, Some, None, List, [], ◌∷◌, ◌++◌, refl, sym, ap, ◌∙◌, subst, length, map, take, fold, get_or, append-nil, length-append, arith}
 use Rattle.std.specs.Prelude.{if◌then◌else◌, nat_lt}
 use Rattle.std.specs.FinMap.Entries.{find}
 use Rattle.std.specs.Ordering.{eq_by_cmp}
@@ -17,11 +17,11 @@ use Rattle.ps_store.specs.declared.plans.Refusal.TheVariants.{TooWide, OpsFull}
 use Rattle.ps_store.specs.declared.rows.Rows.{Rows}
 use Rattle.ps_store.specs.Ledgers.{Ledger, entries_after, next_ops, write_next}
 use Rattle.ps_store.specs.Noting.{row_noted}
-use Rattle.ps_store.specs.Originals.{Entered, Timed, key_of, after, entries_at, columns_of, standing_entries, stays, removed, put, leaving, numbered}
+use Rattle.ps_store.specs.Originals.{Timed, key_of, after, entries_at, columns_of, standing_entries, stays, removed, put, leaving, numbered}
 use Rattle.ps_store.specs.Places.{Place, place_of, is_taken, places_left, removed_all}
 use Rattle.ps_store.specs.Plans.{PlanStands, IsStart, seen_at}
 use Rattle.ps_store.specs.Rows.{row_at}
-use Rattle.ps_store.specs.Runs.{refusal_of, ops_from, lasts_from}
+use Rattle.ps_store.specs.Runs.{refusal_of, lasts_from}
 use Rattle.ps_store.specs.Tails.{ids, AreRowsOf}
 use Rattle.ps_store.proofs.Lanes.{fold_push, length_lasts, ops_push, lasts_push, next_rules, length_numbered}
 use Rattle.ps_store.proofs.Maps.{equal_rows}

@@ -1,8 +1,7 @@
 -- Why no change is written, in the words of the fault.
-use Rattle.std.proofs.Common.{◌≡◌, ℕ, zero, suc, ◌+◌, ◌≤◌, ◌<◌, ◌⊎◌, inl, inr, Bool, true, false, Option, Some, None, List, [], ◌∷◌, refl, sym, ap, ◌∙◌, subst, length, take, arith}
+use Rattle.std.proofs.Common.{◌≡◌, ℕ, zero, suc, ◌+◌, ◌≤◌, ◌<◌, inl, inr, Bool, true, false, Option, Some, None, List, [], ◌∷◌, refl, sym, ◌∙◌, subst, length, take, arith}
 use Rattle.std.specs.Prelude.{if◌then◌else◌, nat_lt}
 use Rattle.std.proofs.lemmas.Bool.Decides.{nat_tests}
-use Rattle.ps_values.specs.declared.ids.OpId.{OpId}
 use Rattle.ps_store.specs.declared.faults.WriteFault.{WriteFault}
 use Rattle.ps_store.specs.declared.faults.WriteFault.TheVariants as writing
 use Rattle.ps_store.specs.declared.fixed.Limits.{Limits}

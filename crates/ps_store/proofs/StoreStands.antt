@@ -31,11 +31,11 @@ use Rattle.ps_store.specs.Runs.{Run, run_from, ops_from, lasts_from}
 use Rattle.ps_store.specs.Limits.{greatest}
 use Rattle.ps_store.specs.StoreLogs.{log_at, has_ops, first_ops, Continue}
 use Rattle.ps_store.specs.Stores.{Stands, IndexStands, IsKept, IsSame, IsFilled, NumbersStand}
-use Rattle.ps_store.specs.Tails.{repeated, positions_of, timed_positions, IsSettled, Tied, Ascend, EndsRise, ids, AreRowsOf, reach_after, rows_after, notes_after, last_end}
+use Rattle.ps_store.specs.Tails.{repeated, positions_of, timed_positions, IsSettled, Tied, Ascend, EndsRise, ids, AreRowsOf, reach_after, rows_after, notes_after}
 use Rattle.ps_store.specs.Totals.{names_of, ops_of as counted_ops, totals_of, with_changes}
 use Rattle.ps_store.proofs.Compacting.{next_entered}
 use Rattle.ps_store.proofs.Counting.{AreFilled, filled_append, names_more, sum_append}
-use Rattle.ps_store.proofs.Advancing.{tied_settled, ascend_append, IsOn, settled_on, reach_on, ends_push, end_push, rows_front, notes_append, same_after, ascend_up}
+use Rattle.ps_store.proofs.Advancing.{tied_settled, ascend_append, IsOn, settled_on, reach_on, ends_push, end_push, rows_front, notes_append, same_after}
 use Rattle.ps_store.proofs.Lanes.{length_lasts, next_rules, next_log, next_last, next_reach, next_written, next_rows, next_rests, Rises, rises_ops, newest_within, rising_more, continues, IsFront, run_is_front, take_front, drop_again, IsLow, run_is_low}
 
 -- ---- nothing changed

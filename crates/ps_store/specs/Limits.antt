@@ -1,5 +1,5 @@
 -- What bounds a store.
-use Rattle.std.specs.Prelude.{ℕ, ◌≤◌}
+use Rattle.std.specs.Prelude.{◌≤◌}
 pub use Rattle.ps_values.specs.Numbers.{greatest}
 use Rattle.ps_store.specs.declared.fixed.Limits.{Limits}
 

@@ -1,5 +1,5 @@
 -- The live rows of the store.
-use Rattle.std.specs.Prelude.{◌≡◌, ℕ, ◌≤◌, Bool, List, length, Option, Some, None, is_some}
+use Rattle.std.specs.Prelude.{ℕ, ◌≤◌, Bool, List, length, Option, Some, None, is_some}
 use Rattle.std.specs.BTreeMap.{get}
 use Rattle.ps_changes.specs.Source.{Key, key_cmp, Version}
 use Rattle.ps_rules.specs.declared.definitions.Definition.{Definition}

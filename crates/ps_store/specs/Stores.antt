@@ -25,7 +25,7 @@ use Rattle.ps_store.specs.declared.faults.WriteFault.TheVariants as writing
 use Rattle.ps_store.specs.declared.fixed.Fixed.{Fixed}
 use Rattle.ps_store.specs.declared.fixed.Limits.{Limits}
 use Rattle.ps_store.specs.declared.events.Event.{Event}
-use Rattle.ps_store.specs.declared.events.Event.TheVariants.{Feed, Write, Commit, Compact, Close, WriteCheckpoint}
+use Rattle.ps_store.specs.declared.events.Event.TheVariants.{Feed, Write, Commit, Compact, WriteCheckpoint}
 use Rattle.ps_store.specs.declared.plans.Plan.{Plan}
 use Rattle.ps_store.specs.declared.plans.Refusal.{Refusal}
 use Rattle.ps_store.specs.declared.plans.Refusal.TheVariants as refusals

@@ -1,8 +1,7 @@
 -- What is fed and not written.
-use Rattle.std.specs.Prelude.{◌≡◌, ℕ, ◌+◌, ◌-◌, ◌<◌, ◌≤◌, true, List, [], ◌∷◌, ◌++◌, map, drop, length, zero, suc, Option, Some, None, option_map, if◌then◌else◌}
+use Rattle.std.specs.Prelude.{◌≡◌, ℕ, ◌+◌, ◌-◌, ◌<◌, ◌≤◌, true, List, [], ◌∷◌, map, drop, zero, suc, Option, option_map, if◌then◌else◌}
 use Rattle.std.specs.Ordering.{eq_by_cmp}
 use Rattle.std.specs.VecDeque.{deque_len, deque_capacity}
-use Rattle.ps_values.specs.declared.columns.Column.{Column}
 use Rattle.ps_changes.specs.Source.{Key, key_cmp, Version}
 use Rattle.ps_rules.specs.declared.definitions.Definition.{Definition}
 use Rattle.ps_params.specs.Notes.{Note}

@@ -1,4 +1,4 @@
-use Rattle.std.proofs.Common.{◌≡◌, ℕ, ◌+◌, ◌-◌, ◌≤◌, List, ◌++◌}
+use Rattle.std.proofs.Common.{◌≡◌, ◌+◌, ◌-◌, ◌≤◌, ◌++◌}
 use Rattle.ps_gen.specs.Made.{made_from, made_input}
 use Rattle.ps_gen.proofs.made.make_input.Given as goal
 

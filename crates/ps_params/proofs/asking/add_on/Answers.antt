@@ -1,4 +1,4 @@
-use Rattle.std.proofs.Common.{◌≡◌, ℕ, List, [], ◌∷◌, sym, ap, ◌∙◌, subst, map}
+use Rattle.std.proofs.Common.{◌≡◌, ℕ, List, [], ◌∷◌, ap, ◌∙◌, subst, map}
 use Rattle.std.specs.Prelude.{OnOk}
 use Rattle.ps_rules.specs.Buckets.{bucket_name_of}
 use Rattle.ps_params.specs.Sets.{Gains}

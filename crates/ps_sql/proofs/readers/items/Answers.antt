@@ -1,5 +1,4 @@
 use Rattle.std.proofs.Common.{rules, ◌-◌, Err, ap, sym, ◌∙◌, arith}
-use Rattle.std.proofs.lemmas.Grind.{common_steps}
 use Rattle.ps_sql.proofs.QueryLaws.{items_none, items_fail, items_last, items_on, fails_as}
 use Rattle.ps_sql.proofs.readers.items.Goals as goal
 

@@ -3,10 +3,8 @@ use Rattle.std.proofs.lemmas.List.{take_more, drop_more, drop_all, get_or-take}
 use Rattle.ps_values.specs.declared.ids.OpId.{OpId}
 use Rattle.ps_rules.specs.RuleSets.{RuleSet}
 use Rattle.ps_store.specs.declared.fixed.Limits.{Limits}
-use Rattle.ps_store.specs.declared.plans.Plan.{Plan}
 use Rattle.ps_store.specs.declared.plans.Planned.{Planned}
 use Rattle.ps_store.specs.declared.plans.Refusal.{Refusal}
-use Rattle.ps_store.specs.declared.rows.Rows.{Rows}
 use Rattle.ps_store.specs.Ledgers.{Ledger, write_next}
 use Rattle.ps_store.specs.Originals.{Timed}
 use Rattle.ps_store.specs.Plans.{PlanStands, IsStart, IsRun, with_change}

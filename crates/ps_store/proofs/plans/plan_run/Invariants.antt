@@ -1,4 +1,4 @@
-use Rattle.std.proofs.Common.{◌≡◌, ℕ, take, drop, fold}
+use Rattle.std.proofs.Common.{◌≡◌, take, drop, fold}
 use Rattle.ps_store.specs.Ledgers.{Ledger, write_next}
 use Rattle.ps_store.specs.Plans.{PlanStands, IsStart}
 use Rattle.ps_store.specs.Runs.{run_from}

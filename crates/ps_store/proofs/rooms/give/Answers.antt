@@ -1,13 +1,10 @@
-use Rattle.std.proofs.Common.{◌≡◌, ℕ, ◌+◌, ◌≤◌, ◌<◌, Bool, true, false, Option, Some, None, List, [], ◌∷◌, ◌++◌, refl, sym, ap, ◌∙◌, subst, length, arith, unwrap_or}
-use Rattle.std.specs.Option.{option_map_or, IsSome}
+use Rattle.std.proofs.Common.{◌≡◌, ℕ, ◌+◌, Bool, true, false, Some, None, List, refl, sym, ap, ◌∙◌, subst, arith, unwrap_or}
+use Rattle.std.specs.Option.{IsSome}
 use Rattle.std.specs.Prelude.{bytes_eq, if◌then◌else◌}
 use Rattle.std.specs.BTreeMap.{BTreeMap, get}
 use Rattle.std.specs.Cmp.Lexicographic.{slice_cmp}
 use Rattle.std.specs.Ordering.{nat_cmp}
-use Rattle.ps_bucket_log.specs.declared.ops.Op.{Op}
-use Rattle.ps_bucket_log.specs.Logs.{LogState}
-use Rattle.ps_store.specs.StoreLogs.{ops_of, spare_of}
-use Rattle.ps_store.proofs.Maps.{Puts, tied, equal, read_after, read_changed, read_kept, read_less, read_more}
+use Rattle.ps_store.proofs.Maps.{Puts, tied, equal, read_changed}
 use Rattle.ps_store.proofs.rooms.give.Goals as goal
 
 plus : (n : ℕ) (b : Bool) → (if b then n + 1 else n) ≡ n + (if b then 1 else 0)

@@ -1,11 +1,11 @@
-use Rattle.std.proofs.Common.{◌≡◌, ℕ, suc, ◌≤◌, Option, List, ◌∷◌, sym, ap, ◌∙◌, subst, length, take, drop, arith}
+use Rattle.std.proofs.Common.{◌≡◌, suc, Option, List, ◌∷◌, sym, ap, ◌∙◌, subst, length, take, drop, arith}
 use Rattle.ps_changes.specs.Source.{Key, Version}
 use Rattle.ps_rules.specs.declared.definitions.Definition.{Definition}
 use Rattle.ps_rules.specs.RuleSets.{RuleSet}
 use Rattle.ps_params.specs.Notes.{Note}
 use Rattle.ps_store.specs.declared.plans.Made.{Made}
 use Rattle.ps_store.specs.Noting.{noted, with_note}
-use Rattle.ps_store.specs.Originals.{Timed, key_of}
+use Rattle.ps_store.specs.Originals.{Timed}
 use Rattle.ps_store.specs.Rows.{row_at}
 use Rattle.ps_store.specs.Reach.{Reached, reached}
 use Rattle.ps_store.specs.Tails.{HasPlaces, AreRowsOf, NotFalling, Ascend, ids, reach_after, with_row, rows_after, notes_after}

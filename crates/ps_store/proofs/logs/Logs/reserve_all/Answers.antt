@@ -1,10 +1,10 @@
-use Rattle.std.proofs.Common.{ℕ, ◌≤◌, List, ◌∷◌, max, subst}
+use Rattle.std.proofs.Common.{ℕ, ◌≤◌, List, max, subst}
 use Rattle.std.specs.Prelude.{unwrap_or}
 use Rattle.std.specs.Map.{lookup}
 use Rattle.std.specs.Cmp.Lexicographic.{slice_cmp}
 use Rattle.std.specs.Ordering.{nat_cmp, is_eq}
 use Rattle.std.proofs.Common.{◌∙◌}
-use Rattle.ps_store.specs.StoreLogs.{wanted, log_at, room_at}
+use Rattle.ps_store.specs.StoreLogs.{wanted, room_at}
 use Rattle.ps_store.proofs.Filling.{rooms_more}
 use Rattle.ps_store.proofs.logs.Logs.reserve_all.Goals as goal
 

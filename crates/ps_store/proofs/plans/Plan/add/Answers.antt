@@ -1,4 +1,4 @@
-use Rattle.std.proofs.Common.{◌≡◌, ℕ, ◌+◌, ◌≤◌, ◌<◌, Option, List, [], ◌∷◌, ◌++◌, refl, sym, ap, ◌∙◌, subst, length, map, unwrap_or, arith}
+use Rattle.std.proofs.Common.{◌≡◌, ◌+◌, ◌≤◌, ◌<◌, Option, List, [], ◌∷◌, ◌++◌, refl, sym, ap, ◌∙◌, subst, length, map, unwrap_or, arith}
 use Rattle.std.specs.Prelude.{if◌then◌else◌, Err}
 use Rattle.std.specs.BTreeMap.{get}
 use Rattle.std.specs.Option.{option_copied}
@@ -14,7 +14,7 @@ use Rattle.ps_bucket_eval.specs.Entries.{IsPlaced}
 use Rattle.ps_store.specs.declared.fixed.Limits.{Limits}
 use Rattle.ps_store.specs.declared.plans.Made.{Made}
 use Rattle.ps_store.specs.declared.plans.Plan.{Plan}
-use Rattle.ps_store.specs.Originals.{Timed, key_of, entries_at, columns_of}
+use Rattle.ps_store.specs.Originals.{Timed, entries_at, columns_of}
 use Rattle.ps_store.specs.Places.{Place, place_of, places_left}
 use Rattle.ps_store.specs.Plans.{seen_at}
 use Rattle.ps_store.specs.Rows.{row_at}

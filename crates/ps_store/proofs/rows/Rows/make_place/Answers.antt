@@ -1,11 +1,10 @@
-use Rattle.std.proofs.Common.{◌≡◌, ℕ, ◌+◌, ◌≤◌, ◌<◌, Bool, true, false, Option, Some, None, List, [], ◌∷◌, ◌++◌, refl, sym, ap, ◌∙◌, subst, length, arith, unwrap_or}
-use Rattle.std.specs.Option.{IsSome}
+use Rattle.std.proofs.Common.{◌≡◌, Bool, true, false, Option, Some, None, refl, sym, ap, ◌∙◌}
 use Rattle.std.specs.Prelude.{is_some, if◌then◌else◌}
-use Rattle.std.specs.BTreeMap.{BTreeMap, get}
+use Rattle.std.specs.BTreeMap.{get}
 use Rattle.std.specs.Ordering.{eq_by_cmp}
 use Rattle.ps_changes.specs.Source.{key_cmp}
 use Rattle.ps_store.specs.Rows.{in_place}
-use Rattle.ps_store.proofs.Maps.{Puts, tied_rows, equal_rows, read_after, read_changed, read_kept, read_less, read_more}
+use Rattle.ps_store.proofs.Maps.{Puts, tied_rows, equal_rows, read_after, read_kept}
 use Rattle.ps_store.proofs.rows.Rows.make_place.Goals as goal
 
 none_of : {A : Type 0} (o : Option A) → is_some o ≡ false → o ≡ None

@@ -1,11 +1,10 @@
-use Rattle.std.proofs.Common.{◌≡◌, ℕ, ◌+◌, ◌≤◌, ◌<◌, Bool, true, false, Option, Some, None, List, [], ◌∷◌, ◌++◌, refl, sym, ap, ◌∙◌, subst, length, arith, unwrap_or}
+use Rattle.std.proofs.Common.{Some, refl, ap, subst}
 use Rattle.std.specs.Option.{IsSome}
 use Rattle.std.specs.Prelude.{is_some}
-use Rattle.std.specs.BTreeMap.{BTreeMap, get}
 use Rattle.std.specs.Ordering.{eq_by_cmp}
 use Rattle.ps_changes.specs.Source.{key_cmp}
 use Rattle.ps_store.specs.Rows.{in_place}
-use Rattle.ps_store.proofs.Maps.{Puts, tied_rows, equal_rows, read_after, read_changed, read_kept, read_less, read_more}
+use Rattle.ps_store.proofs.Maps.{Puts, tied_rows, equal_rows, read_after, read_kept}
 use Rattle.ps_store.proofs.rows.Rows.set.Goals as goal
 
 pub returns-in-Some-clause-rows : goal.returns-in-Some-clause-rows

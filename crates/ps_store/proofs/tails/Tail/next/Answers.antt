@@ -1,5 +1,5 @@
-use Rattle.std.proofs.Common.{◌≡◌, ◌∷◌, sym, ap, ◌∙◌, subst}
-use Rattle.ps_store.specs.Reach.{Reached, reached, settled}
+use Rattle.std.proofs.Common.{sym, subst}
+use Rattle.ps_store.specs.Reach.{Reached, reached}
 use Rattle.ps_store.specs.Tails.{Tied}
 use Rattle.ps_store.proofs.Advancing.{tied_next}
 use Rattle.ps_store.proofs.tails.Tail.next.Goals as goal
