@@ -331,7 +331,10 @@ fn fitting_query(
 fn with_parameter_query(alloc: Global, known: Known, written: &Written) -> Result<Known, RulesFault>
     ensures { Reads result (known_with known written.now) }
 {
-    let query = fitting_query(alloc, known.queries.as_slice(), written)?;
+    let query = match fitting_query(alloc, known.queries.as_slice(), written) {
+        Ok(query) => query,
+        Err(fault) => return Err(fault),
+    };
     let Known {
         mut queries,
         warnings,
