@@ -52,11 +52,6 @@ row_of op d = if bytes_eq op (codes "PUT") then row_in d
 abbrev pub filled : List ℕ → Result (List ℕ) ChangeFault
 filled text = if nat_lt 0 (length text) then Ok text else Err BadShape
 
-abbrev pub filled_at : List ℕ → Json → Result (List ℕ) ChangeFault
-filled_at name d = do
-  text ← text_at name d
-  filled text
-
 -- the row of a change, by its operation
 abbrev pub row_by_op : Json → Result (Option (List Column)) ChangeFault
 row_by_op d = do

@@ -31,7 +31,10 @@ impl Change {
     {
         let table = self.table.copy(alloc)?;
         let id = self.id.copy(alloc)?;
-        let row = copy_row(alloc, &self.row)?;
+        let row = match &self.row {
+            Some(row) => Some(row.copy(alloc)?),
+            None => None,
+        };
         Ok(Change { table, id, row })
     }
 }
@@ -51,14 +54,4 @@ impl Copied for Change {
     fn copied(&self, alloc: Global) -> Result<Change, Memory> {
         self.copy(alloc)
     }
-}
-
-// An equal row, or none.
-fn copy_row(alloc: Global, row: &Option<Row>) -> Result<Option<Row>, Memory>
-    ensures { IfOk result (λ copy. copy ≡ row.now) }
-{
-    Ok(match row {
-        Some(row) => Some(row.copy(alloc)?),
-        None => None,
-    })
 }

@@ -118,10 +118,11 @@ fn line(alloc: Global, bytes: &[u8], room: &mut Scratch) -> Result<Transaction, 
     ensures long { RefusesLong bytes.now result }
 {
     let json = json_of_line(alloc, bytes, room)?;
-    if !is_transaction(&json) {
-        return Err(ChangeFault::BadShape);
+    if is_transaction(&json) {
+        read_transaction(alloc, &json)
+    } else {
+        Err(ChangeFault::BadShape)
     }
-    read_transaction(alloc, &json)
 }
 
 #[tactic(auto, unfolding(crate::specs::Lines::body_of))]
@@ -131,10 +132,11 @@ fn body(alloc: Global, bytes: &[u8]) -> Result<Items<Change>, ChangeFault>
 {
     let mut room = Scratch::new(alloc);
     let json = json_of_line(alloc, bytes, &mut room)?;
-    if !has_changes(&json) {
-        return Err(ChangeFault::BadShape);
+    if has_changes(&json) {
+        read_list(alloc, &json)
+    } else {
+        Err(ChangeFault::BadShape)
     }
-    read_list(alloc, &json)
 }
 
 #[tactic(auto, unfolding(crate::specs::Lines::lone_change_of))]
@@ -144,8 +146,9 @@ fn lone_change(alloc: Global, bytes: &[u8]) -> Result<Change, ChangeFault>
 {
     let mut room = Scratch::new(alloc);
     let json = json_of_line(alloc, bytes, &mut room)?;
-    if !is_change(&json) {
-        return Err(ChangeFault::BadShape);
+    if is_change(&json) {
+        read_object(alloc, &json)
+    } else {
+        Err(ChangeFault::BadShape)
     }
-    read_object(alloc, &json)
 }

@@ -4,7 +4,7 @@ ghost use Rattle.json.specs.Value.{items_view, members_view};
 ghost use Rattle.serde_json.specs.Data.{number, no_members};
 ghost use Rattle.ps_changes.specs.Members.{Reads, Adds};
 ghost use Rattle.ps_changes.specs.Borrowed.{number_in as number_data, seen, items_in, members_in, entries_seen};
-ghost use Rattle.ps_changes.specs.Lines.{text_at, filled_at, value_in, column_of, columns_of, row_in, row_of, row_by_op, change_of, changes_of, changes_in, position_of, transaction_of};
+ghost use Rattle.ps_changes.specs.Lines.{text_at, value_in, column_of, columns_of, row_in, row_of, row_by_op, change_of, changes_of, changes_in, position_of, transaction_of};
 
 use crate::borrowed::{as_list, as_members, as_text, in_order, member, number_in, owned};
 use crate::{Change, ChangeFault, Row, Transaction};
@@ -53,7 +53,10 @@ fn read_items(alloc: Global, list: &[Borrowed<'_>]) -> Result<Items<Change>, Cha
 pub fn read_object(alloc: Global, json: &Borrowed<'_>) -> Result<Change, ChangeFault>
     ensures { Reads result (change_of (seen json.now)) }
 {
-    let table = read_filled(alloc, json, "table")?;
+    let table = read_text(alloc, json, "table")?;
+    if table.bytes().is_empty() {
+        return Err(ChangeFault::BadShape);
+    }
     let id = read_text(alloc, json, "id")?;
     let row = read_row(alloc, json)?;
     Ok(Change { table, id, row })
@@ -97,16 +100,6 @@ fn read_text(alloc: Global, json: &Borrowed<'_>, name: &str) -> Result<Text, Cha
     match member(json, name).and_then(as_text) {
         Some(text) => Ok(Text::from_str(alloc, text)?),
         None => Err(ChangeFault::BadShape),
-    }
-}
-
-// A text that is not empty.
-fn read_filled(alloc: Global, json: &Borrowed<'_>, name: &str) -> Result<Text, ChangeFault>
-    ensures { Reads result (filled_at name.now (seen json.now)) }
-{
-    match member(json, name).and_then(as_text) {
-        Some(text) if !text.is_empty() => Ok(Text::from_str(alloc, text)?),
-        _ => Err(ChangeFault::BadShape),
     }
 }
 

@@ -40,7 +40,6 @@ impl Row {
     {
         self.columns.as_slice()
     }
-
     /// An equal row.
     pub fn copy(&self, alloc: Global) -> Result<Row, Memory>
         ensures { IfOk result (λ copy. copy ≡ self.now) }
