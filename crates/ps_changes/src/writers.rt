@@ -14,7 +14,6 @@ use std::alloc::Global;
 
 /// The bytes of a change line, compact, without a line feed: docs/FORMATS.md, "Change lines". `read_line` gives the transaction again,
 /// where they are no more than a line may have.
-#[tactic(auto, using(crate::proofs::Written::line_back))]
 pub fn write_line(alloc: Global, transaction: &Transaction) -> Result<Vec<u8>, Memory>
     requires { IsWritable transaction.now }
     ensures value { IfOk result (λ bytes. bytes.items ≡ line_text transaction.now) }
@@ -27,7 +26,6 @@ pub fn write_line(alloc: Global, transaction: &Transaction) -> Result<Vec<u8>, M
 
 /// The bytes of one change object by itself, compact: docs/FORMATS.md, "Change lines". `read_change` gives the change again, where
 /// they are no more than a line may have.
-#[tactic(auto, using(crate::proofs::Written::change_back))]
 pub fn write_change(alloc: Global, change: &Change) -> Result<Vec<u8>, Memory>
     requires { change.now.table ≢ [] }
     ensures value { IfOk result (λ bytes. bytes.items ≡ change_text change.now) }

@@ -1,4 +1,4 @@
-use Rattle.std.proofs.Common.{◌≡◌, Bool, true, false, List, ℕ, [], ◌∷◌, ◌++◌, Ok, refl, sym, ap, ◌∙◌}
+use Rattle.std.proofs.Common.{◌≡◌, true, false, List, ℕ, [], ◌∷◌, ◌++◌, Ok, refl, sym, ap, ◌∙◌}
 use Rattle.std.proofs.lemmas.List.{append-nil}
 use Rattle.serde_json.specs.Data.{Data}
 use Rattle.ps_values.specs.declared.columns.Column.{Column}
@@ -20,9 +20,11 @@ of_value name d value other is = rw (sym other, is) refl
 pub returns : goal.returns
 returns c =
     let old = c.args.columns.now.items in
-    let value = c.in_ok-value.value in
-    (column c.args.name.now value ∷ [], of_value c.args.name.now (seen c.args.json.now) value c.if-eq.ensures c.in_ok-value.ensures,
-     c.in_ok-push.ensures.items ∙ ap (λ name. old ++ column name value ∷ []) c.in_ok-name.ensures)
+    let value = c.in_ok-value.value in (
+      column c.args.name.now value ∷ [],
+      of_value c.args.name.now (seen c.args.json.now) value c.if-eq.ensures c.in_ok-value.ensures,
+      c.in_ok-push.ensures.items ∙ ap (λ name. old ++ column name value ∷ []) c.in_ok-name.ensures,
+    )
 
 pub returns-then-eq : goal.returns-then-eq
 returns-then-eq c = ([], of_id c.args.name.now (seen c.args.json.now) c.if-eq.ensures, sym (append-nil c.args.columns.now.items))

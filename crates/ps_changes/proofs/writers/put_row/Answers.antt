@@ -1,4 +1,4 @@
-use Rattle.std.proofs.Common.{◌≡◌, codes, sym, ap, ap₂, ◌∙◌}
+use Rattle.std.proofs.Common.{codes, sym, ap, ap₂, ◌∙◌}
 use Rattle.serde_json.specs.Data.{put}
 use Rattle.serde_json.specs.View.{members_view}
 use Rattle.ps_changes.specs.Writing.{with_row}
