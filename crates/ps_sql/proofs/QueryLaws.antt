@@ -14,7 +14,7 @@ use Rattle.ps_sql.specs.Queries.{own_name, begins_clause, own_output, own_or, ou
 use Rattle.ps_sql.specs.SpelledQueries.{IsParameterQuery, IsDataQuery}
 use Rattle.ps_sql.specs.declared.queries.ParameterQuery.{ParameterQuery}
 use Rattle.ps_sql.specs.declared.queries.DataQuery.{DataQuery}
-use Rattle.ps_sql.proofs.GrammarLaws.{same_steps, grouped, fails_on}
+use Rattle.ps_sql.proofs.GrammarLaws.{same_steps, grouped}
 use Rattle.ps_sql.proofs.Calm.{Calm, parameter_calm, data_calm}
 use Rattle.ps_sql.proofs.FoundQueries.{parameter_query_found, data_query_found}
 use Rattle.ps_sql.proofs.OnlyQueries.{parameter_query_reads, data_query_reads}
@@ -54,6 +54,18 @@ items_last turns context limit listed input x some read comma = items_turn turns
     ∙ ap (λ m. m >>= go_on) read ∙ ap (λ b. cond b (items (turns - 1) context limit x.0 (past 1 x.1)) (Ok x)) comma where
       go_on : Listed × Input → Result (Listed × Input) SqlFault
       go_on y = if is_mark marks.Comma (next y.1) then items (turns - 1) context limit y.0 (past 1 y.1) else Ok y
+
+fails_on : {A B : Type 0} (fault : SqlFault) (m : Result A SqlFault) (f : A → Result B SqlFault) → Fails fault m → Fails fault (m >>= f)
+fails_on faults.Memory m f fails = tt
+fails_on (faults.BadToken at) m f fails = ap (λ r. r >>= f) fails
+fails_on (faults.Unexpected at) m f fails = ap (λ r. r >>= f) fails
+fails_on (faults.Unsupported at) m f fails = ap (λ r. r >>= f) fails
+
+pub fails_as : {B : Type 0} (meant : Result B SqlFault) (fault : SqlFault) → meant ≡ Err fault → Fails fault meant
+fails_as meant faults.Memory e = tt
+fails_as meant (faults.BadToken at) e = e
+fails_as meant (faults.Unexpected at) e = e
+fails_as meant (faults.Unsupported at) e = e
 
 pub items_fail : (turns : ℕ) (context : Context) (limit : ℕ) (listed : Listed) (input : Input) (fault : SqlFault) (meant : Result (Listed × Input) SqlFault)
     → meant ≡ items turns context limit listed input → 0 < turns → Fails fault (item context limit listed input) → Fails fault meant

@@ -130,7 +130,7 @@ fn joining(
 /// The operators of a level behind what was read.
 #[cycle(grammar)]
 #[inline(never)]
-#[tactic(auto)]
+#[tactic(auto, using(crate::proofs::GrammarLaws::chains))]
 fn operators(
     alloc: Global,
     context: &Context,
@@ -407,7 +407,7 @@ fn call(
 
 /// Expressions with commas between them.
 #[cycle(grammar)]
-#[tactic(auto, unfolding(crate::specs::Grammar::arguments))]
+#[tactic(auto, using(crate::proofs::GrammarLaws::lists), unfolding(crate::specs::Grammar::arguments))]
 fn arguments(
     alloc: Global,
     context: &Context,

@@ -1,6 +1,5 @@
 use Rattle.std.proofs.Common.{rules, ◌-◌, Err, ap, sym, ◌∙◌, arith}
-use Rattle.ps_sql.proofs.QueryLaws.{items_none, items_fail, items_last, items_on}
-use Rattle.ps_sql.proofs.GrammarLaws.{fails_as}
+use Rattle.ps_sql.proofs.QueryLaws.{items_none, items_fail, items_last, items_on, fails_as}
 use Rattle.ps_sql.proofs.readers.items.Goals as goal
 
 pub returns-in_err-listed : goal.returns-in_err-listed
