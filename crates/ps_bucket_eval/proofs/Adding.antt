@@ -1,14 +1,13 @@
 -- Steps of adding entries.
 use Rattle.std.proofs.Common.{◌≡◌, ℕ, suc, ◌+◌, ◌-◌, ◌<◌, ◌≤◌, Bool, true, false, List, [], ◌∷◌, ◌++◌, length, get_or, map, take, Option, Some, None, Err, refl, sym, ap, ◌∙◌, subst, arith, append-nil, length-append}
 use Rattle.std.specs.Prelude.{flat_map, bytes_eq, if◌then◌else◌}
-use Rattle.ps_values.specs.declared.columns.Column.{Column}
 use Rattle.ps_rules.specs.declared.queries.Planned.{Planned}
 use Rattle.ps_rules.specs.declared.definitions.Definition.{Definition}
 use Rattle.ps_bucket_eval.specs.Types.{Placed, PlaceFault, TooWide, Memory}
 use Rattle.ps_sql.specs.Objects.{object_id, content_of}
 use Rattle.ps_bucket_eval.specs.Shown.{alone}
 use Rattle.ps_bucket_eval.specs.Entries.{RowOf, subkey_of, placed_in, placed_all, buckets_of, query_entries, IsPlaced}
-use Rattle.ps_bucket_eval.specs.Solving.{AddsEntries, row_of, made_in}
+use Rattle.ps_bucket_eval.specs.Solving.{AddsEntries, made_in}
 use Rattle.ps_bucket_eval.proofs.Steps.{added_more, added_past}
 
 pub query_other : (d : Definition) (source : RowOf) (q : Planned) → bytes_eq q.query.table source.table ≡ false → query_entries d source q ≡ []
@@ -28,11 +27,6 @@ pub query_is : (d : Definition) (source : RowOf) (q : Planned) (object : List �
 unfolding query_entries
 query_is d source q object e is =
     ap (λ b. if b then placed_all d source q (object_id (alone source.id source.row) q.query) else []) e ∙ ap (placed_all d source q) (sym is)
-
--- the table has no part in the buckets
-pub buckets_same : (d : Definition) (q : Planned) (table id : List ℕ) (row : List Column) → buckets_of d (row_of [] id row) q ≡ buckets_of d (row_of table id row) q
-unfolding buckets_of
-buckets_same d q table id row = refl
 
 length_map : {X Y : Type 0} (f : X → Y) (xs : List X) → length (map f xs) ≡ length xs
 length_map f [] = refl
@@ -66,7 +60,6 @@ placed_from top new entries (TooWide count) h = h
 placed_from top new entries Memory h = tt
 
 -- an entry by its parts
-pub made_placed : (q : Planned) (table id : List ℕ) (row : List Column) (object subkey content : List ℕ) → subkey ≡ subkey_of q.number (row_of table id []) → content ≡ content_of (alone id row) q.query object
-    → made_in q object subkey content ≡ placed_in q (row_of table id row) object
-unfolding subkey_of
-made_placed q table id row object subkey content s t = λ i bucket. record { bucket = bucket; key = record { kind = q.query.kind; id = object; subkey = s i }; content = t i; number = q.number }
+pub made_placed : (q : Planned) (source : RowOf) (object subkey content : List ℕ) → subkey ≡ subkey_of q.number source → content ≡ content_of (alone source.id source.row) q.query object
+    → made_in q object subkey content ≡ placed_in q source object
+made_placed q source object subkey content s t = λ i bucket. record { bucket = bucket; key = record { kind = q.query.kind; id = object; subkey = s i }; content = t i; number = q.number }

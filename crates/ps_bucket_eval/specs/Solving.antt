@@ -16,6 +16,7 @@ use Rattle.ps_rules.specs.declared.branches.Branch.{Branch}
 use Rattle.ps_rules.specs.Branches.{has_parameter}
 use Rattle.std.specs.BTreeSet.{BTreeSet}
 use Rattle.ps_bucket_eval.specs.Types.{Placed, PlaceFault, TooWide, Memory}
+use Rattle.ps_bucket_eval.specs.declared.source_rows.SourceRow.{SourceRow}
 use Rattle.ps_bucket_eval.specs.Entries.{RowOf, buckets_of}
 use Rattle.ps_bucket_eval.specs.Shown.{alone}
 use Rattle.ps_rules.specs.declared.definitions.Definition.{Definition}
@@ -104,6 +105,9 @@ FitsWith room names None = room < length names
 
 abbrev pub row_of : List ℕ → List ℕ → List Column → RowOf
 row_of table id row = record { table = table; id = id; row = row }
+
+abbrev pub row_at : SourceRow → RowOf
+row_at source = row_of source.table.now source.id.now source.row.now
 
 -- an entry of a query, by its parts
 abbrev pub made_in : Planned → List ℕ → List ℕ → List ℕ → List ℕ → Placed

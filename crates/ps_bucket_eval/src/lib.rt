@@ -8,6 +8,7 @@ mod objects;
 mod placed;
 mod placing;
 mod solving;
+mod source_rows;
 
 pub use faults::PlaceFault;
 pub use laws::entries_stand_where_conditions_hold;

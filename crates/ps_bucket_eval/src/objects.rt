@@ -4,7 +4,7 @@ ghost use Rattle.std.specs.Prelude.{◌≡◌, IfOk};
 ghost use Rattle.ps_sql.specs.Objects.{object_id as object_id_of, content_of};
 ghost use Rattle.ps_bucket_eval.specs.Shown.{alone};
 
-use ps_changes::Row;
+use crate::source_rows::SourceRow;
 use ps_sql::DataQuery;
 use ps_sql_eval::{content, nobody, object_id};
 use ps_values::{Memory, Text};
@@ -14,12 +14,11 @@ use std::alloc::Global;
 pub(crate) fn shown_id(
     alloc: Global,
     query: &DataQuery,
-    id: &Text,
-    row: &Row,
+    source: &SourceRow<'_>,
 ) -> Result<Option<Text>, Memory>
-    ensures { IfOk result (λ object. object ≡ object_id_of (alone id.now row.now) query.now) }
+    ensures { IfOk result (λ object. object ≡ object_id_of (alone source.now.id.now source.now.row.now) query.now) }
 {
-    object_id(alloc, query, &nobody(alloc), id, row)
+    object_id(alloc, query, &nobody(alloc), source.id, source.row)
 }
 
 /// The data of the object that a query shows for a row.
@@ -27,10 +26,9 @@ pub(crate) fn shown_content(
     alloc: Global,
     query: &DataQuery,
     object: &Text,
-    id: &Text,
-    row: &Row,
+    source: &SourceRow<'_>,
 ) -> Result<Text, Memory>
-    ensures { IfOk result (λ content. content ≡ content_of (alone id.now row.now) query.now object.now) }
+    ensures { IfOk result (λ content. content ≡ content_of (alone source.now.id.now source.now.row.now) query.now object.now) }
 {
-    content(alloc, query, object, &nobody(alloc), id, row)
+    content(alloc, query, object, &nobody(alloc), source.id, source.row)
 }

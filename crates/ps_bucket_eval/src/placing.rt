@@ -7,12 +7,13 @@ ghost use Rattle.ps_rules.specs.Buckets.{bucket_name_of};
 ghost use Rattle.ps_bucket_eval.specs.Shown.{alone};
 ghost use Rattle.ps_bucket_eval.specs.Entries.{RowOf, subkey_of, placed_in, query_entries, definition_entries, entries_of, buckets_of, IsPlaced};
 ghost use Rattle.ps_bucket_eval.specs.Laws.{PlacedWhereItHolds, EntriesRise};
-ghost use Rattle.ps_bucket_eval.specs.Solving.{sides_have_parameter, names_from, is_none, some_empty, branch_names, Fits, FitsWith, AddsEntries, row_of, made_in, outputs_have_parameter};
+ghost use Rattle.ps_bucket_eval.specs.Solving.{sides_have_parameter, names_from, is_none, some_empty, branch_names, Fits, FitsWith, AddsEntries, row_of, made_in, outputs_have_parameter, row_at};
 
 use crate::evaluating::all_hold;
 use crate::laws::{branches_are_solved, entries_stand_where_conditions_hold};
 use crate::objects::{shown_content, shown_id};
 use crate::solving::allowed_each;
+use crate::source_rows::SourceRow;
 use crate::{PlaceFault, Placed};
 use ps_bucket_log::Key;
 use ps_changes::Row;
@@ -41,9 +42,10 @@ pub fn entries_of_row(
     ensures order { IfOk result EntriesRise }
 {
     entries_stand_where_conditions_hold();
+    let source = SourceRow { table, id, row };
     let mut placed = Items::new(alloc);
     'definitions: for definition in rules.definitions() {
-        let added = place_definition(alloc, definition, table, id, row, top, &mut placed);
+        let added = place_definition(alloc, definition, &source, top, &mut placed);
         if let Err(fault) = added {
             return Err(fault);
         }
@@ -55,19 +57,17 @@ pub fn entries_of_row(
 fn place_definition(
     alloc: Global,
     definition: &Definition,
-    table: &Text,
-    id: &Text,
-    row: &Row,
+    source: &SourceRow<'_>,
     top: u32,
     placed: &mut Items<Placed>,
 ) -> Result<(), PlaceFault>
     requires sound { IsSound definition.now }
     requires within { length placed.old ≤ top }
     requires top { top ≤ 1000000 }
-    ensures { AddsEntries top placed.old placed.new (definition_entries (row_of table.now id.now row.now) definition.now) result }
+    ensures { AddsEntries top placed.old placed.new (definition_entries (row_at source.now) definition.now) result }
 {
     'queries: for planned in definition.queries.as_slice() {
-        let added = place_query(alloc, definition, planned, table, id, row, top, placed);
+        let added = place_query(alloc, definition, planned, source, top, placed);
         if let Err(fault) = added {
             return Err(fault);
         }
@@ -80,9 +80,7 @@ fn place_query(
     alloc: Global,
     definition: &Definition,
     planned: &Planned,
-    table: &Text,
-    id: &Text,
-    row: &Row,
+    source: &SourceRow<'_>,
     top: u32,
     placed: &mut Items<Placed>,
 ) -> Result<(), PlaceFault>
@@ -90,19 +88,19 @@ fn place_query(
     requires sound { IsSoundQuery definition.now.names planned.now }
     requires within { length placed.old ≤ top }
     requires top { top ≤ 1000000 }
-    ensures { AddsEntries top placed.old placed.new (query_entries definition.now (row_of table.now id.now row.now) planned.now) result }
+    ensures { AddsEntries top placed.old placed.new (query_entries definition.now (row_at source.now) planned.now) result }
 {
-    if !planned.query.table.equals(table) {
+    if !planned.query.table.equals(source.table) {
         return Ok(());
     }
-    let Some(object) = shown_id(alloc, &planned.query, id, row)? else {
+    let Some(object) = shown_id(alloc, &planned.query, source)? else {
         return Ok(());
     };
     let room = top as usize - placed.len();
-    let Some(buckets) = buckets(alloc, definition, planned, id, row, room)? else {
+    let Some(buckets) = buckets(alloc, definition, planned, source, room)? else {
         return Err(PlaceFault::TooWide { count: top + 1 });
     };
-    place_in(alloc, planned, object, table, id, row, buckets, placed)?;
+    place_in(alloc, planned, object, source, buckets, placed)?;
     Ok(())
 }
 
@@ -111,20 +109,18 @@ fn place_in(
     alloc: Global,
     planned: &Planned,
     object: Text,
-    table: &Text,
-    id: &Text,
-    row: &Row,
+    source: &SourceRow<'_>,
     buckets: BTreeSet<Text>,
     placed: &mut Items<Placed>,
 ) -> Result<(), Memory>
     requires { outputs_have_parameter planned.now.query.outputs ≡ false }
-    ensures { OnOk result (placed.new ≡ placed.old ++ map (placed_in planned.now (row_of table.now id.now row.now) object) buckets.keys) }
+    ensures { OnOk result (placed.new ≡ placed.old ++ map (placed_in planned.now (row_at source.now) object) buckets.keys) }
 {
     if buckets.is_empty() {
         return Ok(());
     }
-    let content = shown_content(alloc, &planned.query, &object, id, row)?;
-    let subkey = subkey(alloc, planned.number, table, id)?;
+    let content = shown_content(alloc, &planned.query, &object, source)?;
+    let subkey = subkey(alloc, planned.number, source)?;
     push_entries(alloc, planned, object, subkey, content, buckets, placed)
 }
 
@@ -195,10 +191,10 @@ fn push_entry(
 
 // The subkey of a query's entries.
 #[tactic(auto, unfolding(crate::specs::Entries::subkey_of))]
-fn subkey(alloc: Global, number: u32, table: &Text, id: &Text) -> Result<Text, Memory>
-    ensures { IfOk result (λ subkey. subkey ≡ subkey_of number (row_of table.now id.now [])) }
+fn subkey(alloc: Global, number: u32, source: &SourceRow<'_>) -> Result<Text, Memory>
+    ensures { IfOk result (λ subkey. subkey ≡ subkey_of number (row_at source.now)) }
 {
-    let (table, id) = (table.as_str(), id.as_str());
+    let (table, id) = (source.table.as_str(), source.id.as_str());
     let room = table.len().saturating_add(id.len()).saturating_add(12);
     let mut subkey = String::with_capacity(alloc, room)?;
     write!(subkey, "{number}/{table}/{id}")?;
@@ -210,28 +206,17 @@ fn buckets(
     alloc: Global,
     definition: &Definition,
     planned: &Planned,
-    id: &Text,
-    row: &Row,
+    source: &SourceRow<'_>,
     room: usize,
 ) -> Result<Option<BTreeSet<Text>>, Memory>
     requires differ { has_repeated definition.now.names ≡ false }
     requires sound { IsSoundQuery definition.now.names planned.now }
-    ensures { IfOk result (FitsWith room (buckets_of definition.now (row_of [] id.now row.now) planned.now)) }
+    ensures { IfOk result (FitsWith room (buckets_of definition.now (row_at source.now) planned.now)) }
 {
     branches_are_solved();
     let mut found = BTreeSet::new(alloc);
-    let definition_name = &definition.name;
-    let names = definition.names.as_slice();
-    if name_branches(
-        alloc,
-        definition_name,
-        names,
-        planned.branches.as_slice(),
-        id,
-        row,
-        room,
-        &mut found,
-    )? {
+    let branches = planned.branches.as_slice();
+    if name_branches(alloc, definition, branches, source, room, &mut found)? {
         Ok(Some(found))
     } else {
         Ok(None)
@@ -241,21 +226,19 @@ fn buckets(
 // Adds the names of all branches' vectors; false where they are more than `room`.
 fn name_branches(
     alloc: Global,
-    definition: &Text,
-    names: &[Text],
+    definition: &Definition,
     branches: &[Branch],
-    id: &Text,
-    row: &Row,
+    source: &SourceRow<'_>,
     room: usize,
     found: &mut BTreeSet<Text>,
 ) -> Result<bool, Memory>
     requires plain { list_any (λ (b : BranchData). sides_have_parameter b) branches.now ≡ false }
     requires within { length found.old.keys ≤ room }
     ensures { IfOk result (Fits room found.old.keys found.new.keys
-        (flat_map (branch_names (alone id.now row.now) definition.now names.now) branches.now)) }
+        (flat_map (branch_names (alone source.now.id.now source.now.row.now) definition.now.name definition.now.names) branches.now)) }
 {
     'branches: for branch in branches {
-        if !name_branch(alloc, definition, names, branch, id, row, room, found)? {
+        if !name_branch(alloc, definition, branch, source, room, found)? {
             return Ok(false);
         }
     }
@@ -265,24 +248,29 @@ fn name_branches(
 // Adds the names of a branch's vectors; false where they are more than `room`.
 fn name_branch(
     alloc: Global,
-    definition: &Text,
-    names: &[Text],
+    definition: &Definition,
     branch: &Branch,
-    id: &Text,
-    row: &Row,
+    source: &SourceRow<'_>,
     room: usize,
     found: &mut BTreeSet<Text>,
 ) -> Result<bool, Memory>
     requires plain { sides_have_parameter branch.now ≡ false }
     requires within { length found.old.keys ≤ room }
     ensures { IfOk result (Fits room found.old.keys found.new.keys
-        (branch_names (alone id.now row.now) definition.now names.now branch.now)) }
+        (branch_names (alone source.now.id.now source.now.row.now) definition.now.name definition.now.names branch.now)) }
 {
-    if !all_hold(alloc, branch.rest.as_slice(), id, row)? {
+    if !all_hold(alloc, branch.rest.as_slice(), source.id, source.row)? {
         return Ok(true);
     }
-    let lists = allowed_each(alloc, names, branch.matches.as_slice(), id, row)?;
-    name_lists(alloc, definition, lists.as_slice(), room, found)
+    let names = definition.names.as_slice();
+    let lists = allowed_each(
+        alloc,
+        names,
+        branch.matches.as_slice(),
+        source.id,
+        source.row,
+    )?;
+    name_lists(alloc, &definition.name, lists.as_slice(), room, found)
 }
 
 // Adds the names of the vectors that have one value of each list; false where they are more than `room`. Where a list is
