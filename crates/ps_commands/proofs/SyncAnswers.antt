@@ -35,7 +35,8 @@ use Rattle.ps_session.specs.Sessions.{SessionState}
 use Rattle.ps_core.specs.Headline.{IsGood, AreListed}
 use Rattle.ps_core.specs.Calls.{IsRightEvent, IsRightFault}
 use Rattle.ps_core.specs.Ties.{TiedIn}
-use Rattle.ps_commands.specs.Turning.{IsLed, IsIdle, IsWant}
+use Rattle.ps_core.specs.Parts.{IsWant}
+use Rattle.ps_commands.specs.Turning.{IsLed, IsIdle}
 
 -- ---- faults
 

@@ -3,8 +3,6 @@ use Rattle.std.specs.Prelude.{◌≡◌, ℕ, ◌≤◌, List, [], length, Resul
 use Rattle.ps_sql.specs.Meaning.{Asker}
 use Rattle.ps_rules.specs.RuleSets.{AreRules}
 use Rattle.ps_client_log.specs.declared.states.Target.TheVariants.{Free}
-use Rattle.ps_client.specs.declared.faults.ClientFault.{ClientFault}
-use Rattle.ps_client.specs.declared.faults.ClientFault.TheVariants as faults
 use Rattle.ps_client.specs.Clients.{PlainClient}
 use Rattle.ps_store.specs.declared.events.Event.{Event}
 use Rattle.ps_store.specs.declared.fixed.Fixed.{Fixed}
@@ -45,12 +43,3 @@ Begins fixed history asker session client (Ok done) =
     IsLedIn fixed history asker session client × (length (names_of (ledger_of fixed.rules history) asker) ≤ fixed.limits.buckets)
 Begins fixed history asker session client (Err (TooManyBuckets count)) = AreTooMany fixed.limits (ledger_of fixed.rules history) asker count
 Begins fixed history asker session client (Err Memory) = Unit {0}
-
--- a fault that is want of memory
-abbrev pub IsWant : ClientFault → Type 0
-IsWant faults.OutOfOrder = ⊥
-IsWant (faults.BadLine fault) = ⊥
-IsWant faults.KeeperFault = ⊥
-IsWant faults.QueueEmpty = ⊥
-IsWant (faults.QueueWaiting length) = ⊥
-IsWant faults.Memory = Unit {0}

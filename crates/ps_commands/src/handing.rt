@@ -10,7 +10,8 @@ ghost use Rattle.ps_core.specs.Runs.{made_by};
 ghost use Rattle.ps_core.specs.Headline.{Local, IsGood, with_local};
 ghost use Rattle.ps_core.specs.Calls.{IsRightEvent};
 ghost use Rattle.ps_core.specs.Ties.{Leads};
-ghost use Rattle.ps_commands.specs.Turning.{IsIdle, IsWant};
+ghost use Rattle.ps_core.specs.Parts.{IsWant};
+ghost use Rattle.ps_commands.specs.Turning.{IsIdle};
 
 use ps_client::{Client, ClientFault, Event};
 use ps_client_log::VolatileKeeper;
