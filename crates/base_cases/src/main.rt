@@ -8,6 +8,7 @@ mod sums;
 mod values;
 mod words;
 
+use case_words::cut;
 use std::alloc::Global;
 use std::test::Fail;
 
@@ -84,7 +85,7 @@ fn call_laws(out: &mut String) -> Result<bool, Fail> {
 }
 
 fn answer(rt: &HostRuntime, line: &str, out: &mut String) -> Result<(), Fail> {
-    let (word, rest) = words::cut(line);
+    let (word, rest) = cut(line);
     let is_answered = answer_value(rt.alloc(), word, rest, out)?
         || answer_log(rt.alloc(), word, rest, out)?
         || answer_io(rt, word, rest, out)?

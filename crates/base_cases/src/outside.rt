@@ -1,6 +1,7 @@
 //! Files and sinks, in memory and in the system.
 
-use crate::words::{cut, number, numbers};
+use crate::words::{number, numbers};
+use case_words::cut;
 use ps_checksum::first_four;
 use ps_io::{
     DiskFiles, FileFault, Files, MemoryFile, MemoryFiles, MemorySink, Sink, StdSink, SureFiles,

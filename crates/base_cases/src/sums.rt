@@ -1,6 +1,6 @@
 //! Sums of operations.
 
-use crate::words::cut;
+use case_words::cut;
 use ps_checksum::{Sum, add, first_four, put_sum, remove_sum, sums_are_a_commutative_group};
 use ps_values::Text;
 use std::alloc::Global;

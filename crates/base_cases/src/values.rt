@@ -1,6 +1,7 @@
 //! Values, numbers and JSON.
 
-use crate::words::{bytes, cut};
+use crate::words::bytes;
+use case_words::cut;
 use ps_values::{
     Boxed, Column, Items, Text, TextFault, Truth, Value, ValueFault, compare,
     compare_is_a_total_order, decimal, decimals_read_back, document, equal_sql,

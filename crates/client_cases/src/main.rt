@@ -11,19 +11,12 @@ mod events;
 mod locals;
 mod streams;
 
+use case_words::cut;
 use ps_client::Client;
 use ps_client_log::{KeepFault, MemoryKeeper};
 use ps_values::{Items, Text};
 use std::alloc::Global;
 use std::test::Fail;
-
-// The first word, and what stands behind the space after it.
-fn cut(line: &str) -> (&str, &str) {
-    match line.split_once(' ') {
-        Some(parts) => parts,
-        None => (line, ""),
-    }
-}
 
 // The numbers between commas; none for `-`.
 fn numbers(alloc: Global, word: &str) -> Result<Items<u64>, Fail> {

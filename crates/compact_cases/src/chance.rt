@@ -1,7 +1,8 @@
 //! Lists made by chance, compacted at each level, and beside them the rule as it is told.
 
-use crate::logs::{cut, log_of, number, put, remove};
+use crate::logs::{log_of, number, put, remove};
 use crate::plain::{compacted, is_told};
+use case_words::cut;
 use ps_bucket_log::{BucketLog, Log, Op};
 use ps_compact::compact;
 use ps_values::OpId;

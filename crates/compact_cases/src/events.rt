@@ -1,6 +1,7 @@
 //! Events of a log, one after another: `put ID ROW SUM`, `remove ID ROW SUM` and `compact LEVEL`.
 
-use crate::logs::{cut, log_of, number, put, remove, write_ops};
+use crate::logs::{log_of, number, put, remove, write_ops};
+use case_words::cut;
 use ps_bucket_log::{BucketLog, Log, Op};
 use ps_compact::{Report, compact};
 use ps_values::OpId;

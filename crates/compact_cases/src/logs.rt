@@ -10,14 +10,6 @@ use ps_values::{Items, OpId, Text};
 use std::alloc::Global;
 use std::test::Fail;
 
-/// The first word, and what stands behind the space after it.
-pub fn cut(line: &str) -> (&str, &str) {
-    match line.split_once(' ') {
-        Some(parts) => parts,
-        None => (line, ""),
-    }
-}
-
 /// A number.
 pub fn number(word: &str) -> Result<u64, Fail> {
     Ok(word.parse::<u64>()?)

@@ -7,6 +7,7 @@ mod logs;
 mod many;
 mod plain;
 
+use case_words::cut;
 use ps_compact::{
     compacted_logs_are_logs, compacted_logs_keep_readers_honest, compacted_logs_keep_sums,
     compacted_logs_stand, twice_is_once,
@@ -25,7 +26,7 @@ fn call_laws(out: &mut String) -> Result<(), Fail> {
 }
 
 fn answer(alloc: Global, line: &str, out: &mut String) -> Result<(), Fail> {
-    let (word, rest) = logs::cut(line);
+    let (word, rest) = cut(line);
     match word {
         "log" => events::write_log(alloc, rest, out),
         "chance" => chance::write_lists(alloc, rest, out),

@@ -1,7 +1,8 @@
 //! A log of very many operations.
 
 use crate::events::write_report;
-use crate::logs::{cut, log_of, number, put};
+use crate::logs::{log_of, number, put};
+use case_words::cut;
 use ps_bucket_log::Op;
 use ps_compact::compact;
 use ps_values::{Items, OpId};

@@ -1,6 +1,7 @@
 //! Heads of answers.
 
 use crate::words;
+use case_words::cut;
 use ps_http::write_head;
 use std::alloc::Global;
 use std::test::Fail;
@@ -23,7 +24,7 @@ fn head_of(alloc: Global, status: u64, length: Option<u64>) -> Result<Vec<u8>, F
 
 /// The head of an answer with a status, and a length or `-`.
 pub fn write_answer(alloc: Global, rest: &str, out: &mut String) -> Result<(), Fail> {
-    let (status, length) = words::cut(rest);
+    let (status, length) = cut(rest);
     let length = if length == "-" {
         None
     } else {

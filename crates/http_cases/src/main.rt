@@ -18,13 +18,14 @@ mod outside;
 mod requests;
 mod words;
 
+use case_words::{cut, push_spelled};
 use ps_http::query_value;
 use ps_values::Text;
 use std::alloc::Global;
 use std::test::Fail;
 
 fn write_value(alloc: Global, rest: &str, out: &mut String) -> Result<(), Fail> {
-    let (name, query) = words::cut(rest);
+    let (name, query) = cut(rest);
     let name = Text::from_str(alloc, name)?;
     let query = Text::from_str(alloc, query)?;
     match query_value(alloc, &query, &name)? {
@@ -40,13 +41,13 @@ fn write_value(alloc: Global, rest: &str, out: &mut String) -> Result<(), Fail> 
 // Adds to the request; false where the word adds nothing.
 fn is_added(word: &str, rest: &str, request: &mut Vec<u8>) -> Result<bool, Fail> {
     if word == "add" {
-        words::push_spelled(rest, request)?;
+        push_spelled(rest, request)?;
         return Ok(true);
     }
     if word == "times" {
-        let (count, text) = words::cut(rest);
+        let (count, text) = cut(rest);
         'times: for _ in 0..words::number(count)? {
-            words::push_spelled(text, request)?;
+            push_spelled(text, request)?;
         }
         return Ok(true);
     }
@@ -78,7 +79,7 @@ fn main(rt: HostRuntime) -> Result<(), Fail> {
     let mut request = Vec::new(rt.alloc());
     'lines: for line in rt.lines(rt.alloc()) {
         let line = line?;
-        let (word, rest) = words::cut(line.as_str());
+        let (word, rest) = cut(line.as_str());
         if is_added(word, rest, &mut request)? {
             continue;
         }

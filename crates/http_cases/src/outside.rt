@@ -1,7 +1,8 @@
 //! Sources and clocks of the system.
 
 use crate::requests::{name_of, write_head};
-use crate::words::{cut, number};
+use crate::words::number;
+use case_words::cut;
 use ps_http::read_head;
 use ps_io::{Clock, MemoryClock, Source, StdSource, WallClock};
 use std::alloc::Global;

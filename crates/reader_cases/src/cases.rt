@@ -1,6 +1,5 @@
 use crate::bodies::{body, rewritten_body};
 use crate::changes::{change, change_line, changes, copied_change_line, same_rows};
-use crate::escapes::{push_escaped, unescaped};
 use crate::evaluations::Asking;
 use crate::lines::line as stream_line;
 use crate::made::{deep_yaml, long_yaml};
@@ -8,6 +7,7 @@ use crate::queries::{copied, data_query, parameter_query, token_places};
 use crate::rules::{branches, condition, copied_rules, definition, laws, rules};
 use crate::written::{written, written_change};
 use crate::yaml::yaml;
+use case_words::{push_escaped, unescaped};
 use ps_values::Memory;
 use std::alloc::Global;
 

@@ -1,13 +1,12 @@
 //! Reads cases from standard input, one a line, and prints for each in a line what the readers below make of it: a tree,
 //! a value, bytes, or the named fault with its place. A line is the kind of a case, a space, and a text; `cases.rt` has
-//! the kinds, and `escapes.rt` says how a text is written that fits no line. A blank line and one that begins with `#` are
+//! the kinds, and `case_words` says how a text is written that fits no line. A blank line and one that begins with `#` are
 //! printed as they stand.
 #![tactic(auto)]
 
 mod bodies;
 mod cases;
 mod changes;
-mod escapes;
 mod evaluations;
 mod expressions;
 mod lines;

@@ -1,6 +1,6 @@
 //! Events, as they are printed.
 
-use crate::escapes::push_escaped;
+use case_words::push_escaped;
 use ps_changes::{Change, Row};
 use ps_script::ScriptEvent;
 use ps_values::{Memory, Text, Value};

@@ -1,12 +1,11 @@
 //! Reads the lines of its standard input, each of which is a line of a script or several, and prints in a line what each is read as: an
-//! event with its arguments, `skipped`, or the fault; with ` | ` between where there are several. `escapes.rt` says how bytes are
+//! event with its arguments, `skipped`, or the fault; with ` | ` between where there are several. `case_words` says how bytes are
 //! written that fit no line, a line feed among them.
 #![tactic(auto)]
 
-mod escapes;
 mod events;
 
-use escapes::unescaped;
+use case_words::unescaped;
 use events::show_event;
 use ps_script::{is_skipped, read_event, split_line};
 use ps_values::Memory;

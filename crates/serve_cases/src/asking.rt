@@ -2,7 +2,7 @@
 
 ghost use Rattle.serve_cases.specs.Standing.{IsStore};
 
-use crate::words::{Stop, cut, number, push_shown};
+use case_words::{Stop, cut, push_shown};
 use ps_io::{MemoryClock, MemorySink, MemorySource};
 use ps_serve::{End, Site, answer_alone};
 use ps_store::Store;
@@ -16,7 +16,7 @@ const ROOM: usize = 1048576;
 fn failing(alloc: Global, word: &str) -> Result<Items<u64>, Stop> {
     let mut calls = Vec::new(alloc);
     if word != "-" {
-        calls.push(number(word)?)?;
+        calls.push(word.parse::<u64>()?)?;
     }
     Ok(Items::from_vec(calls))
 }
@@ -71,13 +71,13 @@ pub fn ask(
 {
     let (moment, rest) = cut(rest);
     let (reads, writes) = cut(rest);
-    let clock = MemoryClock::new(number(moment)?, 0);
+    let clock = MemoryClock::new(moment.parse::<u64>()?, 0);
     let mut from = source(alloc, request, reads)?;
     let mut to = MemorySink::new(alloc, ROOM, failing(alloc, writes)?)?;
     let answered = connect(alloc, site, store, &mut from, &mut to, &clock);
     push_end(answered, out)?;
     out.push_str(" ")?;
-    push_shown(to.bytes(), out)
+    Ok(push_shown(to.bytes(), out)?)
 }
 
 // Whether the first part of a request is cut, with nothing written.
@@ -110,7 +110,7 @@ pub fn ask_cuts(
     requires { IsStore store.old }
     ensures { IsStore store.new }
 {
-    let moment = number(rest)?;
+    let moment = rest.parse::<u64>()?;
     let mut cuts = 0u64;
     let mut others = 0u64;
     'cuts: for length in 0..request.len() {

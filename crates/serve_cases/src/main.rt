@@ -18,14 +18,13 @@ ghost use Rattle.serve_cases.specs.Standing.{IsStore};
 
 mod asking;
 mod stores;
-mod words;
 
+use case_words::{Stop, cut, push_spelled};
 use ps_serve::Site;
 use ps_store::Store;
 use ps_token::{Keys, read_keys, sign};
 use ps_values::Text;
 use std::alloc::Global;
-use words::{Stop, cut, number, push_spelled};
 
 // One definition of all rows of one table.
 const GLOBAL: &str = "bucket_definitions:\n  global:\n    data:\n      - SELECT * FROM t\n";
@@ -85,7 +84,7 @@ fn is_added(
         "add" => push_spelled(rest, request)?,
         "times" => {
             let (count, text) = cut(rest);
-            'times: for _ in 0..number(count)? {
+            'times: for _ in 0..count.parse::<u64>()? {
                 push_spelled(text, request)?;
             }
         }
@@ -111,7 +110,7 @@ fn is_changed(alloc: Global, store: &mut Store, word: &str, rest: &str) -> Resul
 {
     match word {
         "feed" => stores::feed(alloc, store, rest)?,
-        "rows" => stores::feed_rows(alloc, store, number(rest)?)?,
+        "rows" => stores::feed_rows(alloc, store, rest.parse::<u64>()?)?,
         "write" => stores::write(alloc, store)?,
         "commit" => stores::commit(store)?,
         "close" => stores::close(store),

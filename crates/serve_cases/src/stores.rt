@@ -1,66 +1,14 @@
 //! The store that connections are answered on.
 
-ghost use Rattle.std.specs.Prelude.{◌≤◌, IfOk, IsTrue};
-ghost use Rattle.ps_store.specs.Limits.{greatest, AreWithin};
+ghost use Rattle.std.specs.Prelude.{◌≤◌, IfOk};
+ghost use Rattle.ps_store.specs.Limits.{greatest};
 ghost use Rattle.serve_cases.specs.Standing.{IsStore};
 
-use crate::words::{Stop, cut};
-use ps_changes::{Transaction, read_line};
-use ps_rules::{Rules, read_rules};
-use ps_store::{
-    Checkpoint, FeedFault, Limits, NothingToCommit, Store, WriteFault, Wrote, have_numbers,
-};
-use ps_values::{GREATEST, Memory};
+use case_stores::{limits_of, rules_of, transaction_of};
+use case_words::Stop;
+use ps_changes::Transaction;
+use ps_store::{Checkpoint, FeedFault, NothingToCommit, Store, WriteFault, Wrote, have_numbers};
 use std::alloc::Global;
-
-// The rules of a text.
-fn rules_of(alloc: Global, text: &str) -> Result<Rules, Stop> {
-    if 1048576 < text.len() {
-        return Err(Memory)?;
-    }
-    Ok(read_rules(alloc, text.as_bytes())?)
-}
-
-// The limits that five numbers say.
-fn limits_read(words: &str) -> Result<Limits, Stop> {
-    let (ops, words) = cut(words);
-    let (numbers, words) = cut(words);
-    let (positions, words) = cut(words);
-    let (buckets, entries) = cut(words);
-    Ok(Limits {
-        ops: ops.parse::<u64>()?,
-        numbers: numbers.parse::<u64>()?,
-        positions: positions.parse::<u64>()?,
-        buckets: buckets.parse::<u32>()?,
-        entries: entries.parse::<u32>()?,
-    })
-}
-
-// Whether no limit is above the usual one.
-fn are_within(limits: &Limits) -> bool
-    ensures { IsTrue result → AreWithin limits.now }
-{
-    limits.ops <= GREATEST
-        && limits.numbers <= GREATEST
-        && limits.positions <= GREATEST
-        && limits.buckets <= 1000
-        && limits.entries <= 1000
-}
-
-// The limits that five numbers say, in the order of their names in `Limits`; the usual ones where there is no word.
-fn limits_of(words: &str) -> Result<Limits, Stop>
-    ensures { IfOk result AreWithin }
-{
-    if words.is_empty() {
-        return Ok(Limits::usual());
-    }
-    let limits = limits_read(words)?;
-    if are_within(&limits) {
-        Ok(limits)
-    } else {
-        Err("a limit above the usual one")?
-    }
-}
 
 /// A store for the rules of a text, under limits.
 pub fn store_of(alloc: Global, rules: &str, limits: &str) -> Result<Store, Stop>
@@ -71,17 +19,6 @@ pub fn store_of(alloc: Global, rules: &str, limits: &str) -> Result<Store, Stop>
     have_numbers(&rules);
     let store = Store::new(alloc, rules, limits)?;
     Ok(store)
-}
-
-// The transaction of a change line.
-fn transaction_of(alloc: Global, line: &str) -> Result<Transaction, Stop>
-    ensures { IfOk result (λ transaction. transaction.position.0 ≤ greatest) }
-{
-    let transaction = read_line(alloc, line.as_bytes())?;
-    if GREATEST < transaction.position.0 {
-        return Err(Memory)?;
-    }
-    Ok(transaction)
 }
 
 fn feed_next(store: &mut Store, transaction: Transaction) -> Result<(), FeedFault>

@@ -2,8 +2,9 @@
 
 use crate::commands::rows;
 use crate::granting::due_text;
-use crate::reading::{asker_of, rules_of, transactions_of};
-use crate::words::{Stop, cut, number};
+use crate::reading::{asker_of, transactions_of};
+use case_stores::rules_of;
+use case_words::{Stop, cut};
 use ps_changes::Transaction;
 use ps_rules::Rules;
 use ps_sql_eval::Asker;
@@ -213,14 +214,14 @@ fn is_same(alloc: Global, dice: &mut Dice) -> Result<(bool, bool), Stop> {
 pub fn write_tries(alloc: Global, words: &str, out: &mut String) -> Result<(), Stop> {
     let (seed, count) = cut(words);
     let mut dice = Dice {
-        state: number(seed)?,
+        state: seed.parse::<u64>()?,
     };
     let mut outcome = Outcome {
         same: 0,
         different: 0,
         without_rows: 0,
     };
-    'tries: for _ in 0..number(count)? {
+    'tries: for _ in 0..count.parse::<u64>()? {
         let (is_same, is_empty) = is_same(alloc, &mut dice)?;
         if is_same {
             outcome.same = outcome.same.saturating_add(1);

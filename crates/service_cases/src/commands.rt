@@ -1,6 +1,7 @@
 //! The commands, on files and sinks in memory.
 
-use crate::words::{Stop, Texts, cut, number};
+use crate::texts::Texts;
+use case_words::{Stop, cut};
 use ps_commands::run_plain;
 use ps_io::{Files, MemoryFile, MemoryFiles, MemorySink, SureFiles};
 use ps_values::{Items, Text};
@@ -178,7 +179,7 @@ pub fn write_unread(
     out: &mut String,
 ) -> Result<(), Stop> {
     let (call, words) = cut(words);
-    let answer = unread(alloc, texts, words, number(call)?)?;
+    let answer = unread(alloc, texts, words, call.parse::<u64>()?)?;
     write_answer(out, &answer)
 }
 
@@ -197,7 +198,13 @@ pub fn write_unwritten(
 ) -> Result<(), Stop> {
     let (room, words) = cut(words);
     let (call, words) = cut(words);
-    let answer = unwritten(alloc, texts, words, room.parse::<usize>()?, number(call)?)?;
+    let answer = unwritten(
+        alloc,
+        texts,
+        words,
+        room.parse::<usize>()?,
+        call.parse::<u64>()?,
+    )?;
     write_sizes(out, &answer)
 }
 

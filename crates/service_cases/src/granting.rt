@@ -1,7 +1,9 @@
 //! What rules grant, from the definitions alone.
 
-use crate::reading::{asker_of, rules_of, transactions_of};
-use crate::words::{Stop, Texts, cut, number};
+use crate::reading::{asker_of, transactions_of};
+use crate::texts::Texts;
+use case_stores::rules_of;
+use case_words::{Stop, cut};
 use ps_changes::{Shown, Transaction};
 use ps_grant::{Granted, SourceRows, grants_of, rows_of, source_at};
 use ps_rules::Rules;
@@ -44,7 +46,7 @@ fn granted(alloc: Global, texts: &Texts, words: &str) -> Result<Items<Granted>, 
     let (changes, words) = cut(words);
     let (user, words) = cut(words);
     let (parameters, position) = cut(words);
-    let source = source_of(alloc, texts.text(changes)?, number(position)?)?;
+    let source = source_of(alloc, texts.text(changes)?, position.parse::<u64>()?)?;
     granted_to(alloc, texts.text(rules)?, &source, user, parameters)
 }
 

@@ -5,10 +5,12 @@ ghost use Rattle.ps_sql_eval.specs.Evaluated.{asker_of as seen_of};
 ghost use Rattle.ps_session.specs.Kept.{state_of};
 ghost use Rattle.service_cases.specs.Serving.{IsServing, IsOver};
 
-use crate::reading::{asker_of, rules_of};
+use crate::reading::asker_of;
 use crate::storing::store_over;
+use crate::texts::Texts;
 use crate::turns::{begin, turn};
-use crate::words::{Stop, Texts, cut};
+use case_stores::rules_of;
+use case_words::{Stop, cut};
 use ps_lines::{Line, read_line, write_line};
 use ps_session::{Action, Session};
 use ps_sql_eval::Asker;

@@ -2,8 +2,10 @@
 
 ghost use Rattle.std.specs.Prelude.{◌≡◌, ◌≤◌, OnOk};
 
-use crate::reading::{asker_of, rules_of};
-use crate::words::{Stop, Texts, cut, number};
+use crate::reading::asker_of;
+use crate::texts::Texts;
+use case_stores::rules_of;
+use case_words::{Stop, cut};
 use ps_changes::{Transaction, read_line};
 use ps_params::ParameterIndex;
 use ps_rules::Rules;
@@ -82,7 +84,10 @@ fn names_for(
 // Positions with a space between them.
 fn positions(words: &str) -> Result<(Position, Position), Stop> {
     let (forgotten, position) = cut(words);
-    Ok((Position(number(forgotten)?), Position(number(position)?)))
+    Ok((
+        Position(forgotten.parse::<u64>()?),
+        Position(position.parse::<u64>()?),
+    ))
 }
 
 /// The names of an asker's buckets at a position, with all before another one forgotten: RULES CHANGES USER PARAMETERS

@@ -9,12 +9,13 @@ mod lookups;
 mod placing;
 mod reading;
 mod storing;
+mod texts;
 mod turns;
-mod words;
 
+use case_words::{Stop, cut};
 use std::alloc::Global;
 use std::thread;
-use words::{Stop, Texts};
+use texts::Texts;
 
 // Reading, checking and dropping a hostile file may nest as deep as it is long.
 const STACK: usize = 1073741824;
@@ -71,7 +72,7 @@ fn answer(alloc: Global, texts: &mut Texts, line: &str, out: &mut String) -> Res
     if line.is_empty() || texts.add(line)? {
         return Ok(());
     }
-    let (word, rest) = words::cut(line);
+    let (word, rest) = cut(line);
     if word == "text" {
         return texts.begin(alloc, rest);
     }

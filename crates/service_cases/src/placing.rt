@@ -1,7 +1,8 @@
 //! The buckets that rows lie in.
 
-use crate::reading::rules_of;
-use crate::words::{Stop, Texts, cut};
+use crate::texts::Texts;
+use case_stores::rules_of;
+use case_words::{Stop, cut};
 use ps_bucket_eval::{PlaceFault, Placed, entries_of_row, entries_stand_where_conditions_hold};
 use ps_changes::{Change, Row, read_change};
 use ps_rules::{Rules, bucket_name, names_are_distinct};

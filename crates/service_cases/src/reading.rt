@@ -1,19 +1,10 @@
-//! Rules, transactions and askers, as the cases have them.
+//! Transactions and askers, as the cases have them.
 
-use crate::words::Stop;
+use case_words::Stop;
 use ps_changes::{Transaction, read_line};
-use ps_rules::{Rules, read_rules};
 use ps_sql_eval::Asker;
 use ps_values::{Items, Memory, Text};
 use std::alloc::Global;
-
-/// The rules of a text.
-pub fn rules_of(alloc: Global, text: &str) -> Result<Rules, Stop> {
-    if 1048576 < text.len() {
-        return Err(Memory)?;
-    }
-    Ok(read_rules(alloc, text.as_bytes())?)
-}
 
 /// The transactions of a text's lines.
 pub fn transactions_of(alloc: Global, text: &str) -> Result<Items<Transaction>, Stop> {

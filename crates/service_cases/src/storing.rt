@@ -3,8 +3,9 @@
 ghost use Rattle.std.specs.Prelude.{IfOk};
 ghost use Rattle.service_cases.specs.Serving.{IsServing};
 
-use crate::reading::rules_of;
-use crate::words::{Stop, Texts, cut};
+use crate::texts::Texts;
+use case_stores::rules_of;
+use case_words::{Stop, cut};
 use ps_bucket_log::Op;
 use ps_commands::write_changes;
 use ps_rules::Rules;

@@ -9,7 +9,7 @@ ghost use Rattle.ps_session.specs.Kept.{state_of};
 ghost use Rattle.ps_session.specs.Sessions.{IsTaking, next_action};
 ghost use Rattle.service_cases.specs.Serving.{IsServing, IsOver};
 
-use crate::words::Stop;
+use case_words::Stop;
 use ps_core::calls_make_turns;
 use ps_lines::Line;
 use ps_session::{Action, Session, StreamRequest};

@@ -7,6 +7,7 @@ ghost use Rattle.std.specs.Prelude.{◌≡◌, false};
 ghost use Rattle.ps_sql.specs.declared.subjects.Subject.TheVariants as subjects;
 ghost use Rattle.ps_sql.specs.Subjects.{speaks};
 
+use crate::shared::nested;
 use ps_changes::{Change, Row, read_change};
 use ps_sql::{Expr, ParameterQuery, Subject, read_parameter_query};
 use ps_sql_eval::{Asker, eval_request};
@@ -61,16 +62,9 @@ fn work_of(word: &str) -> Option<Work> {
     }
 }
 
-fn push_all(query: &mut String, part: &str, count: u32) -> Result<(), Memory> {
-    'parts: for _ in 0..count {
-        query.push_str(part)?;
-    }
-    Ok(())
-}
-
 // A query with a condition that is nested so.
 fn query_text(alloc: Global, shape: Shape, count: u32) -> Result<Text, Memory> {
-    let (before, behind) = match shape {
+    let around = match shape {
         Shape::Brackets => ("(", ")"),
         Shape::Nots => ("NOT ", ""),
         Shape::Chain => ("", "=1"),
@@ -78,11 +72,7 @@ fn query_text(alloc: Global, shape: Shape, count: u32) -> Result<Text, Memory> {
         Shape::Joins => ("", "||1"),
         Shape::Calls => ("length(", ")"),
     };
-    let mut query = String::from_str(alloc, "SELECT 1 AS x WHERE ")?;
-    push_all(&mut query, before, count)?;
-    query.push_str("1")?;
-    push_all(&mut query, behind, count)?;
-    Ok(Text::from_string(query))
+    nested(alloc, "SELECT 1 AS x WHERE ", "1", around, count)
 }
 
 // The asker of the worked rules, with a parameter.

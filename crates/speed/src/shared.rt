@@ -17,6 +17,29 @@ pub(crate) const TITLE: &str = "a title of some fifty bytes, as a task may have 
 pub(crate) const TO_DO: &str =
     "bucket_definitions:\n  user_lists:\n    parameters: SELECT request.user_id() AS user_id\n    data:\n      - SELECT * FROM lists WHERE owner_id = bucket.user_id\n  list_todos:\n    parameters: SELECT id AS list_id FROM lists WHERE owner_id = request.user_id()\n    data:\n      - SELECT id, list_id, upper(title) AS title, done FROM todos\n        WHERE list_id = bucket.list_id\n  global:\n    data:\n      - SELECT id, name FROM settings AS options\n";
 
+// Adds a part so many times.
+fn push_all(text: &mut String, part: &str, count: u32) -> Result<(), Memory> {
+    'parts: for _ in 0..count {
+        text.push_str(part)?;
+    }
+    Ok(())
+}
+
+/// A query whose condition has so many of two parts around it.
+pub(crate) fn nested(
+    alloc: Global,
+    front: &str,
+    inner: &str,
+    around: (&str, &str),
+    count: u32,
+) -> Result<Text, Memory> {
+    let mut query = String::from_str(alloc, front)?;
+    push_all(&mut query, around.0, count)?;
+    query.push_str(inner)?;
+    push_all(&mut query, around.1, count)?;
+    Ok(Text::from_string(query))
+}
+
 /// The rules of a text, if it is such a text and there is memory.
 pub(crate) fn rules_of(alloc: Global, text: &str) -> Option<Rules> {
     if 4294967295 <= text.len() {

@@ -2,6 +2,7 @@
 //! condition has COUNT brackets, NOTs or operators, and goes as far as STEP says, in a thread with STACK bytes of
 //! stack. Prints what came of it.
 
+use crate::shared::nested;
 use ps_sql::{DataQuery, read_data_query};
 use ps_values::{Memory, Text};
 use std::alloc::Global;
@@ -54,28 +55,16 @@ fn work_of(word: &str) -> Option<Work> {
     }
 }
 
-fn push_all(query: &mut String, part: &str, count: u32) -> Result<(), Memory> {
-    'parts: for _ in 0..count {
-        query.push_str(part)?;
-    }
-    Ok(())
-}
-
 // A query with such a condition.
 fn query_text(alloc: Global, shape: Shape, count: u32) -> Result<Text, Memory> {
-    let (before, behind) = match shape {
+    let around = match shape {
         Shape::Brackets => ("(", ")"),
         Shape::Open => ("(", ""),
         Shape::Nots => ("NOT ", ""),
         Shape::Chain => ("", "=a"),
         Shape::Calls => ("upper(", ")"),
     };
-    let mut query = String::new(alloc);
-    query.push_str("SELECT a FROM t WHERE ")?;
-    push_all(&mut query, before, count)?;
-    query.push_str("a")?;
-    push_all(&mut query, behind, count)?;
-    Ok(Text::from_string(query))
+    nested(alloc, "SELECT a FROM t WHERE ", "a", around, count)
 }
 
 // Whether the condition could be copied.

@@ -4,8 +4,9 @@ ghost use Rattle.std.specs.Prelude.{◌≤◌, IfOk};
 ghost use Rattle.ps_store.specs.Limits.{greatest};
 ghost use Rattle.store_cases.specs.Standing.{IsStore};
 
-use crate::reading::{limits_of, rules_of, transaction_of};
-use crate::words::Stop;
+use crate::reading::transaction_of;
+use case_stores::{limits_of, rules_of};
+use case_words::Stop;
 use ps_changes::Transaction;
 use ps_store::{CompactFault, FeedFault, Store, WriteFault, Wrote};
 use ps_values::{Memory, Text};

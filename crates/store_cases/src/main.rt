@@ -17,12 +17,13 @@ mod changing;
 mod reading;
 mod showing;
 mod taking;
+mod texts;
 mod uploading;
-mod words;
 
+use case_words::{Stop, cut};
 use ps_store::Store;
 use std::alloc::Global;
-use words::{Stop, Texts};
+use texts::Texts;
 
 // Does a call that changes the store; false where the word names none.
 fn change(
@@ -109,7 +110,7 @@ fn answer(
     if line.is_empty() || texts.add(alloc, line)? {
         return Ok(());
     }
-    let (word, rest) = words::cut(line);
+    let (word, rest) = cut(line);
     if word == "store" {
         *store = changing::store_of(alloc, texts.rules(), rest)?;
         return Ok(());

@@ -1,6 +1,6 @@
 //! The calls that read a store, and what each gives.
 
-use crate::words::Stop;
+use case_words::Stop;
 use ps_store::Store;
 use ps_values::{Memory, Text};
 use std::alloc::Global;

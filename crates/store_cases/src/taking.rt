@@ -2,7 +2,7 @@
 
 ghost use Rattle.store_cases.specs.Standing.{IsStore};
 
-use crate::words::{Stop, cut};
+use case_words::{Stop, cut};
 use ps_bucket_log::{Batch, Op, Taken, TakenBucket};
 use ps_sql_eval::Asker;
 use ps_store::{Store, TakeFault};

@@ -5,7 +5,7 @@ ghost use Rattle.ps_changes.specs.declared.changes.Change.{Change as ChangeSeen}
 ghost use Rattle.store_cases.specs.Standing.{IsStore};
 
 use crate::changing::push_feed_fault;
-use crate::words::{Stop, cut};
+use case_words::{Stop, cut};
 use ps_changes::{Change, ChangeFault, read_changes};
 use ps_store::{FeedFault, Store};
 use ps_values::{Items, Position, Text};

@@ -1,30 +1,7 @@
-//! The words of a line, and the texts that lines have made.
+//! The texts that lines have made.
 
+use case_words::{Stop, cut};
 use std::alloc::Global;
-use std::fmt::Debug;
-
-/// A line without an answer. It has no `Debug`, so that every error that has it becomes one.
-#[derive(Drop)]
-pub struct Stop;
-
-impl<E: Debug + Drop> From<E> for Stop {
-    fn from(_error: E) -> Stop {
-        Stop
-    }
-}
-
-/// The first word, and what stands behind the space after it.
-pub fn cut(line: &str) -> (&str, &str) {
-    match line.split_once(' ') {
-        Some(parts) => parts,
-        None => (line, ""),
-    }
-}
-
-/// A number.
-pub fn number(word: &str) -> Result<u64, Stop> {
-    Ok(word.parse::<u64>()?)
-}
 
 /// A text with a name.
 #[derive(Drop)]
@@ -126,10 +103,10 @@ impl Texts {
             self.push(more)?;
         } else if let Some(more) = line.strip_prefix('*') {
             let (count, part) = cut(more);
-            self.push_times(number(count)?, part)?;
+            self.push_times(count.parse::<u64>()?, part)?;
         } else if let Some(more) = line.strip_prefix('+') {
             let (count, template) = cut(more);
-            self.push_lines(number(count)?, template)?;
+            self.push_lines(count.parse::<u64>()?, template)?;
         } else {
             return Ok(false);
         }

@@ -1,25 +1,7 @@
-//! The words of a line, and the texts that lines have made.
+//! The texts that lines have made.
 
+use case_words::Stop;
 use std::alloc::Global;
-use std::fmt::Debug;
-
-/// A line without an answer. It has no `Debug`, so that every error that has it becomes one.
-#[derive(Drop)]
-pub struct Stop;
-
-impl<E: Debug + Drop> From<E> for Stop {
-    fn from(_error: E) -> Stop {
-        Stop
-    }
-}
-
-/// The first word, and what stands behind the space after it.
-pub fn cut(line: &str) -> (&str, &str) {
-    match line.split_once(' ') {
-        Some(parts) => parts,
-        None => (line, ""),
-    }
-}
 
 // One definition of all rows of one table.
 const GLOBAL: &str = "bucket_definitions:\n  global:\n    data:\n      - SELECT * FROM t\n";
