@@ -163,35 +163,37 @@ fn add_told<K: Keeper>(out: &mut String, log: &ClientLog<K>, alloc: Global) -> R
     Ok(out.push_str("|")?)
 }
 
-// What a log tells, and then what another tells that is opened with its keeper.
-fn told_twice<K: Keeper + Drop>(log: ClientLog<K>, alloc: Global) -> Result<String, KeepFault> {
-    let mut out = String::new(alloc);
-    add_told(&mut out, &log, alloc)?;
+// Adds what a log tells, and then what another tells that is opened with its keeper.
+fn add_told_twice<K: Keeper + Drop>(
+    out: &mut String,
+    log: ClientLog<K>,
+    alloc: Global,
+) -> Result<(), KeepFault> {
+    add_told(out, &log, alloc)?;
     let again = opened(alloc, log.close())?;
-    add_told(&mut out, &again, alloc)?;
-    Ok(out)
+    Ok(add_told(out, &again, alloc)?)
 }
 
 // The history in two parts, of which the second begins with an id.
-fn told_of_parts(alloc: Global, middle: u64) -> Result<String, KeepFault> {
+fn add_parts(out: &mut String, alloc: Global, middle: u64) -> Result<(), KeepFault> {
     let mut log = opened(alloc, SureKeeper::new(alloc))?;
     take_history(&mut log, alloc, 1, middle)?;
     take_history(&mut log, alloc, middle, 9)?;
-    told_twice(log, alloc)
+    add_told_twice(out, log, alloc)
 }
 
-fn told_of_singles(alloc: Global) -> Result<String, KeepFault> {
+fn add_singles(out: &mut String, alloc: Global) -> Result<(), KeepFault> {
     let mut log = opened(alloc, SureKeeper::new(alloc))?;
     'ids: for id in 1..9 {
         take_history(&mut log, alloc, id, id + 1)?;
     }
-    told_twice(log, alloc)
+    add_told_twice(out, log, alloc)
 }
 
-fn told_of_none(alloc: Global) -> Result<String, KeepFault> {
+fn add_none(out: &mut String, alloc: Global) -> Result<(), KeepFault> {
     let mut log = opened(alloc, SureKeeper::new(alloc))?;
     take_history(&mut log, alloc, 1, 1)?;
-    told_twice(log, alloc)
+    add_told_twice(out, log, alloc)
 }
 
 // A keeper of which the call with this number fails.
@@ -250,16 +252,13 @@ fn step_on<K: Keeper>(
     step(log, alloc, call)
 }
 
-// What is told after the call that fails, and after all steps.
-fn told_of_failing(alloc: Global, call: u64) -> Result<String, KeepFault> {
-    let mut out = String::new(alloc);
+// Adds what is told after the call that fails, and after all steps.
+fn add_failing(out: &mut String, alloc: Global, call: u64) -> Result<(), KeepFault> {
     let mut log = opened(alloc, failing(alloc, call)?)?;
     'steps: for step in 2..5 {
-        step_on(&mut out, &mut log, alloc, step)?;
+        step_on(out, &mut log, alloc, step)?;
     }
-    let last = told_twice(log, alloc)?;
-    out.push_str(last.as_str())?;
-    Ok(out)
+    add_told_twice(out, log, alloc)
 }
 
 // Two buckets hold one object: a copy with the greater id, one with the same id, and then one bucket goes.
@@ -272,14 +271,13 @@ fn share<K: Keeper>(log: &mut ClientLog<K>, alloc: Global, step: u64) -> Result<
     }
 }
 
-fn told_of_shared(alloc: Global) -> Result<String, KeepFault> {
-    let mut out = String::new(alloc);
+fn add_shared(out: &mut String, alloc: Global) -> Result<(), KeepFault> {
     let mut log = opened(alloc, SureKeeper::new(alloc))?;
     'steps: for step in 0..4 {
         share(&mut log, alloc, step)?;
-        add_told(&mut out, &log, alloc)?;
+        add_told(out, &log, alloc)?;
     }
-    Ok(out)
+    Ok(())
 }
 
 // The one row that is shown.
@@ -311,53 +309,49 @@ fn edits(alloc: Global) -> Result<Vec<Edit>, Memory>
     ]?)
 }
 
-// A log with a bucket, where those edits are made.
-fn edited(alloc: Global) -> Result<ClientLog<SureKeeper>, KeepFault> {
-    let mut log = opened(alloc, SureKeeper::new(alloc))?;
-    hold(&mut log, alloc, "b", 5, "of b")?;
+// Makes those edits.
+fn edit(log: &mut ClientLog<SureKeeper>, alloc: Global) -> Result<(), KeepFault> {
     let edits = edits(alloc)?;
     let _target = log.target();
-    log.apply(alloc, edits)?;
-    Ok(log)
+    log.apply(alloc, edits)
 }
 
-fn write_edited(alloc: Global, out: &mut String) -> Result<(), KeepFault> {
-    let log = edited(alloc)?;
+// Adds what a log with a bucket tells after those edits.
+fn add_edited(out: &mut String, alloc: Global) -> Result<(), KeepFault> {
+    let mut log = opened(alloc, SureKeeper::new(alloc))?;
+    hold(&mut log, alloc, "b", 5, "of b")?;
+    edit(&mut log, alloc)?;
     let is_aimed = *log.target() == Target::Number(7);
     write!(out, "{is_aimed} {} ", log.shown().len())?;
-    let told = told_twice(log, alloc)?;
-    Ok(out.push_str(told.as_str())?)
+    add_told_twice(out, log, alloc)
 }
 
-// What a log tells that is opened with a keeper of which the load has failed, and before it the keeper's faults.
-fn write_failed_load(alloc: Global, out: &mut String) -> Result<(), KeepFault> {
+// Adds what a log tells that is opened with a keeper of which the load has failed, and before it the keeper's faults.
+fn add_failed_load(out: &mut String, alloc: Global) -> Result<(), KeepFault> {
     let keeper = failed(alloc)?;
     write!(out, "{} ", keeper.keep_faults())?;
     let log = opened(alloc, keeper)?;
-    let told = told_twice(log, alloc)?;
-    Ok(out.push_str(told.as_str())?)
+    add_told_twice(out, log, alloc)
 }
 
 /// What a client tells after the history in two parts, of which the second begins with an id.
 pub fn write_parts(alloc: Global, middle: &str, out: &mut String) -> Result<(), Fail> {
-    let told = told_of_parts(alloc, number(middle)?)?;
-    Ok(out.push_str(told.as_str())?)
+    Ok(add_parts(out, alloc, number(middle)?)?)
 }
 
 /// What a client tells where a call of its keeper fails, once after that call and then after all.
 pub fn write_failing(alloc: Global, call: &str, out: &mut String) -> Result<(), Fail> {
-    let told = told_of_failing(alloc, number(call)?)?;
-    Ok(out.push_str(told.as_str())?)
+    Ok(add_failing(out, alloc, number(call)?)?)
 }
 
 /// What a client tells in a case that has a name.
 pub fn write_case(alloc: Global, name: &str, out: &mut String) -> Result<(), Fail> {
     match name {
-        "singles" => Ok(out.push_str(told_of_singles(alloc)?.as_str())?),
-        "none" => Ok(out.push_str(told_of_none(alloc)?.as_str())?),
-        "shared" => Ok(out.push_str(told_of_shared(alloc)?.as_str())?),
-        "edited" => Ok(write_edited(alloc, out)?),
-        "failed-load" => Ok(write_failed_load(alloc, out)?),
+        "singles" => Ok(add_singles(out, alloc)?),
+        "none" => Ok(add_none(out, alloc)?),
+        "shared" => Ok(add_shared(out, alloc)?),
+        "edited" => Ok(add_edited(out, alloc)?),
+        "failed-load" => Ok(add_failed_load(out, alloc)?),
         _ => Err("no case".into()),
     }
 }
