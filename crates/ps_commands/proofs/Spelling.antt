@@ -1,5 +1,6 @@
 -- What a world answers to a line.
 use Rattle.std.proofs.Common.{◌≡◌, ℕ, List, Option, Some, Ok, Err, refl, sym, ap, ◌∙◌}
+use Rattle.std.specs.Prelude.{Result}
 use Rattle.ps_io.specs.Contents.{GainsFront, Gains}
 use Rattle.ps_io.specs.Counts.{Rose}
 use Rattle.ps_store.specs.declared.fixed.Fixed.{Fixed}
@@ -16,7 +17,7 @@ use Rattle.ps_core.specs.declared.worlds.World.{World}
 use Rattle.ps_core.specs.WorldSteps.{Gave, Steps}
 use Rattle.ps_commands.specs.declared.replay_faults.ReplayFault.TheVariants as ends
 use Rattle.ps_commands.specs.Scripts.{fault_of}
-use Rattle.ps_commands.specs.Replays.{Output, SpellsLine, PrintsLine, refused_at}
+use Rattle.ps_commands.specs.Replays.{Output, StepsLine, SpellsLine, PrintsLine, refused_at}
 
 -- the event comes
 pub spells : (fixed : Fixed) (play : Play) (line text : List ℕ) (event : ScriptEvent) (effect : Effect) (new : World) → event_of line ≡ Some event → AreLed fixed play
@@ -38,19 +39,27 @@ spells fixed play line text event effect new is led gave text_is =
     )
 
 -- the line is no event
-pub no_event : (fixed : Fixed) (play : Play) (line : List ℕ) (new : World) (fault : ScriptFault) → Reads {X = ScriptEvent} (Err fault) (event_of line) → SpellsLine fixed play line new (Err fault)
+pub no_event : (fixed : Fixed) (play : Play) (line : List ℕ) (new : World) (fault : ScriptFault) → Reads {X = ScriptEvent} (Err fault) (event_of line) → StepsLine fixed play line new (Err fault)
 no_event fixed play line new BadEvent reads = ap (fault_of play) reads
 no_event fixed play line new UnknownClient reads = absurd reads
 no_event fixed play line new WrongPhase reads = absurd reads
 no_event fixed play line new Memory reads = tt
 
--- the event may not come
-pub refuses : (fixed : Fixed) (play : Play) (line : List ℕ) (event : ScriptEvent) (new world : World) (fault : ScriptFault) → event_of line ≡ Some event
-    → Steps fixed play event new (Err fault) → SpellsLine fixed play line world (Err fault)
-refuses fixed play line event new world BadEvent is steps = ap (fault_of play) is ∙ steps.refusal_is
-refuses fixed play line event new world UnknownClient is steps = ap (fault_of play) is ∙ steps.refusal_is
-refuses fixed play line event new world WrongPhase is steps = ap (fault_of play) is ∙ steps.refusal_is
-refuses fixed play line event new world Memory is steps = tt
+-- what a step of the event does is what the line does
+pub steps_line : (fixed : Fixed) (play : Play) (line : List ℕ) (event : ScriptEvent) (new : World) (result : Result Effect ScriptFault) → event_of line ≡ Some event
+    → Steps fixed play event new result → StepsLine fixed play line new result
+steps_line fixed play line event new (Ok effect) is gave = (event, is, gave)
+steps_line fixed play line event new (Err BadEvent) is steps = ap (fault_of play) is ∙ steps.refusal_is
+steps_line fixed play line event new (Err UnknownClient) is steps = ap (fault_of play) is ∙ steps.refusal_is
+steps_line fixed play line event new (Err WrongPhase) is steps = ap (fault_of play) is ∙ steps.refusal_is
+steps_line fixed play line event new (Err Memory) is steps = tt
+
+-- a line without an effect has no text
+pub without_text : (fixed : Fixed) (play : Play) (line : List ℕ) (new : World) (fault : ScriptFault) → StepsLine fixed play line new (Err fault) → SpellsLine fixed play line new (Err fault)
+without_text fixed play line new BadEvent steps = steps
+without_text fixed play line new UnknownClient steps = steps
+without_text fixed play line new WrongPhase steps = steps
+without_text fixed play line new Memory steps = tt
 
 -- a fault is the line's
 pub prints_fault : (fixed : Fixed) (play : Play) (line : List ℕ) (number : ℕ) (new : World) (old : Option (List ℕ)) (before : ℕ) (fault : ScriptFault)

@@ -5,15 +5,18 @@ use Rattle.std.specs.declared.alloc.Global.{Global}
 use Rattle.ps_io.specs.Contents.{Gains, GainsFront}
 use Rattle.ps_io.specs.Counts.{Rose}
 use Rattle.ps_store.specs.declared.fixed.Fixed.{Fixed}
+use Rattle.ps_script.specs.declared.events.ScriptEvent.{ScriptEvent}
 use Rattle.ps_script.specs.declared.faults.ScriptFault.{ScriptFault}
 use Rattle.ps_script.specs.declared.faults.ScriptFault.TheVariants as scripts
 use Rattle.ps_script.specs.declared.faults.ScriptFault.TheVariants.{BadEvent, UnknownClient, WrongPhase}
 use Rattle.ps_script.specs.Events.{event_of}
 use Rattle.ps_script.specs.Lines.{lines_of}
+use Rattle.ps_core.specs.declared.effects.Effect.{Effect}
 use Rattle.ps_core.specs.Plays.{Play}
 use Rattle.ps_core.specs.PlayHeadline.{AreLed}
 use Rattle.ps_core.specs.declared.worlds.World.{World}
 use Rattle.ps_core.specs.Worlds.{WorldStandsFor}
+use Rattle.ps_core.specs.WorldSteps.{Gave}
 use Rattle.ps_commands.specs.declared.replay_faults.ReplayFault.{ReplayFault}
 use Rattle.ps_commands.specs.declared.replay_faults.ReplayFault.TheVariants.{Refused, CannotWrite, Memory}
 use Rattle.ps_commands.specs.Scripts.{Gives, PlaysLines, RefusesLine, fault_of}
@@ -73,6 +76,14 @@ Replays fixed play script out (Err CannotWrite) = WritesFront fixed play script 
 Replays fixed play script out (Err Memory) = EndsEarly fixed play script out
 
 -- ---- within a call
+
+-- what one line that counts makes of a world: the effect of its event, if that comes
+abbrev pub StepsLine : Fixed → Play → List ℕ → World → Result Effect ScriptFault → Type 0
+StepsLine fixed play line new (Ok effect) = (event : ScriptEvent) × (event_of line ≡ Some event) × Gave fixed play event new effect
+StepsLine fixed play line new (Err BadEvent) = fault_of play (event_of line) ≡ Some BadEvent
+StepsLine fixed play line new (Err UnknownClient) = fault_of play (event_of line) ≡ Some UnknownClient
+StepsLine fixed play line new (Err WrongPhase) = fault_of play (event_of line) ≡ Some WrongPhase
+StepsLine fixed play line new (Err scripts.Memory) = Unit {0}
 
 -- what one line that counts does: its text, if its event comes
 abbrev pub SpellsLine : Fixed → Play → List ℕ → World → Result (List ℕ) ScriptFault → Type 0

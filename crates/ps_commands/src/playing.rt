@@ -8,28 +8,39 @@ ghost use Rattle.ps_core.specs.Plays.{Play, first_play};
 ghost use Rattle.ps_core.specs.PlayHeadline.{AreLed};
 ghost use Rattle.ps_core.specs.Scripts.{AreLow};
 ghost use Rattle.ps_core.specs.Worlds.{WorldStandsFor};
-ghost use Rattle.ps_commands.specs.Replays.{Replays, SpellsLine, PrintsLine, items_of, refused_at};
+ghost use Rattle.ps_commands.specs.Replays.{Replays, StepsLine, SpellsLine, PrintsLine, items_of, refused_at};
 
 use crate::replay_faults::ReplayFault;
 use ps_changes::Transaction;
-use ps_core::{World, effect_text, plays_begin_led};
+use ps_core::{Effect, World, effect_text, plays_begin_led};
 use ps_io::Sink;
 use ps_rules::Rules;
 use ps_script::{ScriptFault, is_skipped, read_event, split_line};
 use ps_values::Memory;
 use std::alloc::Global;
 
-// The text of a line's event, which comes.
-fn line_text(alloc: Global, world: &mut World, line: &[u8]) -> Result<Vec<u8>, ScriptFault>
+// The effect of a line's event, which comes.
+fn line_effect(alloc: Global, world: &mut World, line: &[u8]) -> Result<Effect, ScriptFault>
     requires { (fixed : FixedSeen) × (play : Play) × WorldStandsFor fixed world.old play × AreLed fixed play }
-    ensures { (fixed : FixedSeen) (play : Play) → WorldStandsFor fixed world.old play → AreLed fixed play
-        → SpellsLine fixed play line.now world.new (items_of result) }
+    ensures { (fixed : FixedSeen) (play : Play) → WorldStandsFor fixed world.old play → StepsLine fixed play line.now world.new result }
 {
     let event = match read_event(alloc, line) {
         Ok(event) => event,
         Err(fault) => return Err(fault),
     };
-    let effect = match world.step(alloc, &event) {
+    match world.step(alloc, &event) {
+        Ok(effect) => Ok(effect),
+        Err(fault) => Err(fault),
+    }
+}
+
+// The text of that effect.
+fn line_text(alloc: Global, world: &mut World, line: &[u8]) -> Result<Vec<u8>, ScriptFault>
+    requires { (fixed : FixedSeen) × (play : Play) × WorldStandsFor fixed world.old play × AreLed fixed play }
+    ensures { (fixed : FixedSeen) (play : Play) → WorldStandsFor fixed world.old play → AreLed fixed play
+        → SpellsLine fixed play line.now world.new (items_of result) }
+{
+    let effect = match line_effect(alloc, world, line) {
         Ok(effect) => effect,
         Err(fault) => return Err(fault),
     };
