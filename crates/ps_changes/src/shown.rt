@@ -2,7 +2,7 @@ use ps_values::{Copied, Memory, Text};
 use std::alloc::Global;
 
 /// A row as a client shows it.
-#[derive(Debug, Drop, PartialEq, Eq)]
+#[derive(Debug, PartialEq, Eq)]
 pub struct Shown {
     /// The object's type.
     pub kind: Text,
@@ -10,6 +10,17 @@ pub struct Shown {
     pub id: Text,
     /// Its data: a compact JSON object.
     pub content: Text,
+}
+
+// By hand: docs/DECISIONS.md, "Drops".
+impl Drop for Shown {
+    fn drop(self) {
+        let Shown {
+            kind: _kind,
+            id: _id,
+            content: _content,
+        } = self;
+    }
 }
 
 impl Copied for Shown {

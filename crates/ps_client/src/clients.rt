@@ -27,11 +27,21 @@ use std::alloc::Global;
 use std::mem;
 
 /// A client: what it keeps, in memory and by its keeper, and how far it is in a stream.
-#[derive(Drop)]
 pub struct Client<K: Keeper> {
     log: ClientLog<K>,
     name: Text,
     stream: Stream,
+}
+
+// By hand: docs/DECISIONS.md, "Drops".
+impl<K: Keeper + Drop> Drop for Client<K> {
+    fn drop(self) {
+        let Client {
+            log: _log,
+            name: _name,
+            stream: _stream,
+        } = self;
+    }
 }
 
 // The line that bytes are.
@@ -88,7 +98,12 @@ impl<K: Keeper> Client<K> {
     pub fn close(self) -> K
         ensures { result ≡ keeper_of self }
     {
-        self.log.close()
+        let Client {
+            log,
+            name: _name,
+            stream: _stream,
+        } = self;
+        log.close()
     }
 
     /// Begins a stream: the request names every bucket that is held with its position, by name, and the client's id, with

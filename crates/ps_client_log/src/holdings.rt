@@ -17,12 +17,23 @@ use ps_values::{Items, Memory, Text, copy_all};
 use std::alloc::Global;
 
 // A client's state in memory.
-#[derive(Drop)]
 pub struct Holdings {
     pub buckets: Buckets,
     pub queue: Queue,
     pub target: Target,
     pub shown: Items<Shown>,
+}
+
+// By hand: docs/DECISIONS.md, "Drops".
+impl Drop for Holdings {
+    fn drop(self) {
+        let Holdings {
+            buckets: _buckets,
+            queue: _queue,
+            target: _target,
+            shown: _shown,
+        } = self;
+    }
 }
 
 impl Holdings {

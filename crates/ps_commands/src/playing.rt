@@ -28,10 +28,9 @@ fn line_effect(alloc: Global, world: &mut World, line: &[u8]) -> Result<Effect, 
         Ok(event) => event,
         Err(fault) => return Err(fault),
     };
-    match world.step(alloc, &event) {
-        Ok(effect) => Ok(effect),
-        Err(fault) => Err(fault),
-    }
+    let stepped = world.step(alloc, &event);
+    drop(event);
+    stepped
 }
 
 // The text of that effect.
@@ -44,7 +43,9 @@ fn line_text(alloc: Global, world: &mut World, line: &[u8]) -> Result<Vec<u8>, S
         Ok(effect) => effect,
         Err(fault) => return Err(fault),
     };
-    match effect_text(alloc, &effect) {
+    let spelled = effect_text(alloc, &effect);
+    drop(effect);
+    match spelled {
         Ok(text) => Ok(text),
         Err(Memory) => Err(ScriptFault::Memory),
     }

@@ -5,11 +5,21 @@ use ps_sql_eval::Asker;
 use std::collections::VecDeque;
 
 /// A client of a script.
-#[derive(Drop)]
 pub(crate) struct Reader {
     pub asker: Asker,
     pub client: Client<VolatileKeeper>,
     pub stream: Option<Stream>,
+}
+
+// By hand: docs/DECISIONS.md, "Drops".
+impl Drop for Reader {
+    fn drop(self) {
+        let Reader {
+            asker: _asker,
+            client: _client,
+            stream: _stream,
+        } = self;
+    }
 }
 
 /// Its stream: the session, and the bytes of the lines that were made and are not taken yet.

@@ -30,12 +30,23 @@ use std::collections::{BTreeMap, VecDeque};
 const MOST: u32 = 1000000;
 
 /// The world of a script: the store, the transactions that are not fed yet, and the clients by their names.
-#[derive(Drop)]
 pub struct World {
     store: Store,
     left: VecDeque<Transaction>,
     readers: BTreeMap<Text, Reader>,
     failed: bool,
+}
+
+// By hand: docs/DECISIONS.md, "Drops".
+impl Drop for World {
+    fn drop(self) {
+        let World {
+            store: _store,
+            left: _left,
+            readers: _readers,
+            failed: _failed,
+        } = self;
+    }
 }
 
 // Puts a client that begins under its name.
@@ -47,11 +58,12 @@ fn add(
 ) -> Result<Effect, Memory>
     ensures { IfOk result (λ effect. HasBegun readers.old name.now asker.now readers.new effect) }
 {
+    let key = name.copy(alloc)?;
+    let name = name.copy(alloc)?;
+    // No `?` between: each way out would drop the reader once more.
     let reader = begin(alloc, asker)?;
-    readers.insert(name.copy(alloc)?, reader)?;
-    Ok(Effect::Client {
-        name: name.copy(alloc)?,
-    })
+    readers.insert(key, reader)?;
+    Ok(Effect::Client { name })
 }
 
 impl World {

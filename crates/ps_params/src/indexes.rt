@@ -20,12 +20,24 @@ use std::alloc::Global;
 use std::marker::Model;
 
 /// The rows that the parameter queries of rules read, as they stood at each position since the last that was forgotten.
-#[derive(Debug, Drop)]
+#[derive(Debug)]
 pub struct ParameterIndex {
     rules: Rules,
     kept: Kept,
     last: Position,
     forgotten: Position,
+}
+
+// By hand: docs/DECISIONS.md, "Drops".
+impl Drop for ParameterIndex {
+    fn drop(self) {
+        let ParameterIndex {
+            rules: _rules,
+            kept: _kept,
+            last: _last,
+            forgotten: _forgotten,
+        } = self;
+    }
 }
 
 impl Model for ParameterIndex {

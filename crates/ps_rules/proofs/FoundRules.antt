@@ -26,7 +26,7 @@ use Rattle.ps_rules.specs.Faults.{◌>>=◌, refuse, sql, Reads}
 use Rattle.ps_rules.specs.Names.{is_in, has_repeated, same_names, output_names}
 use Rattle.ps_rules.specs.Branches.{branches_of}
 use Rattle.ps_rules.specs.Shapes.{Layer, layer_pairs, pairs_of, layer_written, written_of, all_written, layer_queries, queries_of, is_empty_scalar, data_of, part_of, parts_of, no_parts, has_name, shape_fault, pair_fault, draft_of, draft_with, draft_names, drafts_from, definitions_of, sections_of, drafts_of}
-use Rattle.ps_rules.specs.Checks.{names_of, is_mixed, has_no_id, has_unknown, has_many_branches, is_matched, client_warning, known_with, all_known, planned_from, planned_of, all_planned, data_warning, checked_of}
+use Rattle.ps_rules.specs.Checks.{names_of, is_mixed, has_no_id, has_unknown, has_many_branches, is_matched, client_warning, known_from, known_with, all_known, planned_from, planned_of, all_planned, data_warning, checked_of}
 use Rattle.ps_rules.specs.Reading.{with_checked, rules_from, rules_of, no_rules}
 use Rattle.ps_rules.specs.RuleSets.{RuleSet}
 use Rattle.ps_rules.specs.Grammar.{IsScalar, AreScalars, no_scalars, next_scalar, AreQueries, single, several, AreData, no_data, some_data, Give, given, data_given, parameters_given, nothing_given, IsDraft, Drafted, no_drafts, next_draft, IsDocumentOf, IsParameterOf, AreParametersOf, no_parameters, next_parameter, IsQueryOf, AreQueriesOf, no_queries, next_query, IsDefinition, AreDefinitions, no_definitions, next_definition, client_warnings, warnings_of, IsRules}
@@ -268,7 +268,7 @@ names_stay [] query own alike = same_self (output_names query.outputs)
 names_stay (first ∷ before) query own alike = not_false (same_names (output_names first.outputs) (output_names query.outputs)) alike
 
 known_found : (known : Known) (all : List Written) (last : Known) → all_known known all ≡ Ok last → KnownFound known.queries known.warnings all last
-unfolding known_with
+unfolding known_with known_from
 known_found known [] last h =
     let is = same_ok known last h in
     record { own = []; is = sym (ap (λ (k : Known). k.queries) is) ∙ sym (append_nil known.queries); are = no_parameters; warned = sym (ap (λ (k : Known). k.warnings) is) ∙ sym (append_nil known.warnings) }

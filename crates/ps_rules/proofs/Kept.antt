@@ -21,7 +21,7 @@ use Rattle.ps_rules.specs.Faults.{◌>>=◌, refuse, sql}
 use Rattle.ps_rules.specs.Names.{is_in, are_in, has_repeated, same_names, output_names, is_definition_name}
 use Rattle.ps_rules.specs.Branches.{branches_of}
 use Rattle.ps_rules.specs.Shapes.{draft_names}
-use Rattle.ps_rules.specs.Checks.{names_of, is_mixed, has_no_id, has_unknown, has_many_branches, is_matched, client_warning, known_with, all_known, planned_from, planned_of, all_planned, data_warning, checked_of}
+use Rattle.ps_rules.specs.Checks.{names_of, is_mixed, has_no_id, has_unknown, has_many_branches, is_matched, client_warning, known_from, known_with, all_known, planned_from, planned_of, all_planned, data_warning, checked_of}
 use Rattle.ps_rules.specs.Reading.{with_checked, rules_from, no_rules}
 use Rattle.ps_rules.specs.RuleSets.{RuleSet, IsSoundParameter, IsSoundQuery, IsSound, AreRules, AreDrafts, rises_past, numbers_of}
 use Rattle.ps_rules.proofs.Steps.{past, both_ok, same_ok}
@@ -89,7 +89,7 @@ known_more (first ∷ others) query sound differ alike no_bucket =
     (record { names_differ = differ; same_set = not_false (same_names (output_names first.outputs) (output_names query.outputs)) alike; no_bucket = no_bucket })
 
 known_step : SpeakAsTheyMay → (known : Known) (written : Written) (more : Known) → known_with known written ≡ Ok more → KnownSound known.queries → KnownSound more.queries
-unfolding known_with
+unfolding known_with known_from
 known_step laws known written more h sound =
     let line = written.line in let column = written.column in
     let last : ParameterQuery → Result Known RulesFault = λ query. Ok (record { queries = known.queries ++ query ∷ []; warnings = known.warnings ++ client_warning written query }) in

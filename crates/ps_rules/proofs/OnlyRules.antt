@@ -21,7 +21,7 @@ use Rattle.ps_rules.specs.Faults.{◌>>=◌, refuse, sql, Reads}
 use Rattle.ps_rules.specs.Names.{is_in, has_repeated, same_names, output_names, is_definition_name}
 use Rattle.ps_rules.specs.Branches.{branches_of}
 use Rattle.ps_rules.specs.Shapes.{layer_pairs, layer_written, written_of, all_written, layer_queries, queries_of, data_of, part_of, parts_of, no_parts, has_name, shape_fault, pair_fault, draft_of, draft_with, draft_names, drafts_from, definitions_of, sections_of, drafts_of}
-use Rattle.ps_rules.specs.Checks.{names_of, is_mixed, has_no_id, has_unknown, has_many_branches, is_matched, client_warning, known_with, all_known, planned_from, planned_of, all_planned, data_warning, checked_of}
+use Rattle.ps_rules.specs.Checks.{names_of, is_mixed, has_no_id, has_unknown, has_many_branches, is_matched, client_warning, known_from, known_with, all_known, planned_from, planned_of, all_planned, data_warning, checked_of}
 use Rattle.ps_rules.specs.Reading.{with_checked, rules_from, rules_of, no_rules}
 use Rattle.ps_rules.specs.RuleSets.{RuleSet}
 use Rattle.ps_rules.specs.Grammar.{IsScalar, AreScalars, no_scalars, next_scalar, AreQueries, single, several, AreData, no_data, some_data, Give, given, data_given, parameters_given, nothing_given, IsDraft, Drafted, no_drafts, next_draft, IsDocumentOf, AreParametersOf, no_parameters, next_parameter, IsQueryOf, AreQueriesOf, no_queries, next_query, IsDefinition, AreDefinitions, no_definitions, next_definition, client_warnings, warnings_of, IsRules}
@@ -151,7 +151,7 @@ alike names (head ∷ before) own query first same = ap (λ ns. not (same_names 
 
 known_read : {names : List (List ℕ)} {all : List Written} {own : List ParameterQuery} → AreParametersOf names all own → (known : Known) → names_of (known.queries ++ own) ≡ names
     → all_known known all ≡ Ok (record { queries = known.queries ++ own; warnings = known.warnings ++ client_warnings all own })
-unfolding known_with
+unfolding known_with known_from
 known_read no_parameters known first =
     let queries = sym (append_nil known.queries) in let warnings = sym (append_nil known.warnings) in
     ap (λ (k : Known). Ok k) (λ i. record { queries = queries i; warnings = warnings i })

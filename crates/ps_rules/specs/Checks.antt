@@ -75,13 +75,23 @@ abbrev pub known_by : List ParameterQuery → List Warning → Written → Resul
 known_by queries warnings written (Ok query) = Ok (record { queries = queries ++ query ∷ []; warnings = warnings ++ client_warning written query })
 known_by queries warnings written (Err fault) = Err fault
 
+-- one whose outputs are checked, likewise
+abbrev pub known_after : List ParameterQuery → List Warning → Written → ParameterQuery → Result (Unit {0}) RulesFault → Result Known RulesFault
+known_after queries warnings written query (Ok checked) = known_by queries warnings written (Ok query)
+known_after queries warnings written query (Err fault) = Err fault
+
+-- the checks of a parameter query that is read
+unfoldable pub known_from : Known → Written → ParameterQuery → Result Known RulesFault
+known_from known written query = do
+  differ ← refuse (has_repeated (output_names query.outputs)) (faults.DuplicateName written.line written.column)
+  alike ← refuse (is_mixed known.queries (output_names query.outputs)) (faults.MixedOutput written.line written.column)
+  Ok (record { queries = known.queries ++ query ∷ []; warnings = known.warnings ++ client_warning written query })
+
 -- a parameter query behind those that are known
 unfoldable pub known_with : Known → Written → Result Known RulesFault
 known_with known written = do
   query ← sql written.line written.column (parameter_query_of written.text)
-  differ ← refuse (has_repeated (output_names query.outputs)) (faults.DuplicateName written.line written.column)
-  alike ← refuse (is_mixed known.queries (output_names query.outputs)) (faults.MixedOutput written.line written.column)
-  Ok (record { queries = known.queries ++ query ∷ []; warnings = known.warnings ++ client_warning written query })
+  known_from known written query
 
 abbrev pub all_known : Known → List Written → Result Known RulesFault
 all_known known [] = Ok known

@@ -10,7 +10,7 @@ ghost use Rattle.ps_rules.specs.declared.warnings.Warning.{Warning as WarningDat
 ghost use Rattle.ps_rules.specs.Faults.{Reads, sql, placed_fault};
 ghost use Rattle.ps_rules.specs.Names.{is_in, are_in, has_repeated, output_names};
 ghost use Rattle.ps_rules.specs.Branches.{mentions, has_parameter, asks_parameters as asks};
-ghost use Rattle.ps_rules.specs.Checks.{some_expr, in_condition, names_of, is_mixed as mixes, has_no_id as lacks_id, has_unknown as knows_not, has_many_branches as has_many, is_bound as binds, is_matched as matches_all, client_warning, known_by, known_with, all_known, planned_with, planned_from, planned_of, all_planned, data_warning, checked_of};
+ghost use Rattle.ps_rules.specs.Checks.{some_expr, in_condition, names_of, is_mixed as mixes, has_no_id as lacks_id, has_unknown as knows_not, has_many_branches as has_many, is_bound as binds, is_matched as matches_all, client_warning, known_by, known_after, known_from, known_with, all_known, planned_with, planned_from, planned_of, all_planned, data_warning, checked_of};
 
 use crate::drafts::{Checked, Draft, Known, Written};
 use crate::name_sets::NameSet;
@@ -305,6 +305,28 @@ fn warned(
     Ok(all)
 }
 
+// Checks the outputs of a parameter query that stands behind those that are known.
+#[tactic(auto, unfolding(crate::specs::Checks::known_from))]
+fn check_outputs(
+    alloc: Global,
+    known: &[ParameterQuery],
+    written: &Written,
+    query: &ParameterQuery,
+) -> Result<(), RulesFault>
+    ensures { (warnings : List WarningData) → Reads (known_after known.now warnings written.now query.now result) (known_from (record { queries = known.now; warnings = warnings }) written.now query.now) }
+{
+    let line = written.line;
+    let column = written.column;
+    let outputs = query.outputs.as_slice();
+    let Some(names) = distinct_names(alloc, outputs)? else {
+        return Err(RulesFault::DuplicateName { line, column });
+    };
+    if is_mixed(alloc, known, outputs, &names)? {
+        return Err(RulesFault::MixedOutput { line, column });
+    }
+    Ok(())
+}
+
 // A parameter query that is written somewhere, which goes with those that are known.
 #[tactic(auto, unfolding(crate::specs::Checks::known_with))]
 fn fitting_query(
@@ -314,17 +336,11 @@ fn fitting_query(
 ) -> Result<ParameterQuery, RulesFault>
     ensures { (warnings : List WarningData) → Reads (known_by known.now warnings written.now result) (known_with (record { queries = known.now; warnings = warnings }) written.now) }
 {
-    let line = written.line;
-    let column = written.column;
     let query = parameter_query(alloc, written)?;
-    let outputs = query.outputs.as_slice();
-    let Some(names) = distinct_names(alloc, outputs)? else {
-        return Err(RulesFault::DuplicateName { line, column });
-    };
-    if is_mixed(alloc, known, outputs, &names)? {
-        return Err(RulesFault::MixedOutput { line, column });
+    match check_outputs(alloc, known, written, &query) {
+        Ok(()) => Ok(query),
+        Err(fault) => Err(fault),
     }
-    Ok(query)
 }
 
 // A parameter query behind those that are known.

@@ -24,7 +24,7 @@ use std::marker::Model;
 
 /// One stream's session. It says what to ask of a store next, and makes the stream's lines of the answers: those of
 /// one checkpoint after another, each sent bucket by bucket.
-#[derive(Debug, Drop)]
+#[derive(Debug)]
 pub struct Session {
     asker: Asker,
     known: Items<Known>,
@@ -35,6 +35,20 @@ pub struct Session {
     // the place of the first bucket that is not sent up to its newest operation: it only goes on, until another
     // checkpoint begins, so all looks for it take no more time than there are buckets
     cursor: usize,
+}
+
+// By hand: docs/DECISIONS.md, "Drops".
+impl Drop for Session {
+    fn drop(self) {
+        let Session {
+            asker: _asker,
+            known: _known,
+            phase: _phase,
+            last: _last,
+            places: _places,
+            cursor: _cursor,
+        } = self;
+    }
 }
 
 impl Model for Session {

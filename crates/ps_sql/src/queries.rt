@@ -5,22 +5,43 @@ use ps_values::{Copied, Items, Memory, Text, copy_all};
 use std::alloc::Global;
 
 /// An output of a query: an expression, and the name that it is given.
-#[derive(Debug, Drop)]
+#[derive(Debug)]
 pub struct Output {
     pub name: Text,
     pub expr: Expr,
 }
 
+// By hand: docs/DECISIONS.md, "Drops".
+impl Drop for Output {
+    fn drop(self) {
+        let Output {
+            name: _name,
+            expr: _expr,
+        } = self;
+    }
+}
+
 /// `SELECT outputs FROM table WHERE condition`, where FROM and WHERE may be missing.
-#[derive(Debug, Drop)]
+#[derive(Debug)]
 pub struct ParameterQuery {
     pub outputs: Items<Output>,
     pub table: Option<Text>,
     pub condition: Option<Expr>,
 }
 
+// By hand: docs/DECISIONS.md, "Drops".
+impl Drop for ParameterQuery {
+    fn drop(self) {
+        let ParameterQuery {
+            outputs: _outputs,
+            table: _table,
+            condition: _condition,
+        } = self;
+    }
+}
+
 /// `SELECT outputs FROM table AS kind WHERE condition`, where WHERE may be missing.
-#[derive(Debug, Drop)]
+#[derive(Debug)]
 pub struct DataQuery {
     /// Whether `*` stands among the outputs.
     pub star: bool,
@@ -29,6 +50,19 @@ pub struct DataQuery {
     /// The alias, or the table where there is none.
     pub kind: Text,
     pub condition: Option<Expr>,
+}
+
+// By hand: docs/DECISIONS.md, "Drops".
+impl Drop for DataQuery {
+    fn drop(self) {
+        let DataQuery {
+            star: _star,
+            outputs: _outputs,
+            table: _table,
+            kind: _kind,
+            condition: _condition,
+        } = self;
+    }
 }
 
 impl Copied for Output {

@@ -5,7 +5,7 @@ use ps_values::Text;
 use std::alloc::Global;
 
 /// Who asks.
-#[derive(Debug, Drop)]
+#[derive(Debug)]
 pub struct Asker {
     /// The user.
     pub user: Text,
@@ -15,6 +15,18 @@ pub struct Asker {
     pub parameters: Text,
     /// The client's own id, if it gave one.
     pub client: Option<Text>,
+}
+
+// By hand: docs/DECISIONS.md, "Drops".
+impl Drop for Asker {
+    fn drop(self) {
+        let Asker {
+            user: _user,
+            payload: _payload,
+            parameters: _parameters,
+            client: _client,
+        } = self;
+    }
 }
 
 /// An asker of whom nothing is known. Takes no memory.

@@ -292,6 +292,31 @@ impl Plan {
         put_all(&mut self.entered, middle, after)
     }
 
+    // Keeps a change: where its row stands after it, its operations, and what it made besides.
+    fn keep(
+        &mut self,
+        alloc: Global,
+        key: RowKey,
+        gone: Items<Place>,
+        after: Items<Placed>,
+        row: Option<Row>,
+    ) -> Result<(), Memory>
+        requires { self.old.last.0 + (length gone + length after) < 2 ^ 64 }
+        ensures seen { OnOk result ((rules : RuleSet) (rows : RowsSeen) (other : KeySeen)
+            → seen_at rules.definitions self.new rows other ≡ (if eq_by_cmp key_cmp other key then map place_of after else seen_at rules.definitions self.old rows other)) }
+        ensures last { OnOk result (self.new.last.0 ≡ self.old.last.0 + (length gone + length after)) }
+        ensures entered { OnOk result (self.new.entered.items ≡ self.old.entered.items
+            ++ (removed_all (self.old.last.0 + 1) gone ++ numbered put (self.old.last.0 + 1 + length gone) after)) }
+        ensures made { OnOk result (self.new.made.items ≡ self.old.made.items ++ record { last = self.new.last; row = row } ∷ []) }
+    {
+        let places = places_in_order(alloc, after.as_slice())?;
+        let last = self.enter(gone, after)?;
+        self.see(key, places)?;
+        self.made.push(Made { last, row })?;
+        self.last = last;
+        Ok(())
+    }
+
     /// Adds a change, unless it is refused.
     pub(crate) fn add(
         &mut self,
@@ -317,11 +342,7 @@ impl Plan {
             return Ok(Some(Refusal::OpsFull));
         }
         let row = row_to_note(alloc, fixed, waiting)?;
-        let places = places_in_order(alloc, after.as_slice())?;
-        let last = self.enter(gone, after)?;
-        self.see(key, places)?;
-        self.made.push(Made { last, row })?;
-        self.last = last;
+        self.keep(alloc, key, gone, after, row)?;
         Ok(None)
     }
 }

@@ -63,7 +63,6 @@ pub struct Wrote {
 
 /// The store of a service: the transactions that were fed, their changes as operations of buckets, as far as they are
 /// written, and what of them clients are shown.
-#[derive(Drop)]
 pub struct Store {
     fixed: Fixed,
     logs: Logs,
@@ -76,6 +75,25 @@ pub struct Store {
     head: Position,
     closed: bool,
     numbers: WriteCheckpoints,
+}
+
+// By hand: docs/DECISIONS.md, "Drops".
+impl Drop for Store {
+    fn drop(self) {
+        let Store {
+            fixed: _fixed,
+            logs: _logs,
+            rows: _rows,
+            tail: _tail,
+            index: _index,
+            last: _last,
+            totals: _totals,
+            checkpoint: _checkpoint,
+            head: _head,
+            closed: _closed,
+            numbers: _numbers,
+        } = self;
+    }
 }
 
 impl Store {

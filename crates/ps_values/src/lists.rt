@@ -6,9 +6,16 @@ use std::alloc::Global;
 use std::marker::Model;
 
 /// A vector that contracts see as the list of its items, so that what holds one is plain data.
-#[derive(Debug, Drop)]
+#[derive(Debug)]
 pub struct Items<T> {
     inner: Vec<T>,
+}
+
+// By hand: docs/DECISIONS.md, "Drops".
+impl<T: Drop> Drop for Items<T> {
+    fn drop(self) {
+        let Items { inner: _inner } = self;
+    }
 }
 
 impl<T> Model for Items<T> {

@@ -16,9 +16,16 @@ use std::hash::{Hash, Hasher};
 use std::marker::Model;
 
 /// UTF-8 text, which contracts see as the list of its bytes. A short one takes no memory.
-#[derive(Debug, Drop)]
+#[derive(Debug)]
 pub struct Text {
     kept: Kept,
+}
+
+// By hand, so that a function calls it at each way out: docs/DECISIONS.md, "Drops".
+impl Drop for Text {
+    fn drop(self) {
+        let Text { kept: _kept } = self;
+    }
 }
 
 #[derive(Debug, Drop)]
@@ -102,7 +109,8 @@ impl Text {
     pub fn into_string(self, alloc: Global) -> Result<String, Memory>
         ensures { IfOk result (λ made. string_bytes made ≡ self) }
     {
-        match self.kept {
+        let Text { kept } = self;
+        match kept {
             Kept::Short(short) => Ok(String::from_str(alloc, short.as_str())?),
             Kept::Long(long) => Ok(long),
         }

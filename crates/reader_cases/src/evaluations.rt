@@ -118,7 +118,10 @@ fn condition(alloc: Global, bytes: &[u8]) -> Result<Option<Expr>, SqlFault> {
     if query.bytes().len() >= 4294967295 {
         return Ok(None);
     }
-    Ok(read_parameter_query(alloc, &query)?.condition)
+    match &read_parameter_query(alloc, &query)?.condition {
+        Some(condition) => Ok(Some(condition.copy(alloc)?)),
+        None => Ok(None),
+    }
 }
 
 fn shown_refusal(

@@ -158,7 +158,7 @@ fn condition_of(alloc: Global, condition: &str) -> Option<Expr> {
         return None;
     }
     let query = read_parameter_query(alloc, &Text::from_string(text)).ok()?;
-    query.condition
+    query.condition.as_ref()?.copy(alloc).ok()
 }
 
 // A row of ten columns, with its id.

@@ -3,5 +3,5 @@ use Rattle.ps_core.proofs.worlds.add.Goals as goal
 
 pub returns : goal.returns
 returns c =
-    has_begun c.args.readers.now c.insert.new.self c.args.name.now c.in_ok-copy.field-0 c.in_ok-copy-2.field-0 c.args.asker.now c.in_ok-reader.reader c.in_ok-copy.ensures c.in_ok-copy-2.ensures
+    has_begun c.args.readers.now c.insert.new.self c.args.name.now c.in_ok-key.key c.in_ok-name.name c.args.asker.now c.in_ok-reader.reader c.in_ok-key.ensures c.in_ok-name.ensures
     c.in_ok-insert.ensures.updates.0 c.in_ok-reader.ensures

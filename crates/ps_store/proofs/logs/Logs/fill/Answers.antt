@@ -29,29 +29,6 @@ entered-preserved c =
       newer = continue_along rest (with_op (log_at c.entered.self) e) (log_at c.append.new.self) (λ b. c.append.ensures.logs b) (subst (Continue (log_at c.entered.self)) s.0 c.entered.invariant.newer).2;
     }
 
-pub entered-preserved-in-Some : goal.entered-preserved-in-Some
-entered-preserved-in-Some c =
-    let e : Entered = c.in-Some.e in
-    let rest : List Entered = c.next.new.self.rest.items in
-    let s = c.in-Some.ensures.steps in
-    let newer : newest (log_at c.entered.self e.bucket) < id_of e.op = (subst (Continue (log_at c.entered.self)) s.0 c.entered.invariant.newer).0 in
-    record {
-      logs = λ bucket.
-          ap (λ ops. ops ++ in_bucket bucket rest) (c.append.ensures.logs bucket)
-          ∙ with_rest (log_at c.entered.self) bucket e rest
-          ∙ ap (λ es. log_at c.entered.self bucket ++ in_bucket bucket es) (sym s.0)
-          ∙ c.entered.invariant.logs bucket;
-      room = λ bucket.
-          let h : length (in_bucket bucket (e ∷ rest)) ≤ room_at c.entered.self bucket = subst (λ es. length (in_bucket bucket es) ≤ room_at c.entered.self bucket) s.0 (c.entered.invariant.room bucket) in
-          omega (arith, h, count_rest bucket e rest, c.append.ensures.rooms bucket);
-      first =
-          let one = first_more (log_at c.entered.self) (log_at c.append.new.self) e rest c.append.result (λ b. c.append.ensures.logs b) c.append.ensures.first (c.entered.invariant.rising e.bucket) newer in
-          let all : first_ops (log_at c.entered.self) (e ∷ rest) ≡ first_ops (log_at c.entered.self) c.entered.e-iterator.rest.items = ap (first_ops (log_at c.entered.self)) (sym s.0) in
-          omega (arith, one, all, c.entered.invariant.first);
-      rising = rising_with (log_at c.entered.self) (log_at c.append.new.self) e (λ b. c.append.ensures.logs b) newer c.entered.invariant.rising;
-      newer = continue_along rest (with_op (log_at c.entered.self) e) (log_at c.append.new.self) (λ b. c.append.ensures.logs b) (subst (Continue (log_at c.entered.self)) s.0 c.entered.invariant.newer).2;
-    }
-
 pub append-requires-clause-room : goal.append-requires-clause-room
 append-requires-clause-room c =
     let e : Entered = c.in-Some.e in

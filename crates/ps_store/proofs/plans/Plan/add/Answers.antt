@@ -1,11 +1,9 @@
-use Rattle.std.proofs.Common.{◌≡◌, ◌+◌, ◌≤◌, ◌<◌, Option, List, [], ◌∷◌, ◌++◌, refl, sym, ap, ◌∙◌, subst, length, map, unwrap_or, arith}
-use Rattle.std.specs.Prelude.{if◌then◌else◌, Err}
-use Rattle.std.specs.BTreeMap.{get}
+use Rattle.std.proofs.Common.{◌≡◌, ◌+◌, ◌≤◌, ◌<◌, Option, List, refl, sym, ap, ◌∙◌, subst, length, arith}
+use Rattle.std.specs.Prelude.{Err}
 use Rattle.std.specs.Option.{option_copied}
-use Rattle.std.specs.Ordering.{eq_by_cmp}
 use Rattle.ps_values.specs.declared.columns.Column.{Column}
 use Rattle.ps_changes.specs.declared.changes.Change.{Change}
-use Rattle.ps_changes.specs.Source.{Key, key_cmp}
+use Rattle.ps_changes.specs.Source.{Key}
 use Rattle.ps_rules.specs.RuleSets.{RuleSet}
 use Rattle.ps_bucket_eval.specs.declared.faults.PlaceFault.{PlaceFault}
 use Rattle.ps_bucket_eval.specs.declared.faults.PlaceFault.TheVariants.{TooWide}
@@ -14,10 +12,9 @@ use Rattle.ps_bucket_eval.specs.Entries.{IsPlaced}
 use Rattle.ps_store.specs.declared.fixed.Limits.{Limits}
 use Rattle.ps_store.specs.declared.plans.Made.{Made}
 use Rattle.ps_store.specs.declared.plans.Plan.{Plan}
-use Rattle.ps_store.specs.Originals.{Timed, entries_at, columns_of}
-use Rattle.ps_store.specs.Places.{Place, place_of, places_left}
+use Rattle.ps_store.specs.Originals.{Timed, entries_at}
+use Rattle.ps_store.specs.Places.{Place, places_left}
 use Rattle.ps_store.specs.Plans.{seen_at}
-use Rattle.ps_store.specs.Rows.{row_at}
 use Rattle.ps_store.proofs.Planning.{is_wide, is_full, is_fine, stands_more}
 use Rattle.ps_store.proofs.plans.Plan.add.Goals as goal
 
@@ -69,18 +66,13 @@ returns c = λ base ts h.
     c.in_ok-gone.ensures ∙ ap (places_left (seen_at rules.definitions old c.args.rows.now key)) c.as_slice.ensures in
     let low : old.last.0 + (c.len.result + c.len-2.result) ≤ limits.ops = c.has_ids.ensures.left c.if-not-has_ids.false in
     let fits : old.last.0 + (length gone + length left) ≤ limits.ops = omega (arith, low, c.len.ensures, c.len-2.ensures) in
-    let places : c.in_ok-places.places ≡ map place_of left = c.in_ok-places.ensures ∙ ap (map place_of) c.as_slice-2.ensures in
-    let new : Plan = record { seen = c.see.new.self.seen; last = c.in_ok-last.last; entered = c.see.new.self.entered; made = c.push.new.self } in
-    let made : Made = record { last = c.in_ok-last.last; row = c.in_ok-row.row } in
-    let last : made.last.0 ≡ old.last.0 + (length gone + length left) = omega (arith, c.in_ok-last.ensures.last) in (
+    let new : Plan = c.keep.new.self in
+    let made : Made = record { last = new.last; row = c.in_ok-row.row } in (
       is_fine limits rules base ts t h.rules_are c.args.rows.now old h key c.in_ok-key.ensures left gone is_left is_gone narrow fits,
       stands_more limits rules base ts t h.rules_are c.args.rows.now old h key c.in_ok-key.ensures left gone is_left is_gone
           new made
-          (λ other. c.in_ok-see.ensures.seen rules c.args.rows.now other
-          ∙ ap (λ (ps : List Place). if eq_by_cmp key_cmp other key then ps else seen_at rules.definitions c.enter.new.self c.args.rows.now other) places
-          ∙ ap (λ m. if eq_by_cmp key_cmp other key then map place_of left else unwrap_or (get key_cmp m other) (map place_of (entries_at rules.definitions other (columns_of (row_at c.args.rows.now other))))) c.in_ok-last.ensures.seen)
-          last c.in_ok-row.ensures refl
-          (ap (λ v. v.items) c.in_ok-see.ensures.entered
-          ∙ c.in_ok-last.ensures.entered)
-          (c.in_ok-push.ensures.items ∙ ap (λ v. v.items ++ made ∷ []) (c.in_ok-see.ensures.made ∙ c.in_ok-last.ensures.made)),
+          (c.in_ok-keep.ensures.seen rules c.args.rows.now)
+          c.in_ok-keep.ensures.last c.in_ok-row.ensures refl
+          c.in_ok-keep.ensures.entered
+          c.in_ok-keep.ensures.made,
     )
