@@ -14,64 +14,67 @@ use std::test::Fail;
 
 // Cases of values, numbers and JSON; false where the word begins none.
 fn answer_value(alloc: Global, word: &str, rest: &str, out: &mut String) -> Result<bool, Fail> {
-    match word {
-        "quoted" => values::write_quoted(alloc, rest.as_bytes(), out)?,
+    let written = match word {
+        "quoted" => values::write_quoted(alloc, rest.as_bytes(), out),
         "quoted-bytes" => {
             let bytes = words::bytes(alloc, rest)?;
-            values::write_quoted(alloc, bytes.as_slice(), out)?;
+            values::write_quoted(alloc, bytes.as_slice(), out)
         }
-        "json" => values::write_json(alloc, rest.as_bytes(), out)?,
+        "json" => values::write_json(alloc, rest.as_bytes(), out),
         "json-bytes" => {
             let bytes = words::bytes(alloc, rest)?;
-            values::write_json(alloc, bytes.as_slice(), out)?;
+            values::write_json(alloc, bytes.as_slice(), out)
         }
-        "decimal" => values::write_decimal(alloc, rest, out)?,
-        "number" => values::write_number(alloc, rest, out)?,
-        "compare" => values::write_order(alloc, rest, out)?,
-        "truth" => values::write_truth(alloc, rest, out)?,
-        "equal" => values::write_equality(alloc, rest, out)?,
-        "plain" => values::write_plain(alloc, rest, out)?,
-        "plain-twice" => values::write_plain_twice(alloc, rest, out)?,
-        "document" => values::write_document(alloc, rest, out)?,
-        "object" => values::write_object(alloc, rest, out)?,
-        "value-as-json" => values::write_value_as_json(alloc, rest, out)?,
-        "text-bytes" => values::write_text(alloc, rest, out)?,
-        "kept" => values::write_kept(alloc, rest, out)?,
-        "items" => values::write_items(alloc, rest, out)?,
-        "boxed" => values::write_boxed(alloc, rest, out)?,
+        "decimal" => values::write_decimal(alloc, rest, out),
+        "number" => values::write_number(alloc, rest, out),
+        "compare" => values::write_order(alloc, rest, out),
+        "truth" => values::write_truth(alloc, rest, out),
+        "equal" => values::write_equality(alloc, rest, out),
+        "plain" => values::write_plain(alloc, rest, out),
+        "plain-twice" => values::write_plain_twice(alloc, rest, out),
+        "document" => values::write_document(alloc, rest, out),
+        "object" => values::write_object(alloc, rest, out),
+        "value-as-json" => values::write_value_as_json(alloc, rest, out),
+        "text-bytes" => values::write_text(alloc, rest, out),
+        "kept" => values::write_kept(alloc, rest, out),
+        "items" => values::write_items(alloc, rest, out),
+        "boxed" => values::write_boxed(alloc, rest, out),
         _ => return Ok(false),
-    }
+    };
+    written?;
     Ok(true)
 }
 
 // Cases of sums and logs.
 fn answer_log(alloc: Global, word: &str, rest: &str, out: &mut String) -> Result<bool, Fail> {
-    match word {
-        "add" => sums::write_added(rest, out)?,
-        "first-four" => sums::write_first_four(rest, out)?,
-        "put-sum" => sums::write_put(alloc, rest, out)?,
-        "remove-sum" => sums::write_remove(alloc, rest, out)?,
-        "filled" => logs::write_of_filled(alloc, rest, out)?,
-        "compacted" => logs::write_of_compacted(alloc, rest, out)?,
-        "copies" => logs::write_copies(alloc, rest, out)?,
-        "client" => clients::write_case(alloc, rest, out)?,
-        "client-parts" => clients::write_parts(alloc, rest, out)?,
-        "client-failing" => clients::write_failing(alloc, rest, out)?,
+    let written = match word {
+        "add" => sums::write_added(rest, out),
+        "first-four" => sums::write_first_four(rest, out),
+        "put-sum" => sums::write_put(alloc, rest, out),
+        "remove-sum" => sums::write_remove(alloc, rest, out),
+        "filled" => logs::write_of_filled(alloc, rest, out),
+        "compacted" => logs::write_of_compacted(alloc, rest, out),
+        "copies" => logs::write_copies(alloc, rest, out),
+        "client" => clients::write_case(alloc, rest, out),
+        "client-parts" => clients::write_parts(alloc, rest, out),
+        "client-failing" => clients::write_failing(alloc, rest, out),
         _ => return Ok(false),
-    }
+    };
+    written?;
     Ok(true)
 }
 
 // Cases of files and sinks.
 fn answer_io(rt: &HostRuntime, word: &str, rest: &str, out: &mut String) -> Result<bool, Fail> {
-    match word {
-        "memory-files" => outside::write_of_memory(rt.alloc(), rest, out)?,
-        "sure-files" => outside::write_of_sure(rt.alloc(), rest, out)?,
-        "disk-files" => outside::write_of_disk(rt, rest, out)?,
-        "memory-sink" => outside::write_of_sink(rt.alloc(), rest, out)?,
-        "stream" => outside::write_of_stream(rt.alloc(), rest, out)?,
+    let written = match word {
+        "memory-files" => outside::write_of_memory(rt.alloc(), rest, out),
+        "sure-files" => outside::write_of_sure(rt.alloc(), rest, out),
+        "disk-files" => outside::write_of_disk(rt, rest, out),
+        "memory-sink" => outside::write_of_sink(rt.alloc(), rest, out),
+        "stream" => outside::write_of_stream(rt.alloc(), rest, out),
         _ => return Ok(false),
-    }
+    };
+    written?;
     Ok(true)
 }
 

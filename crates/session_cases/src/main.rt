@@ -50,7 +50,7 @@ fn take(alloc: Global, session: &mut Session, rest: &str, out: &mut String) -> R
         return Err("the names do not rise".into());
     }
     match session.next_action() {
-        Action::Take | Action::Wait => write_answer(alloc, &session.took(alloc, taken)?, out),
+        Action::Take | Action::Wait => write_answer(&session.took(alloc, taken)?, out),
         Action::Read { .. } | Action::Complete => Err("no checkpoint is due".into()),
     }
 }
@@ -59,7 +59,7 @@ fn read(alloc: Global, session: &mut Session, batch: Batch, out: &mut String) ->
     requires { (batch.ops ≢ []) ⊎ (batch.passed ≢ None) }
 {
     match session.next_action() {
-        Action::Read { .. } => write_answer(alloc, &session.read(alloc, batch)?, out),
+        Action::Read { .. } => write_answer(&session.read(alloc, batch)?, out),
         Action::Take | Action::Complete | Action::Wait => Err("no batch is due".into()),
     }
 }
@@ -100,21 +100,18 @@ fn read_passed(
     read(alloc, session, batch, out)
 }
 
-fn finish(alloc: Global, session: &mut Session, out: &mut String) -> Result<(), Fail> {
+fn finish(session: &mut Session, out: &mut String) -> Result<(), Fail> {
     match session.next_action() {
-        Action::Complete => write_line(alloc, &session.finish(), out),
+        Action::Complete => write_line(&session.finish(), out),
         Action::Take | Action::Read { .. } | Action::Wait => Err("nothing is complete".into()),
     }
 }
 
-fn action(alloc: Global, session: &Session, out: &mut String) -> Result<(), Fail> {
+fn action(session: &Session, out: &mut String) -> Result<(), Fail> {
     match session.next_action() {
         Action::Read { place, after, upto } => {
             let name = session.bucket_at(place).as_str();
-            Ok(out.push_str(format!(in alloc;
-                "read {place} {name} after {} upto {}",
-                after.0, upto.0
-            )?.as_str())?)
+            Ok(write!(out, "read {place} {name} after {} upto {}", after.0, upto.0)?)
         }
         Action::Take => write_action("take", out),
         Action::Complete => write_action("complete", out),
@@ -130,11 +127,11 @@ fn answer(alloc: Global, session: &mut Session, line: &str, out: &mut String) ->
             *session = begin(alloc, rest)?;
             write_action("begun", out)
         }
-        "action" => action(alloc, session, out),
+        "action" => action(session, out),
         "take" => take(alloc, session, rest, out),
         "batch" => read_ops(alloc, session, rest, out),
         "passed" => read_passed(alloc, session, rest, out),
-        "finish" => finish(alloc, session, out),
+        "finish" => finish(session, out),
         "drained" => write_action(
             if session.drained() {
                 "drained"

@@ -22,29 +22,29 @@ pub fn made_store(alloc: Global) -> Result<(StoreLock<Store>, Seat<Store>), Fail
 }
 
 // What the store counts.
-fn write_totals(alloc: Global, store: &Store, out: &mut String) -> Result<(), Fail> {
+fn write_totals(store: &Store, out: &mut String) -> Result<(), Fail> {
     let totals = store.totals();
-    out.push_str(format!(in alloc;
+    write!(
+        out,
         " totals {} {} {} {} {}",
         totals.transactions, totals.changes, totals.operations, totals.buckets, totals.sum.0
-    )?
-    .as_str())?;
+    )?;
     Ok(())
 }
 
 /// The head, the checkpoint, how long the logs of the seven made buckets are, and the totals.
 pub fn write_store(alloc: Global, store: &Store, out: &mut String) -> Result<(), Fail> {
     let checkpoint = store.checkpoint();
-    out.push_str(format!(in alloc;
+    write!(
+        out,
         "head {} checkpoint {} {} logs",
         store.head().0,
         checkpoint.position.0,
         checkpoint.op.0
-    )?
-    .as_str())?;
+    )?;
     'owners: for owner in 0..7u32 {
         let name = Text::from_string(format!(in alloc; "mine[\"u{owner}\"]")?);
-        out.push_str(format!(in alloc; " {}", store.log_length(&name))?.as_str())?;
+        write!(out, " {}", store.log_length(&name))?;
     }
-    write_totals(alloc, store, out)
+    write_totals(store, out)
 }

@@ -207,11 +207,11 @@ pub fn write_seats<R: Wait>(rt: &R, alloc: Global, out: &mut String) -> Result<(
         Ok(wrote) => wrote.changes,
         Err(_) => 0,
     };
-    out.push_str(format!(in alloc;
+    write!(
+        out,
         "seen {before} and {}, kept with head {} and {changes} unwritten",
         second.seen(),
         store.head().0
-    )?
-    .as_str())?;
+    )?;
     Ok(())
 }

@@ -52,10 +52,8 @@ fn write_number(alloc: Global, desk: &mut Desk, rest: &str, out: &mut String) ->
     }
     desk.head = head;
     match desk.numbers.make(alloc, &user, &client, Position(head)) {
-        Ok(number) => out.push_str(format!(in alloc; "number {number}")?.as_str())?,
-        Err(NumberFault::NumberFull { last }) => out.push_str(format!(in alloc;
-            "full {last}"
-        )?.as_str())?,
+        Ok(number) => write!(out, "number {number}")?,
+        Err(NumberFault::NumberFull { last }) => write!(out, "full {last}")?,
         Err(NumberFault::Memory) => out.push_str("memory")?,
     }
     Ok(())
@@ -64,7 +62,7 @@ fn write_number(alloc: Global, desk: &mut Desk, rest: &str, out: &mut String) ->
 fn write_covered(alloc: Global, desk: &Desk, rest: &str, out: &mut String) -> Result<(), Fail> {
     let (user, client, position) = words(alloc, rest)?;
     match desk.numbers.covered(&user, &client, Position(position)) {
-        Some(number) => out.push_str(format!(in alloc; "covered {number}")?.as_str())?,
+        Some(number) => write!(out, "covered {number}")?,
         None => out.push_str("covered none")?,
     }
     Ok(())
