@@ -8,7 +8,7 @@ use std::process::ExitCode;
 use std::{env, io, thread};
 
 // Reading, checking and dropping a hostile file may nest as deep as it is long.
-const STACK: usize = 1073741824;
+const STACK: usize = 1610612736;
 
 // The words after the program's name; none where they cannot be had, as where one is not UTF-8.
 fn words_of(rt: &HostRuntime) -> Vec<Text> {
