@@ -64,9 +64,5 @@ pub fn limits_of(words: &str) -> Result<Limits, Stop>
 pub fn transaction_of(alloc: Global, line: &str) -> Result<Transaction, Stop>
     ensures { IfOk result (λ transaction. transaction.position.0 ≤ greatest) }
 {
-    let transaction = read_line(alloc, line.as_bytes())?;
-    if GREATEST < transaction.position.0 {
-        return Err(Memory)?;
-    }
-    Ok(transaction)
+    Ok(read_line(alloc, line.as_bytes())?)
 }
