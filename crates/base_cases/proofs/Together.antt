@@ -1,7 +1,7 @@
 -- A number is aimed at, a bucket goes and rows are shown, all in one.
 use Rattle.std.proofs.Common.{◌≡◌, ℕ, ◌≤◌, List, [], ◌∷◌, ◌++◌}
 use Rattle.std.specs.List.{IsDistinct}
-use Rattle.ps_changes.specs.declared.shown.Shown.{Shown}
+use Rattle.ps_rows.specs.declared.shown.Shown.{Shown}
 use Rattle.ps_client_log.specs.declared.states.Target.TheVariants.{Number}
 use Rattle.ps_client_log.specs.declared.edits.Edit.TheVariants.{Delete, Aim, Show}
 use Rattle.ps_client_log.specs.Kept.{Kept}

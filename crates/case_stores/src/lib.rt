@@ -5,8 +5,10 @@ ghost use Rattle.std.specs.Prelude.{◌≤◌, IfOk, IsTrue};
 ghost use Rattle.ps_store.specs.Limits.{greatest, AreWithin};
 
 use case_words::{Stop, cut};
-use ps_changes::{Transaction, read_line};
-use ps_rules::{Rules, read_rules};
+use ps_changes::read_line;
+use ps_definitions::Rules;
+use ps_rows::Transaction;
+use ps_rules::read_rules;
 use ps_store::Limits;
 use ps_values::{GREATEST, Memory};
 use std::alloc::Global;

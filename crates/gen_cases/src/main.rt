@@ -1,8 +1,8 @@
 //! Prints the made rules, and so many made transactions as each line of standard input says, a line each.
 #![tactic(auto)]
 
-use ps_changes::{Change, Row, Transaction};
 use ps_gen::{make_input, make_rules};
+use ps_rows::{Change, Row, Transaction};
 use ps_values::Value;
 use std::alloc::Global;
 use std::test::Fail;

@@ -1,10 +1,10 @@
 -- Steps of adding entries.
 use Rattle.std.proofs.Common.{◌≡◌, ℕ, suc, ◌+◌, ◌-◌, ◌<◌, ◌≤◌, Bool, true, false, List, [], ◌∷◌, ◌++◌, length, get_or, map, take, Option, Some, None, Err, refl, sym, ap, ◌∙◌, subst, arith, append-nil, length-append}
 use Rattle.std.specs.Prelude.{flat_map, bytes_eq, if◌then◌else◌}
-use Rattle.ps_rules.specs.declared.queries.Planned.{Planned}
-use Rattle.ps_rules.specs.declared.definitions.Definition.{Definition}
+use Rattle.ps_definitions.specs.declared.queries.Planned.{Planned}
+use Rattle.ps_definitions.specs.declared.definitions.Definition.{Definition}
 use Rattle.ps_bucket_eval.specs.Types.{Placed, PlaceFault, TooWide, Memory}
-use Rattle.ps_sql.specs.Objects.{object_id, content_of}
+use Rattle.ps_queries.specs.Objects.{object_id, content_of}
 use Rattle.ps_bucket_eval.specs.Shown.{alone}
 use Rattle.ps_bucket_eval.specs.Entries.{RowOf, subkey_of, placed_in, placed_all, buckets_of, query_entries, IsPlaced}
 use Rattle.ps_bucket_eval.specs.Solving.{AddsEntries, made_in}

@@ -16,9 +16,9 @@ use Rattle.ps_values.specs.declared.values.Truth.TheVariants.{True, False, Unkno
 use Rattle.ps_values.specs.Values.{compare_values, is_null, equal_sql}
 use Rattle.ps_values.specs.Conversions.{value_of as json_value}
 use Rattle.ps_values.specs.Laws.{TiesTheSame, IsEqualWherePresent}
-use Rattle.ps_sql.specs.Meaning.{Given, value_of, is_true, any_equals, array_of}
-use Rattle.ps_rules.specs.declared.matches.Match.{Match}
-use Rattle.ps_rules.specs.Meeting.{is_among}
+use Rattle.ps_queries.specs.Meaning.{Given, value_of, is_true, any_equals, array_of}
+use Rattle.ps_definitions.specs.declared.matches.Match.{Match}
+use Rattle.ps_definitions.specs.Meeting.{is_among}
 use Rattle.ps_sql_eval.specs.Evaluated.{values_of_items, values_in}
 use Rattle.ps_bucket_eval.specs.Vectors.{compared}
 use Rattle.ps_bucket_eval.specs.Solving.{gathered, allowed_by, common, narrowed, narrowed_by, narrowed_along, values_or_none, allowed}

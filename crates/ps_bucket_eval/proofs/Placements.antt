@@ -3,17 +3,17 @@ use Rattle.std.proofs.Common.{◌≡◌, ℕ, Bool, true, false, List, [], ◌�
 use Rattle.std.specs.Prelude.{if◌then◌else◌, bytes_eq}
 use Rattle.std.specs.List.{AllByRecursion}
 use Rattle.ps_values.specs.declared.values.Value.{Value}
-use Rattle.ps_sql.specs.declared.queries.ParameterQuery.{ParameterQuery}
-use Rattle.ps_rules.specs.declared.queries.Planned.{Planned}
-use Rattle.ps_rules.specs.declared.definitions.Definition.{Definition}
-use Rattle.ps_rules.specs.Names.{has_repeated}
-use Rattle.ps_rules.specs.Checks.{names_of}
-use Rattle.ps_sql.specs.Meaning.{holds}
-use Rattle.ps_rules.specs.Laws.{NamesDiffer}
-use Rattle.ps_rules.specs.RuleSets.{RuleSet, AreRules, IsSound, IsSoundParameter, IsSoundQuery}
+use Rattle.ps_queries.specs.declared.queries.ParameterQuery.{ParameterQuery}
+use Rattle.ps_definitions.specs.declared.queries.Planned.{Planned}
+use Rattle.ps_definitions.specs.declared.definitions.Definition.{Definition}
+use Rattle.ps_definitions.specs.Names.{has_repeated}
+use Rattle.ps_definitions.specs.Checks.{names_of}
+use Rattle.ps_queries.specs.Meaning.{holds}
+use Rattle.ps_definitions.specs.Laws.{NamesDiffer}
+use Rattle.ps_definitions.specs.RuleSets.{RuleSet, AreRules, IsSound, IsSoundParameter, IsSoundQuery}
 use Rattle.ps_bucket_eval.specs.Types.{Placed}
-use Rattle.ps_rules.specs.Buckets.{bucket_name_of}
-use Rattle.ps_sql.specs.Objects.{object_id}
+use Rattle.ps_definitions.specs.Buckets.{bucket_name_of}
+use Rattle.ps_queries.specs.Objects.{object_id}
 use Rattle.ps_bucket_eval.specs.Shown.{alone}
 use Rattle.ps_bucket_eval.specs.Vectors.{with_vector, holding}
 use Rattle.ps_bucket_eval.specs.Entries.{RowOf, placed_in, entry_of, placed_all, buckets_of, query_entries, definition_entries, entries_of}

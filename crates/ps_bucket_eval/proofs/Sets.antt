@@ -10,7 +10,7 @@ use Rattle.std.specs.declared.cmp.Ordering.{Ordering}
 use Rattle.std.specs.declared.cmp.Ordering.TheVariants.{Less, Equal, Greater}
 use Rattle.std.specs.BTreeSet.{insert_key}
 use Rattle.std.proofs.lemmas.Map.Lookups.{exact_bytes}
-use Rattle.ps_rules.specs.Buckets.{in_order}
+use Rattle.ps_definitions.specs.Buckets.{in_order}
 use Rattle.ps_bucket_eval.specs.Solving.{inserted}
 use Rattle.ps_bucket_eval.proofs.Members.{Has}
 

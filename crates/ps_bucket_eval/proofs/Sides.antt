@@ -3,15 +3,15 @@ use Rattle.std.proofs.Common.{◌≡◌, ℕ, Bool, true, false, List, [], ◌�
 use Rattle.std.specs.Prelude.{◌||◌, if◌then◌else◌}
 use Rattle.std.specs.Option.{option_or}
 use Rattle.std.proofs.lemmas.Bool.{or_parts}
-use Rattle.ps_sql.specs.declared.expressions.Expr.{Expr, Expr-F, fold-roll-Expr, map-Expr, out-Expr, roll-Expr, roll-out-Expr, out-roll-Expr, ind-Expr}
-use Rattle.ps_sql.specs.declared.expressions.Expr.TheOpen as layers
-use Rattle.ps_sql.specs.declared.expressions.Expr.TheVariants as exprs
-use Rattle.ps_sql.specs.declared.expressions.Operator.{Operator}
-use Rattle.ps_sql.specs.declared.expressions.Operator.TheVariants as operators
-use Rattle.ps_rules.specs.declared.matches.Match.{Match}
-use Rattle.ps_rules.specs.declared.branches.Branch.{Branch}
-use Rattle.ps_rules.specs.Branches.{finds, layer_finds, has_parameter, match_of_side, match_of_sides, match_of_layer, match_of, branch_with, leaf_branch, joined, crossed, branches_in, branches_of}
-use Rattle.ps_rules.specs.Laws.{EitherSide, BothSides, LeafAlone, is_leaf_layer, is_leaf}
+use Rattle.ps_queries.specs.declared.expressions.Expr.{Expr, Expr-F, fold-roll-Expr, map-Expr, out-Expr, roll-Expr, roll-out-Expr, out-roll-Expr, ind-Expr}
+use Rattle.ps_queries.specs.declared.expressions.Expr.TheOpen as layers
+use Rattle.ps_queries.specs.declared.expressions.Expr.TheVariants as exprs
+use Rattle.ps_queries.specs.declared.expressions.Operator.{Operator}
+use Rattle.ps_queries.specs.declared.expressions.Operator.TheVariants as operators
+use Rattle.ps_definitions.specs.declared.matches.Match.{Match}
+use Rattle.ps_definitions.specs.declared.branches.Branch.{Branch}
+use Rattle.ps_definitions.specs.Branches.{finds, layer_finds, has_parameter, match_of_side, match_of_sides, match_of_layer, match_of, branch_with, leaf_branch, joined, crossed, branches_in, branches_of}
+use Rattle.ps_definitions.specs.Laws.{EitherSide, BothSides, LeafAlone, is_leaf_layer, is_leaf}
 use Rattle.ps_bucket_eval.proofs.Members.{Has, has_cases, from_flat, from_map}
 
 -- ---- the matches of a condition

@@ -6,20 +6,20 @@ use Rattle.std.proofs.lemmas.Bool.{and_parts, and_from, not-true, or_parts, or_f
 use Rattle.ps_values.specs.declared.columns.Column.{Column}
 use Rattle.ps_values.specs.declared.values.Value.{Value}
 use Rattle.ps_values.specs.Values.{equal_sql, truth_of}
-use Rattle.ps_sql.specs.declared.expressions.Expr.{Expr}
-use Rattle.ps_sql.specs.Meaning.{Given, is_true, array_of, holds}
-use Rattle.ps_sql.specs.Subjects.{IsSameForEveryBucket}
-use Rattle.ps_rules.specs.declared.matches.Match.{Match}
-use Rattle.ps_rules.specs.declared.branches.Branch.{Branch}
-use Rattle.ps_rules.specs.declared.queries.Planned.{Planned}
-use Rattle.ps_rules.specs.Names.{is_in, has_repeated}
-use Rattle.ps_rules.specs.Branches.{has_parameter, mentions, branches_of}
-use Rattle.ps_rules.specs.Checks.{in_condition, is_bound}
-use Rattle.ps_rules.specs.Laws.{SameTest, HoldsWhereMet}
-use Rattle.ps_rules.specs.Meeting.{is_among, allows, meets, meets_some}
-use Rattle.ps_rules.specs.RuleSets.{IsSoundQuery}
-use Rattle.ps_rules.specs.Vectors.{vector_at}
-use Rattle.ps_rules.specs.Buckets.{bucket_name_of}
+use Rattle.ps_queries.specs.declared.expressions.Expr.{Expr}
+use Rattle.ps_queries.specs.Meaning.{Given, is_true, array_of, holds}
+use Rattle.ps_queries.specs.Subjects.{IsSameForEveryBucket}
+use Rattle.ps_definitions.specs.declared.matches.Match.{Match}
+use Rattle.ps_definitions.specs.declared.branches.Branch.{Branch}
+use Rattle.ps_definitions.specs.declared.queries.Planned.{Planned}
+use Rattle.ps_definitions.specs.Names.{is_in, has_repeated}
+use Rattle.ps_definitions.specs.Branches.{has_parameter, mentions, branches_of}
+use Rattle.ps_definitions.specs.Checks.{in_condition, is_bound}
+use Rattle.ps_definitions.specs.Laws.{SameTest, HoldsWhereMet}
+use Rattle.ps_definitions.specs.Meeting.{is_among, allows, meets, meets_some}
+use Rattle.ps_definitions.specs.RuleSets.{IsSoundQuery}
+use Rattle.ps_definitions.specs.Vectors.{vector_at}
+use Rattle.ps_definitions.specs.Buckets.{bucket_name_of}
 use Rattle.ps_bucket_eval.specs.Shown.{over, alone}
 use Rattle.ps_bucket_eval.specs.Vectors.{compared, compared_as, candidates, choices, with_vector, tried, holding}
 use Rattle.ps_bucket_eval.specs.Solving.{allowed, all_hold, names_from, branch_names, sides_have_parameter}

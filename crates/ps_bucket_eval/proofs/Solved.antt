@@ -4,7 +4,7 @@ use Rattle.std.specs.Prelude.{flat_map, ◌⊎◌}
 use Rattle.std.specs.Ordering.{nat_cmp}
 use Rattle.std.specs.Cmp.Lexicographic.{slice_cmp, nat_list_cmp_total}
 use Rattle.std.proofs.lemmas.Map.Lookups.{exact_bytes}
-use Rattle.ps_rules.specs.Buckets.{bucket_name_of, in_order}
+use Rattle.ps_definitions.specs.Buckets.{bucket_name_of, in_order}
 use Rattle.ps_bucket_eval.specs.Shown.{alone}
 use Rattle.ps_bucket_eval.specs.Vectors.{holding}
 use Rattle.ps_bucket_eval.specs.Entries.{buckets_of}

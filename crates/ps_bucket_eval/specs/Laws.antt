@@ -6,13 +6,13 @@ use Rattle.std.specs.Ordering.{nat_cmp, ordering_then}
 use Rattle.std.specs.Cmp.Lexicographic.{slice_cmp}
 use Rattle.std.specs.declared.cmp.Ordering.{Ordering}
 use Rattle.ps_values.specs.declared.values.Value.{Value}
-use Rattle.ps_sql.specs.Meaning.{Holds}
-use Rattle.ps_rules.specs.declared.definitions.Definition.{Definition}
-use Rattle.ps_rules.specs.declared.queries.Planned.{Planned}
-use Rattle.ps_rules.specs.RuleSets.{RuleSet}
-use Rattle.ps_rules.specs.Laws.{IsSqlValue}
+use Rattle.ps_queries.specs.Meaning.{Holds}
+use Rattle.ps_definitions.specs.declared.definitions.Definition.{Definition}
+use Rattle.ps_definitions.specs.declared.queries.Planned.{Planned}
+use Rattle.ps_definitions.specs.RuleSets.{RuleSet}
+use Rattle.ps_definitions.specs.Laws.{IsSqlValue}
 use Rattle.ps_bucket_eval.specs.declared.placed.Placed.{Placed}
-use Rattle.ps_sql.specs.Objects.{object_id}
+use Rattle.ps_queries.specs.Objects.{object_id}
 use Rattle.ps_bucket_eval.specs.Shown.{alone}
 use Rattle.ps_bucket_eval.specs.Vectors.{with_vector}
 use Rattle.ps_bucket_eval.specs.Entries.{RowOf, entry_of}

@@ -8,22 +8,22 @@ use Rattle.std.specs.BTreeMap.{is_at}
 use Rattle.ps_values.specs.declared.columns.Column.{Column}
 use Rattle.ps_values.specs.declared.values.Value.{Value}
 use Rattle.ps_values.specs.Values.{compare_values, is_null}
-use Rattle.ps_sql.specs.Meaning.{Given, holds}
-use Rattle.ps_sql.specs.declared.expressions.Expr.{Expr}
-use Rattle.ps_sql.specs.declared.queries.Output.{Output}
-use Rattle.ps_rules.specs.declared.matches.Match.{Match}
-use Rattle.ps_rules.specs.declared.branches.Branch.{Branch}
-use Rattle.ps_rules.specs.Branches.{has_parameter}
+use Rattle.ps_queries.specs.Meaning.{Given, holds}
+use Rattle.ps_queries.specs.declared.expressions.Expr.{Expr}
+use Rattle.ps_queries.specs.declared.queries.Output.{Output}
+use Rattle.ps_definitions.specs.declared.matches.Match.{Match}
+use Rattle.ps_definitions.specs.declared.branches.Branch.{Branch}
+use Rattle.ps_definitions.specs.Branches.{has_parameter}
 use Rattle.std.specs.BTreeSet.{BTreeSet}
 use Rattle.ps_bucket_eval.specs.Types.{Placed, PlaceFault, TooWide, Memory}
 use Rattle.ps_bucket_eval.specs.declared.source_rows.SourceRow.{SourceRow}
 use Rattle.ps_bucket_eval.specs.Entries.{RowOf, buckets_of}
 use Rattle.ps_bucket_eval.specs.Shown.{alone}
-use Rattle.ps_rules.specs.declared.definitions.Definition.{Definition}
-use Rattle.ps_rules.specs.declared.queries.Planned.{Planned}
-use Rattle.ps_rules.specs.Names.{has_repeated}
-use Rattle.ps_rules.specs.RuleSets.{IsSoundQuery}
-use Rattle.ps_rules.specs.Buckets.{bucket_name_of}
+use Rattle.ps_definitions.specs.declared.definitions.Definition.{Definition}
+use Rattle.ps_definitions.specs.declared.queries.Planned.{Planned}
+use Rattle.ps_definitions.specs.Names.{has_repeated}
+use Rattle.ps_definitions.specs.RuleSets.{IsSoundQuery}
+use Rattle.ps_definitions.specs.Buckets.{bucket_name_of}
 use Rattle.ps_bucket_eval.specs.Vectors.{compared}
 
 -- ---- what is to be evaluated has no parameter in it

@@ -2,12 +2,12 @@
 use Rattle.std.specs.Prelude.{ℕ, List, [], ◌∷◌, map, filter, flat_map, if◌then◌else◌, bytes_eq}
 use Rattle.ps_values.specs.declared.columns.Column.{Column}
 use Rattle.ps_values.specs.declared.values.Value.{Value}
-use Rattle.ps_sql.specs.Meaning.{Given, value_of, array_of, holds}
+use Rattle.ps_queries.specs.Meaning.{Given, value_of, array_of, holds}
 use Rattle.ps_sql_eval.specs.Evaluated.{values_in}
-use Rattle.ps_rules.specs.declared.matches.Match.{Match}
-use Rattle.ps_rules.specs.declared.branches.Branch.{Branch}
-use Rattle.ps_rules.specs.declared.queries.Planned.{Planned}
-use Rattle.ps_rules.specs.Vectors.{vector_at}
+use Rattle.ps_definitions.specs.declared.matches.Match.{Match}
+use Rattle.ps_definitions.specs.declared.branches.Branch.{Branch}
+use Rattle.ps_definitions.specs.declared.queries.Planned.{Planned}
+use Rattle.ps_definitions.specs.Vectors.{vector_at}
 use Rattle.ps_bucket_eval.specs.Shown.{over, alone}
 
 -- what a match compares its parameter with: the value of its other side, or the elements of that value

@@ -1,13 +1,13 @@
 ghost use Rattle.std.specs.Prelude.{◌≡◌, false, IfOk};
 ghost use Rattle.std.specs.List.{list_any};
-ghost use Rattle.ps_sql.specs.declared.expressions.Expr.{Expr as ExprData};
-ghost use Rattle.ps_sql.specs.Meaning.{value_of};
-ghost use Rattle.ps_rules.specs.Branches.{has_parameter};
+ghost use Rattle.ps_queries.specs.declared.expressions.Expr.{Expr as ExprData};
+ghost use Rattle.ps_queries.specs.Meaning.{value_of};
+ghost use Rattle.ps_definitions.specs.Branches.{has_parameter};
 ghost use Rattle.ps_bucket_eval.specs.Shown.{alone};
 ghost use Rattle.ps_bucket_eval.specs.Solving.{all_hold as all_leaves_hold};
 
-use ps_changes::Row;
-use ps_sql::Expr;
+use ps_queries::Expr;
+use ps_rows::Row;
 use ps_sql_eval::{eval_request, nobody};
 use ps_values::{Memory, Text, Truth, Value, truth_of};
 use std::alloc::Global;

@@ -1,13 +1,15 @@
 //! The laws of entries. Each is the contract of a function that does nothing.
 
 ghost use Rattle.std.specs.Prelude.{ℕ, List};
-ghost use Rattle.ps_rules.specs.RuleSets.{RuleSet, AreRules};
+ghost use Rattle.ps_definitions.specs.RuleSets.{RuleSet, AreRules};
 ghost use Rattle.ps_bucket_eval.specs.Entries.{RowOf, entries_of};
 ghost use Rattle.ps_bucket_eval.specs.Laws.{PlacedWhereItHolds, EntriesRise};
 ghost use Rattle.ps_bucket_eval.specs.Solving.{SolvesBuckets, HasPlainSides};
 
-use ps_rules::{conditions_hold_where_a_branch_is_met, names_are_distinct, spread_as_written};
-use ps_sql::same_for_every_bucket;
+use ps_definitions::{
+    conditions_hold_where_a_branch_is_met, names_are_distinct, spread_as_written,
+};
+use ps_queries::same_for_every_bucket;
 use ps_values::{compare_is_a_total_order, equal_where_both_are_present};
 
 /// A law: for every vector at all, a data query's condition holds on a row for which it shows an object exactly where the

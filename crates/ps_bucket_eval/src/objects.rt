@@ -1,11 +1,11 @@
 //! The object that a data query shows for a row, whoever asks.
 
 ghost use Rattle.std.specs.Prelude.{◌≡◌, IfOk};
-ghost use Rattle.ps_sql.specs.Objects.{object_id as object_id_of, content_of};
+ghost use Rattle.ps_queries.specs.Objects.{object_id as object_id_of, content_of};
 ghost use Rattle.ps_bucket_eval.specs.Shown.{alone};
 
 use crate::source_rows::SourceRow;
-use ps_sql::DataQuery;
+use ps_queries::DataQuery;
 use ps_sql_eval::{content, nobody, object_id};
 use ps_values::{Memory, Text};
 use std::alloc::Global;

@@ -1,4 +1,4 @@
-use ps_changes::Row;
+use ps_rows::Row;
 use ps_values::Text;
 
 /// A row of a table at the source.

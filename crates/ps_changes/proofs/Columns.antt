@@ -11,7 +11,7 @@ use Rattle.json.specs.declared.value.Value.{Value as Borrowed}
 use Rattle.serde_json.specs.Data.{Data, Members, member}
 use Rattle.ps_values.specs.declared.columns.Column.{Column}
 use Rattle.ps_values.specs.declared.values.Value.{Value}
-use Rattle.ps_changes.specs.Rows.{is_id, rises_from, is_row}
+use Rattle.ps_rows.specs.Rows.{is_id, rises_from, is_row}
 use Rattle.ps_changes.specs.Types.{ChangeFault}
 use Rattle.ps_changes.specs.Members.{◌>>=◌}
 use Rattle.ps_changes.specs.Lines.{value_in, column_of, columns_of}

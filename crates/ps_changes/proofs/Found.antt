@@ -15,7 +15,7 @@ use Rattle.ps_values.specs.Laws.{ReadsWhatIsWritten}
 use Rattle.ps_values.specs.Numbers.{decimal_of, greatest}
 use Rattle.ps_changes.specs.Types.{Change, Transaction, ChangeFault, LineTooLong, BadJson, BadShape, BadPosition, BadValue}
 use Rattle.ps_changes.specs.Members.{◌>>=◌, or_fault}
-use Rattle.ps_changes.specs.Rows.{is_id}
+use Rattle.ps_rows.specs.Rows.{is_id}
 use Rattle.ps_changes.specs.Lines.{text_at, value_in, columns_of, row_in, row_of, filled, change_of, changes_of, changes_in, position_of, transaction_of, short, shaped, json_within, json_such, longest}
 use Rattle.ps_changes.specs.Grammar.{Has, AreColumns, no_columns, passed_over, with_column, HasRow, IsChange, AreChanges, no_changes, with_change, HasChanges, IsTransaction, IsTextOf}
 use Rattle.ps_changes.proofs.Columns.{by_cases}

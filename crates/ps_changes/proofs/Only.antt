@@ -9,7 +9,7 @@ use Rattle.ps_values.specs.Conversions.{IsValueOf}
 use Rattle.ps_values.specs.Laws.{ReadsWhatIsWritten}
 use Rattle.ps_values.specs.Numbers.{decimal_of}
 use Rattle.ps_changes.specs.Types.{Change, Transaction}
-use Rattle.ps_changes.specs.Rows.{is_id}
+use Rattle.ps_rows.specs.Rows.{is_id}
 use Rattle.ps_changes.specs.Shapes.{is_change, are_changes, has_changes, is_transaction}
 use Rattle.ps_changes.specs.Lines.{value_in, columns_of, change_of, changes_of, changes_in, transaction_of, json_such, longest}
 use Rattle.ps_changes.specs.Grammar.{Has, AreColumns, no_columns, passed_over, with_column, HasRow, IsChange, AreChanges, no_changes, with_change, HasChanges, IsTransaction, IsTextOf}

@@ -23,7 +23,7 @@ use Rattle.ps_values.specs.Conversions.{IsValueOf}
 use Rattle.ps_values.specs.Documents.{data_of}
 use Rattle.ps_values.specs.Laws.{ReadsWhatIsWritten}
 use Rattle.ps_changes.specs.Types.{Change, Transaction}
-use Rattle.ps_changes.specs.Rows.{is_id, rises_from, is_row}
+use Rattle.ps_rows.specs.Rows.{is_id, rises_from, is_row}
 use Rattle.ps_changes.specs.Lines.{longest, line_of, lone_change_of}
 use Rattle.ps_changes.specs.Grammar.{AreColumns, no_columns, with_column, IsChange, AreChanges, no_changes, with_change, IsTransaction, IsTextOf}
 use Rattle.ps_changes.specs.Writing.{members_of, with_row, IsWritable, json_with, change_json, transaction_json, change_text, line_text, ReadsBack}

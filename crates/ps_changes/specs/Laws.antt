@@ -1,6 +1,6 @@
 -- The law of changes by themselves.
 use Rattle.std.specs.Prelude.{◌≡◌, ℕ, ◌↔◌, List, Ok}
-use Rattle.ps_changes.specs.declared.changes.Change.{Change}
+use Rattle.ps_rows.specs.declared.changes.Change.{Change}
 use Rattle.ps_changes.specs.Lines.{lone_change_of}
 use Rattle.ps_changes.specs.Grammar.{IsLoneChange}
 

@@ -1,7 +1,4 @@
 pub mod Types
-pub mod Rows
-pub mod Source
-pub mod Keys
 pub mod Members
 pub mod Borrowed
 pub mod Shapes

@@ -8,7 +8,7 @@ use Rattle.ps_values.specs.declared.values.Value.{Value}
 use Rattle.ps_values.specs.Conversions.{first_fault, numbers_of, value_of}
 use Rattle.ps_values.specs.Numbers.{decimal_of}
 use Rattle.ps_values.specs.Documents.{json_of}
-use Rattle.ps_changes.specs.Rows.{is_id}
+use Rattle.ps_rows.specs.Rows.{is_id}
 use Rattle.ps_changes.specs.Members.{◌>>=◌, or_fault}
 use Rattle.ps_changes.specs.Shapes.{is_change, has_changes, is_transaction}
 use Rattle.ps_changes.specs.Types.{Change, Transaction, ChangeFault, LineTooLong, BadJson, BadShape, BadPosition, BadValue}

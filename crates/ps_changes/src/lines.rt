@@ -5,11 +5,12 @@ ghost use Rattle.ps_changes.specs.Borrowed.{seen};
 ghost use Rattle.ps_changes.specs.Lines.{RefusesLong, json_within, line_of, body_of, lone_change_of};
 ghost use Rattle.ps_changes.specs.Grammar.{IsLine, IsBody, IsLoneChange};
 
+use crate::ChangeFault;
 use crate::borrowed::read_borrowed;
 use crate::readers::{read_list, read_object, read_transaction};
 use crate::shapes::{has_changes, is_change, is_transaction};
-use crate::{Change, ChangeFault, Transaction};
 use json::{Scratch, Value as Borrowed};
+use ps_rows::{Change, Transaction};
 use ps_values::{Items, decimals_read_back};
 use std::alloc::Global;
 

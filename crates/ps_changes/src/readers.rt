@@ -6,9 +6,10 @@ ghost use Rattle.ps_changes.specs.Members.{Reads, Adds};
 ghost use Rattle.ps_changes.specs.Borrowed.{number_in as number_data, seen, items_in, members_in, entries_seen};
 ghost use Rattle.ps_changes.specs.Lines.{text_at, value_in, column_of, columns_of, row_in, row_of, row_by_op, change_of, changes_of, changes_in, position_of, transaction_of};
 
+use crate::ChangeFault;
 use crate::borrowed::{as_list, as_members, as_text, in_order, member, number_in, owned};
-use crate::{Change, ChangeFault, Row, Transaction};
 use json::Value as Borrowed;
+use ps_rows::{Change, Row, Transaction};
 use ps_values::{Column, Items, Position, Text, Value, ValueFault, read_decimal, value_of_json};
 use std::alloc::Global;
 use std::collections::BTreeMap;

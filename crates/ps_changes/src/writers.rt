@@ -7,7 +7,7 @@ ghost use Rattle.ps_changes.specs.Lines.{longest, line_of, lone_change_of};
 ghost use Rattle.ps_changes.specs.Grammar.{AreColumns, IsChange, AreChanges, IsTransaction, IsLine, IsLoneChange};
 ghost use Rattle.ps_changes.specs.Writing.{members_of, with_row, change_json as json_of_change, transaction_json as json_of_transaction, change_text, line_text, IsWritable};
 
-use crate::{Change, Row, Transaction};
+use ps_rows::{Change, Row, Transaction};
 use ps_values::{Memory, Value, decimals_read_back, json_of_value};
 use serde_json::{Map, Value as Json, put};
 use std::alloc::Global;

@@ -8,7 +8,7 @@ use Rattle.std.proofs.lemmas.Cmp.{then_total, on_total, nat_cmp_total}
 use Rattle.std.specs.Cmp.{IsTotalOrder}
 use Rattle.std.specs.Cmp.Lexicographic.{nat_list_cmp_total}
 use Rattle.ps_bucket_log.specs.declared.ops.Op.{Op}
-use Rattle.ps_changes.specs.Source.{Key as Object}
+use Rattle.ps_rows.specs.Source.{Key as Object}
 use Rattle.ps_client_log.specs.Kept.{Kept, bucket_at}
 use Rattle.ps_client_log.specs.Rows.{HeldCopy, Holds, object_of, Place, place_of, place_cmp, IsLatest, content_of, IsLatestContent}
 use Rattle.ps_client.specs.Taking.{Rows, AreHeld}

@@ -17,10 +17,10 @@ use Rattle.std.proofs.lemmas.List.Sums.{fold_push}
 use Rattle.std.proofs.lemmas.Map.Keys.{sorted_head, sorted_tail, IsDistinct-head, IsDistinct-tail, IsDistinct-cons, IsDistinct-push}
 use Rattle.ps_values.specs.declared.columns.Column.{Column}
 use Rattle.ps_values.specs.Documents.{document_of}
-use Rattle.ps_changes.specs.declared.changes.Change.{Change}
-use Rattle.ps_changes.specs.declared.shown.Shown.{Shown}
-use Rattle.ps_changes.specs.Source.{Key as Object, key_cmp}
-use Rattle.ps_changes.specs.Keys.{keys_total}
+use Rattle.ps_rows.specs.declared.changes.Change.{Change}
+use Rattle.ps_rows.specs.declared.shown.Shown.{Shown}
+use Rattle.ps_rows.specs.Source.{Key as Object, key_cmp}
+use Rattle.ps_rows.specs.Keys.{keys_total}
 use Rattle.ps_client_log.specs.Kept.{Kept, shown_in}
 use Rattle.ps_client_log.specs.Lending.{LentObject, object_at, lent_cmp}
 use Rattle.ps_client_log.specs.Rows.{HeldCopy, Holds, object_of, IsLatestContent, by_object, AreInOrder, row_at}

@@ -2,7 +2,7 @@
 use Rattle.std.specs.Prelude.{ℕ, List, Option, option_map}
 use Rattle.std.specs.BTreeMap.{BTreeMap, get_by}
 use Rattle.std.specs.Borrow.{Bor}
-use Rattle.ps_changes.specs.Source.{Key as Object, key_cmp}
+use Rattle.ps_rows.specs.Source.{Key as Object, key_cmp}
 use Rattle.ps_client_log.specs.Lending.{LentObject, object_at}
 
 -- the data that stands at an object

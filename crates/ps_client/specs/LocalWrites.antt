@@ -7,7 +7,7 @@ use Rattle.ps_values.specs.declared.columns.Column.{Column}
 use Rattle.ps_values.specs.declared.values.Value.{Value}
 use Rattle.ps_values.specs.declared.values.Value.TheVariants.{Null, Int, Text}
 use Rattle.ps_values.specs.Documents.{document_of}
-use Rattle.ps_changes.specs.declared.changes.Change.{Change}
+use Rattle.ps_rows.specs.declared.changes.Change.{Change}
 use Rattle.ps_changes.specs.Lines.{longest, body_of}
 use Rattle.ps_changes.specs.Writing.{change_json}
 use Rattle.ps_client_log.specs.declared.states.Target.TheVariants.{Pending, Number}

@@ -6,7 +6,7 @@ use Rattle.ps_bucket_log.specs.Logs.{IsRising}
 use Rattle.ps_lines.specs.declared.faults.LineFault.{LineFault}
 use Rattle.ps_lines.specs.declared.lines.Line.{Line}
 use Rattle.ps_lines.specs.declared.lines.Line.TheVariants.{Checkpoint, Diff, Data, Complete, Expires, Unknown}
-use Rattle.ps_changes.specs.Source.{Key as Object}
+use Rattle.ps_rows.specs.Source.{Key as Object}
 use Rattle.ps_client_log.specs.Kept.{Kept}
 use Rattle.ps_client_log.specs.Rows.{HeldCopy, Holds, IsLatestContent}
 use Rattle.ps_client.specs.declared.events.Event.{Event}

@@ -7,8 +7,9 @@ ghost use Rattle.ps_client.specs.LocalWrites.{written, popped, aimed, upload_tex
 
 use crate::showing::rows_with;
 use crate::taking::commit;
-use ps_changes::{Change, Row, write_change};
+use ps_changes::write_change;
 use ps_client_log::{ClientLog, Edit, KeepFault, Keeper, Target, edits_leave_what_is_sound};
+use ps_rows::{Change, Row};
 use ps_values::{Memory, Value};
 use std::alloc::Global;
 

@@ -2,7 +2,7 @@ ghost use Rattle.std.specs.Prelude.{◌≡◌, ◌<◌, ◌+◌, IfOk, IsTrue, d
 ghost use Rattle.std.specs.BTreeMap.{IsOrdered};
 ghost use Rattle.std.specs.List.{IsDistinct};
 ghost use Rattle.std.specs.Ordering.{is_lt};
-ghost use Rattle.ps_changes.specs.Source.{Key as Object, key_cmp};
+ghost use Rattle.ps_rows.specs.Source.{Key as Object, key_cmp};
 ghost use Rattle.ps_client_log.specs.Kept.{shown_in};
 ghost use Rattle.ps_client_log.specs.Lending.{lent_cmp, row_from};
 ghost use Rattle.ps_client_log.specs.Rows.{by_object, AreInOrder, row_at};
@@ -10,8 +10,8 @@ ghost use Rattle.ps_client_log.specs.Soundness.{same_row};
 ghost use Rattle.ps_client.specs.Listing.{content_at, row_at_entry};
 ghost use Rattle.ps_client.specs.LocalWrites.{is_of, shown_with};
 
-use ps_changes::Change;
 use ps_client_log::Shown;
+use ps_rows::Change;
 use ps_values::{Copied, Items, Memory, Text, copy_all, document};
 use std::alloc::Global;
 use std::collections::BTreeMap;

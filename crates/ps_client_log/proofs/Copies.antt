@@ -17,9 +17,9 @@ use Rattle.std.proofs.lemmas.Slice.Eq.{bytes_eq-Decides}
 use Rattle.ps_bucket_log.specs.declared.ops.Key.{Key}
 use Rattle.ps_bucket_log.specs.declared.ops.Op.{Op}
 use Rattle.ps_bucket_log.specs.Buckets.{Bucket, fresh}
-use Rattle.ps_changes.specs.declared.shown.Shown.{Shown}
-use Rattle.ps_changes.specs.Source.{Key as Object, key_cmp}
-use Rattle.ps_changes.specs.Keys.{keys_total, keys_exact}
+use Rattle.ps_rows.specs.declared.shown.Shown.{Shown}
+use Rattle.ps_rows.specs.Source.{Key as Object, key_cmp}
+use Rattle.ps_rows.specs.Keys.{keys_total, keys_exact}
 use Rattle.ps_client_log.specs.declared.holdings.Holdings.{Holdings}
 use Rattle.ps_client_log.specs.declared.images.Entry.{Entry}
 use Rattle.ps_client_log.specs.declared.images.Image.{Image}

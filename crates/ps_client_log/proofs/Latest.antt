@@ -8,8 +8,8 @@ use Rattle.std.specs.Cmp.{IsTotalOrder}
 use Rattle.std.specs.Cmp.Lexicographic.{nat_list_cmp_total}
 use Rattle.std.proofs.lemmas.Cmp.{upto, tied_itself, then_total, on_total, nat_cmp_total}
 use Rattle.std.proofs.lemmas.List.Sums.{fold-append}
-use Rattle.ps_changes.specs.Source.{Key as Object, key_cmp}
-use Rattle.ps_changes.specs.Keys.{keys_exact}
+use Rattle.ps_rows.specs.Source.{Key as Object, key_cmp}
+use Rattle.ps_rows.specs.Keys.{keys_exact}
 use Rattle.ps_client_log.specs.Rows.{HeldCopy, Place, object_of, place_of, place_cmp}
 use Rattle.ps_client_log.specs.Seeing.{Note, note_of, noted_place, is_past, seen, all_seen}
 

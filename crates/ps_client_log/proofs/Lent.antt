@@ -2,7 +2,7 @@
 use Rattle.std.proofs.Common.{◌≡◌, Bool, true, false, cond, Option, Some, refl, ap, ◌∙◌}
 use Rattle.std.specs.Prelude.{option_map}
 use Rattle.std.specs.BTreeMap.{BTreeMap, get, is_at}
-use Rattle.ps_changes.specs.Source.{Key as Object, key_cmp}
+use Rattle.ps_rows.specs.Source.{Key as Object, key_cmp}
 use Rattle.ps_client_log.specs.declared.rows.Latest.{Latest}
 use Rattle.ps_client_log.specs.Lending.{LentObject, object_at, lent_cmp, note_at, noted}
 

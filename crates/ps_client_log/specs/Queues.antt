@@ -1,6 +1,6 @@
 -- What a queue of local writes holds.
 use Rattle.std.specs.Prelude.{ℕ, List}
-use Rattle.ps_changes.specs.declared.changes.Change.{Change}
+use Rattle.ps_rows.specs.declared.changes.Change.{Change}
 
 -- the writes that wait, and for how many more there is room
 pub record QueueState : Type 0 where

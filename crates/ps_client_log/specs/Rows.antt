@@ -8,8 +8,8 @@ use Rattle.ps_bucket_log.specs.declared.ops.Key.{Key}
 use Rattle.ps_bucket_log.specs.declared.ops.Op.{Op}
 use Rattle.ps_bucket_log.specs.declared.ops.Op.TheVariants.{Put, Remove, Move, Clear}
 use Rattle.ps_bucket_log.specs.Ops.{id_of}
-use Rattle.ps_changes.specs.declared.shown.Shown.{Shown}
-use Rattle.ps_changes.specs.Source.{Key as Object, key_cmp}
+use Rattle.ps_rows.specs.declared.shown.Shown.{Shown}
+use Rattle.ps_rows.specs.Source.{Key as Object, key_cmp}
 use Rattle.ps_client_log.specs.Kept.{Kept, bucket_at}
 
 -- what a bucket may hold of an object: the bucket's name, the key, and the PUT that stands

@@ -4,7 +4,7 @@ use Rattle.std.specs.List.{IsDistinct, list_any}
 use Rattle.std.specs.Map.{keys_of}
 use Rattle.std.specs.Ordering.{is_lt, eq_by_cmp}
 use Rattle.ps_bucket_log.specs.declared.ops.Key.{Key}
-use Rattle.ps_changes.specs.Source.{Key as Object, key_cmp}
+use Rattle.ps_rows.specs.Source.{Key as Object, key_cmp}
 use Rattle.ps_client_log.specs.declared.images.Entry.{Entry}
 use Rattle.ps_client_log.specs.declared.slots.Slot.{Slot}
 use Rattle.ps_client_log.specs.Images.{key_eq, put_at}

@@ -5,7 +5,7 @@ pub use Rattle.ps_values.specs.Numbers.{greatest}
 use Rattle.ps_bucket_log.specs.declared.ops.Key.{Key}
 use Rattle.ps_bucket_log.specs.Ops.{id_of, same_key}
 use Rattle.ps_bucket_log.specs.Buckets.{Bucket}
-use Rattle.ps_changes.specs.declared.shown.Shown.{Shown}
+use Rattle.ps_rows.specs.declared.shown.Shown.{Shown}
 use Rattle.ps_client_log.specs.declared.states.State.{State}
 use Rattle.ps_client_log.specs.declared.states.Target.{Target}
 use Rattle.ps_client_log.specs.declared.states.Target.TheVariants.{Free, Pending, Number}

@@ -2,7 +2,7 @@ ghost use Rattle.std.specs.Prelude.{◌≡◌, IfOk};
 
 use crate::Target;
 use ps_bucket_log::Op;
-use ps_changes::{Change, Shown};
+use ps_rows::{Change, Shown};
 use ps_values::{Copied, Items, Memory, Text, copy_all};
 use std::alloc::Global;
 

@@ -12,7 +12,7 @@ use crate::queues::Queue;
 use crate::rooms::rooms_for;
 use crate::{Edit, State, Target};
 use indexmap::IndexMap;
-use ps_changes::Shown;
+use ps_rows::Shown;
 use ps_values::{Items, Memory, Text, copy_all};
 use std::alloc::Global;
 

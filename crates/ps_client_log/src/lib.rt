@@ -24,6 +24,6 @@ pub use faults::KeepFault;
 pub use keepers::Keeper;
 pub use laws::edits_leave_what_is_sound;
 pub use memory::{MemoryKeeper, SureKeeper};
-pub use ps_changes::Shown;
+pub use ps_rows::Shown;
 pub use states::{BucketState, Held, State, Target};
 pub use volatile::VolatileKeeper;

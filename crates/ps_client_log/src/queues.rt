@@ -1,6 +1,6 @@
 ghost use Rattle.std.specs.Prelude.{◌≡◌, ◌≢◌, ◌+◌, ◌≤◌, ◌∷◌, [], ◌++◌, drop, OnOk};
 
-use ps_changes::Change;
+use ps_rows::Change;
 use ps_values::Memory;
 use std::alloc::Global;
 use std::marker::Model;

@@ -8,7 +8,7 @@ ghost use Rattle.std.specs.List.{IsDistinct, AllByRecursion, list_any};
 ghost use Rattle.std.specs.List.Sorted.{IsStrictlySortedBy};
 ghost use Rattle.std.specs.Map.{keys_of};
 ghost use Rattle.std.specs.Ordering.{nat_cmp, is_lt};
-ghost use Rattle.ps_changes.specs.Source.{Key as Object};
+ghost use Rattle.ps_rows.specs.Source.{Key as Object};
 ghost use Rattle.ps_client_log.specs.Images.{key_eq};
 ghost use Rattle.ps_client_log.specs.Rooms.{kept_by};
 ghost use Rattle.ps_client_log.specs.Rows.{HeldCopy, Holds, object_of, place_cmp, IsLatestContent, by_object, AreInOrder, row_at};

@@ -1,6 +1,6 @@
 use ps_bucket_log::Key;
-use ps_changes::{Change, Shown};
 use ps_checksum::Sum;
+use ps_rows::{Change, Shown};
 use ps_values::{Items, OpId, Text};
 
 /// All that a client keeps. The order of `buckets`, of what a bucket holds and of `shown` says nothing:

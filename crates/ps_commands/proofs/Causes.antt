@@ -4,20 +4,23 @@ use Rattle.std.specs.Prelude.{option_map, if◌then◌else◌}
 use Rattle.std.specs.declared.alloc.Global.{Global}
 use Rattle.ps_io.specs.Contents.{Contents, HasLength}
 use Rattle.ps_io.specs.Counts.{Rose}
-use Rattle.ps_rules.specs.RuleSets.{RuleSet}
+use Rattle.ps_definitions.specs.RuleSets.{RuleSet}
 use Rattle.ps_sql_eval.specs.declared.askers.Asker.{Asker}
 use Rattle.ps_sql_eval.specs.Evaluated.{asker_of}
 use Rattle.ps_token.specs.KeyLists.{key_of}
 use Rattle.ps_token.specs.declared.key_lists.Key.{Key}
-use Rattle.ps_commands.specs.declared.faults.Fault.{Fault}
-use Rattle.ps_commands.specs.declared.faults.Fault.TheVariants.{Usage, Rules, Change, PastLimit, TooManyBuckets, Claims, Keys, TooLong, CannotRead, CannotWrite, Script, Memory}
-use Rattle.ps_commands.specs.Commands.{Names, Inputs, Signing, check, rows, compact, token, generate, generate_lines, count_of, command_of, file_limit, rules_limit, HoldsWithin, ReadsRules, ReadsAsker, ReadsKey, Role, for_rules, for_keys, for_claims, for_changes, limit_of, ReadsRulesAndClaims, Reaches, MeansRows, MeansCompact, Outside, Kept, Caused}
-use Rattle.ps_changes.specs.declared.changes.Transaction.{Transaction}
-use Rattle.ps_commands.specs.ChangeFiles.{transactions_of}
+use Rattle.ps_files.specs.declared.faults.Fault.{Fault}
+use Rattle.ps_files.specs.declared.faults.Fault.TheVariants.{Usage, Rules, Change, PastLimit, TooManyBuckets, Claims, Keys, TooLong, CannotRead, CannotWrite, Script, Memory}
+use Rattle.ps_files.specs.HeldFiles.{file_limit, rules_limit, HoldsWithin}
+use Rattle.ps_files.specs.Making.{count_of}
+use Rattle.ps_commands.specs.Commands.{Names, Inputs, Signing, check, rows, compact, token, generate, generate_lines, command_of, ReadsRules, ReadsAsker, ReadsKey, Role, for_rules, for_keys, for_claims, for_changes, limit_of, ReadsRulesAndClaims, Reaches, MeansRows, MeansCompact, Outside, Kept, Caused}
+use Rattle.ps_rows.specs.declared.changes.Transaction.{Transaction}
+use Rattle.ps_files.specs.ChangeFiles.{transactions_of}
 use Rattle.ps_commands.specs.Dues.{Answers}
-use Rattle.ps_commands.specs.Compacting.{FindsReports, RefusesReports}
+use Rattle.ps_files.specs.Compacting.{FindsReports, RefusesReports}
 use Rattle.ps_commands.specs.Generating.{generated, Summarizes}
-use Rattle.ps_commands.specs.Loading.{Prepares, Loads, FindsRules, IsRulesFault, FindsKey, IsKeysFault, FindsAsker, IsClaimsFault, FindsRows, RefusesRows}
+use Rattle.ps_files.specs.Loading.{Loads, FindsRules, IsRulesFault, FindsKey, IsKeysFault, FindsAsker, IsClaimsFault}
+use Rattle.ps_commands.specs.Loading.{Prepares, FindsRows, RefusesRows}
 
 rose_later : (before mid now : ℕ) → before ≤ mid → Rose mid now → Rose before now
 rose_later before mid now le h = omega arith

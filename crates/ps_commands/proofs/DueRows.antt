@@ -1,13 +1,13 @@
 -- What is synced of a store into which all transactions are committed is what is due.
 use Rattle.std.proofs.Common.{◌≡◌, ℕ, ◌<◌, ◌≤◌, List, length, ap, ◌∙◌, arith}
-use Rattle.ps_changes.specs.declared.changes.Transaction.{Transaction}
-use Rattle.ps_changes.specs.declared.shown.Shown.{Shown}
-use Rattle.ps_changes.specs.Source.{source_at}
+use Rattle.ps_rows.specs.declared.changes.Transaction.{Transaction}
+use Rattle.ps_rows.specs.declared.shown.Shown.{Shown}
+use Rattle.ps_rows.specs.Source.{source_at}
 use Rattle.ps_grant.specs.Latest.{due as due_by}
 use Rattle.ps_grant.specs.Sources.{rows_in}
 use Rattle.ps_params.specs.Names.{bucket_names}
-use Rattle.ps_rules.specs.RuleSets.{RuleSet}
-use Rattle.ps_sql.specs.Meaning.{Asker}
+use Rattle.ps_definitions.specs.RuleSets.{RuleSet}
+use Rattle.ps_queries.specs.Meaning.{Asker}
 use Rattle.ps_store.specs.declared.stores.Store.{Store}
 use Rattle.ps_store.specs.Histories.{LedgersTellHistories}
 use Rattle.ps_store.specs.Laws.{last_position}
@@ -16,7 +16,7 @@ use Rattle.ps_store.specs.Limits.{usual_limits}
 use Rattle.ps_store.specs.Readings.{names_of, AreTooMany}
 use Rattle.ps_commands.specs.Syncing.{AreSynced}
 use Rattle.ps_commands.specs.Dues.{due, own_buckets}
-use Rattle.ps_commands.specs.ReadingChanges.{usual, HasCommitted}
+use Rattle.ps_files.specs.ReadingChanges.{usual, HasCommitted}
 
 module _ (law : LedgersTellHistories) (rules : RuleSet) (ts : List Transaction) (store : Store) (h : HasCommitted rules ts store) (asker : Asker) where
   abbrev l : Ledger

@@ -1,6 +1,6 @@
 -- The end of a checkpoint.
 use Rattle.std.proofs.Common.{◌≡◌, ℕ, Some, Ok, List, [], refl, sym, subst}
-use Rattle.ps_changes.specs.declared.shown.Shown.{Shown}
+use Rattle.ps_rows.specs.declared.shown.Shown.{Shown}
 use Rattle.ps_lines.specs.declared.lines.Line.{Line}
 use Rattle.ps_lines.specs.declared.lines.Line.TheVariants.{Complete as CompleteLine}
 use Rattle.ps_lines.specs.Writing.{IsWritable, without_targets}

@@ -4,27 +4,29 @@ use Rattle.std.proofs.lemmas.Bool.{le-leb}
 use Rattle.std.proofs.lemmas.Bool.Decides.{nat_tests}
 use Rattle.ps_io.specs.Contents.{Contents, HasLength, Gains}
 use Rattle.ps_io.specs.Counts.{Rose}
-use Rattle.ps_changes.specs.declared.changes.Transaction.{Transaction}
-use Rattle.ps_changes.specs.declared.shown.Shown.{Shown}
-use Rattle.ps_rules.specs.RuleSets.{RuleSet}
-use Rattle.ps_sql.specs.Meaning.{Asker}
+use Rattle.ps_rows.specs.declared.changes.Transaction.{Transaction}
+use Rattle.ps_rows.specs.declared.shown.Shown.{Shown}
+use Rattle.ps_definitions.specs.RuleSets.{RuleSet}
+use Rattle.ps_queries.specs.Meaning.{Asker}
 use Rattle.ps_token.specs.declared.key_lists.Key.{Key}
-use Rattle.ps_commands.specs.declared.faults.Fault.{Fault}
-use Rattle.ps_commands.specs.declared.faults.Fault.TheVariants.{Usage, Rules, Change, PastLimit, TooManyBuckets, Claims, Keys, TooLong, CannotRead, CannotWrite, Script, Memory}
-use Rattle.ps_commands.specs.declared.faults.Limit.{Limit}
-use Rattle.ps_commands.specs.declared.faults.LineFault.{LineFault}
-use Rattle.ps_commands.specs.declared.faults.ScriptCause.{ScriptCause}
-use Rattle.ps_commands.specs.ChangeFiles.{transactions_of, all_transactions_of}
+use Rattle.ps_files.specs.declared.faults.Fault.{Fault}
+use Rattle.ps_files.specs.declared.faults.Fault.TheVariants.{Usage, Rules, Change, PastLimit, TooManyBuckets, Claims, Keys, TooLong, CannotRead, CannotWrite, Script, Memory}
+use Rattle.ps_files.specs.declared.faults.Limit.{Limit}
+use Rattle.ps_files.specs.declared.faults.LineFault.{LineFault}
+use Rattle.ps_files.specs.declared.faults.ScriptCause.{ScriptCause}
+use Rattle.ps_files.specs.ChangeFiles.{transactions_of, all_transactions_of}
 use Rattle.ps_store.specs.Laws.{last_position}
 use Rattle.ps_store.specs.Limits.{usual_limits}
-use Rattle.ps_commands.specs.Checking.{check_text}
+use Rattle.ps_files.specs.Checking.{check_text}
 use Rattle.ps_claims.specs.Claims.{asker_of_claims}
-use Rattle.ps_commands.specs.Commands.{Names, Inputs, Scripting, Signing, Command, check, rows, replay, compact, token, generate, generate_lines, command_of, rules_limit, file_limit, HoldsWithin, ReadsRules, ReadsAsker, ReadsChanges, ReadsTransactions, ReadsGame, ReadsKey, key_of_file, token_text, Means, Prints, Role, for_rules, for_keys, for_claims, for_changes, for_script, limit_of, Reaches, ComesTo, RefusesRules, RefusesKeys, RefusesClaims, RefusesChanges, RefusesCompaction, RefusesFed, RefusesScript, RefusesMade, RefusesLines, PassesLimit, ExceedsBuckets, HasTooManyBuckets, ExceedsFile, ExceedsLimit, IsNext, IsCommand, PrintsFront, PrintsSome, Kept, Outside, Caused, status_of, Refusal, exceeds, refused, refusal_status, within_limit, or_refused, or_none, rules_meant, key_meant, asker_meant, transactions_meant, rows_meant, all_meant, script_meant, Meant, prints, plays, printing, meaning, IsPlayed, IsAnswer, IsAnswerAlone, IsExact, ◌>>=◌}
+use Rattle.ps_files.specs.FaultTexts.{status_of}
+use Rattle.ps_files.specs.HeldFiles.{rules_limit, file_limit, HoldsWithin, key_of_file}
+use Rattle.ps_commands.specs.Commands.{Names, Inputs, Scripting, Signing, Command, check, rows, replay, compact, token, generate, generate_lines, command_of, ReadsRules, ReadsAsker, ReadsChanges, ReadsTransactions, ReadsGame, ReadsKey, token_text, Means, Prints, Role, for_rules, for_keys, for_claims, for_changes, for_script, limit_of, Reaches, ComesTo, RefusesRules, RefusesKeys, RefusesClaims, RefusesChanges, RefusesCompaction, RefusesFed, RefusesScript, RefusesMade, RefusesLines, PassesLimit, ExceedsBuckets, HasTooManyBuckets, ExceedsFile, ExceedsLimit, IsNext, IsCommand, PrintsFront, PrintsSome, Kept, Outside, Caused, Refusal, exceeds, refused, refusal_status, within_limit, or_refused, or_none, rules_meant, key_meant, asker_meant, transactions_meant, rows_meant, all_meant, script_meant, Meant, prints, plays, printing, meaning, IsPlayed, IsAnswer, IsAnswerAlone, IsExact, ◌>>=◌}
 use Rattle.ps_commands.specs.Dues.{due, own_buckets}
-use Rattle.ps_commands.specs.Compacting.{compact_text}
+use Rattle.ps_files.specs.Compacting.{compact_text}
 use Rattle.ps_commands.specs.Generating.{generated}
 use Rattle.ps_commands.specs.Replaying.{Game}
-use Rattle.ps_commands.specs.RulesFaults.{rules_of_file}
+use Rattle.ps_files.specs.RulesFaults.{rules_of_file}
 use Rattle.ps_core.specs.Texts.{rows_text}
 
 same_value : {A : Type 0} (o : Option A) (a b : A) → o ≡ Some a → o ≡ Some b → a ≡ b

@@ -1,6 +1,6 @@
 -- Where a turn leads a client, over the readings of a whole history.
 use Rattle.std.proofs.Common.{◌≡◌, ℕ, None, List, [], refl, ap, subst, length, arith}
-use Rattle.ps_sql.specs.Meaning.{Asker}
+use Rattle.ps_queries.specs.Meaning.{Asker}
 use Rattle.ps_grant.specs.Latest.{due}
 use Rattle.ps_client.specs.Clients.{PlainClient}
 use Rattle.ps_store.specs.declared.events.Event.{Event}
@@ -17,7 +17,7 @@ use Rattle.ps_core.specs.Runs.{IsToldIn, made_by, at_after, turn}
 use Rattle.ps_core.specs.Led.{LeadsOn}
 use Rattle.ps_core.specs.Calls.{TurnsKeepTaken}
 use Rattle.ps_core.specs.Ties.{Leads, HasTaken}
-use Rattle.ps_rules.specs.RuleSets.{AreRules}
+use Rattle.ps_definitions.specs.RuleSets.{AreRules}
 use Rattle.ps_store.specs.Laws.{HaveNumbers}
 use Rattle.ps_store.specs.Stores.{StoreStandsFor}
 use Rattle.ps_commands.specs.Turning.{Serves, IsLed}

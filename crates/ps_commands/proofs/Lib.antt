@@ -7,17 +7,8 @@ pub mod Ending
 pub mod Results
 pub mod ScriptLines
 pub mod Spelling
-pub mod AllLines
 pub mod Causes
-pub mod Committing
-pub mod CompactedLogs
 pub mod DueRows
 pub mod Exactness
-pub mod FaultLines
-pub mod MadeLines
-pub mod Pending
-pub mod Reaching
 pub mod Replays
-pub mod RulesReading
 pub mod Summaries
-pub mod Telling

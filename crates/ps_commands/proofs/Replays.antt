@@ -2,18 +2,19 @@
 use Rattle.std.proofs.Common.{inl, inr, ◌≡◌, ℕ, ◌≤◌, true, false, List, [], ◌∷◌, Option, Some, Result, Ok, Err, refl, sym, subst, codes, bytes_eq, Vec}
 use Rattle.std.specs.declared.alloc.Global.{Global}
 use Rattle.ps_io.specs.Contents.{Contents}
-use Rattle.ps_changes.specs.declared.changes.Transaction.{Transaction}
-use Rattle.ps_rules.specs.RuleSets.{RuleSet}
+use Rattle.ps_rows.specs.declared.changes.Transaction.{Transaction}
+use Rattle.ps_definitions.specs.RuleSets.{RuleSet}
 use Rattle.ps_commands.specs.Replays.{Output, StopsAt}
 use Rattle.ps_script.specs.declared.faults.ScriptFault.{ScriptFault}
 use Rattle.ps_script.specs.declared.faults.ScriptFault.TheVariants as scripts
-use Rattle.ps_commands.specs.declared.faults.Fault.{Fault}
-use Rattle.ps_commands.specs.declared.faults.Fault.TheVariants.{Usage, Rules, Change, PastLimit, TooManyBuckets, Claims, Keys, TooLong, CannotRead, CannotWrite, Script, Memory}
-use Rattle.ps_commands.specs.declared.faults.ScriptCause.{ScriptCause}
-use Rattle.ps_commands.specs.declared.faults.ScriptCause.TheVariants.{BadEvent, UnknownClient, WrongPhase}
-use Rattle.ps_commands.specs.Commands.{Scripting, replay, command_of, file_limit, HoldsWithin, ReadsRules, ReadsTransactions, ReadsRulesAndChanges, ReadsGame, for_changes, for_script, Reaches, Outside, Kept, Caused, Outcome}
-use Rattle.ps_commands.specs.Loading.{Loads, IsContent, RefusesNothing}
-use Rattle.ps_commands.specs.ReadingAll.{FindsTransactions, IsTransactionsFault}
+use Rattle.ps_files.specs.declared.faults.Fault.{Fault}
+use Rattle.ps_files.specs.declared.faults.Fault.TheVariants.{Usage, Rules, Change, PastLimit, TooManyBuckets, Claims, Keys, TooLong, CannotRead, CannotWrite, Script, Memory}
+use Rattle.ps_files.specs.declared.faults.ScriptCause.{ScriptCause}
+use Rattle.ps_files.specs.declared.faults.ScriptCause.TheVariants.{BadEvent, UnknownClient, WrongPhase}
+use Rattle.ps_files.specs.HeldFiles.{file_limit, HoldsWithin}
+use Rattle.ps_commands.specs.Commands.{Scripting, replay, command_of, ReadsRules, ReadsTransactions, ReadsRulesAndChanges, ReadsGame, for_changes, for_script, Reaches, Outside, Kept, Caused, Outcome}
+use Rattle.ps_files.specs.Loading.{Loads, IsContent, RefusesNothing}
+use Rattle.ps_files.specs.ReadingAll.{FindsTransactions, IsTransactionsFault}
 use Rattle.ps_commands.specs.Replaying.{Game, fixed_of, start_of, script_fault, PlaysOut, stopped_by}
 use Rattle.ps_commands.proofs.Causes.{cause_of}
 

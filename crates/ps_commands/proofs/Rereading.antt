@@ -4,7 +4,7 @@ use Rattle.std.specs.Prelude.{option_map}
 use Rattle.ps_values.specs.declared.ids.OpId.{OpId}
 use Rattle.ps_bucket_log.specs.declared.batches.Batch.{Batch}
 use Rattle.ps_lines.specs.declared.lines.Line.{Line}
-use Rattle.ps_sql.specs.Meaning.{Asker}
+use Rattle.ps_queries.specs.Meaning.{Asker}
 use Rattle.ps_client.specs.Clients.{PlainClient}
 use Rattle.ps_store.specs.declared.events.Event.{Event}
 use Rattle.ps_store.specs.declared.fixed.Fixed.{Fixed}

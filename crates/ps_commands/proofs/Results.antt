@@ -1,8 +1,8 @@
 -- What is answered in the end.
 use Rattle.std.proofs.Common.{◌≡◌, List, Err, subst}
 use Rattle.std.specs.Prelude.{Result}
-use Rattle.ps_changes.specs.declared.shown.Shown.{Shown}
-use Rattle.ps_sql.specs.Meaning.{Asker as AskerSeen}
+use Rattle.ps_rows.specs.declared.shown.Shown.{Shown}
+use Rattle.ps_queries.specs.Meaning.{Asker as AskerSeen}
 use Rattle.ps_sql_eval.specs.declared.askers.Asker.{Asker}
 use Rattle.ps_sql_eval.specs.Evaluated.{asker_of}
 use Rattle.ps_client.specs.Clients.{PlainClient}

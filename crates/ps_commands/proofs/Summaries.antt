@@ -3,14 +3,14 @@ use Rattle.std.proofs.Common.{◌≡◌, ℕ, zero, suc, ◌+◌, ◌<◌, ◌�
 use Rattle.std.specs.Prelude.{nat_lt}
 use Rattle.std.specs.declared.alloc.Global.{Global}
 use Rattle.std.proofs.lemmas.Bool.Decides.{nat_tests}
-use Rattle.ps_changes.specs.declared.changes.Transaction.{Transaction}
-use Rattle.ps_changes.specs.declared.shown.Shown.{Shown}
-use Rattle.ps_changes.specs.Source.{source_at}
+use Rattle.ps_rows.specs.declared.changes.Transaction.{Transaction}
+use Rattle.ps_rows.specs.declared.shown.Shown.{Shown}
+use Rattle.ps_rows.specs.Source.{source_at}
 use Rattle.ps_gen.specs.Made.{made_rules, made_from, made_input}
 use Rattle.ps_grant.specs.Sources.{rows_in}
 use Rattle.ps_params.specs.Names.{bucket_names}
-use Rattle.ps_rules.specs.declared.definitions.Definition.{Definition}
-use Rattle.ps_rules.specs.RuleSets.{RuleSet}
+use Rattle.ps_definitions.specs.declared.definitions.Definition.{Definition}
+use Rattle.ps_definitions.specs.RuleSets.{RuleSet}
 use Rattle.ps_store.specs.declared.stores.Store.{Store}
 use Rattle.ps_store.specs.declared.totals.Totals.{Totals}
 use Rattle.ps_store.specs.Histories.{LedgersTellHistories}
@@ -22,20 +22,20 @@ use Rattle.ps_store.specs.Readings.{names_of, AreTooMany}
 use Rattle.ps_store.specs.Stores.{StoreStandsFor}
 use Rattle.ps_store.specs.Totals.{totals_of}
 use Rattle.ps_commands.specs.Syncing.{AreSynced}
-use Rattle.ps_commands.specs.declared.compacting.Compacted.{Compacted}
-use Rattle.ps_commands.specs.declared.faults.Fault.{Fault}
-use Rattle.ps_commands.specs.declared.faults.Fault.TheVariants.{Usage, Rules, Change, PastLimit, TooManyBuckets, Claims, Keys, TooLong, CannotRead, CannotWrite, Script, Memory}
-use Rattle.ps_commands.specs.declared.faults.Limit.{Limit}
-use Rattle.ps_commands.specs.declared.faults.LineFault.{LineFault}
-use Rattle.ps_commands.specs.ChangeFiles.{first_passed, unless_passed, within_limits, ◌>>=◌}
-use Rattle.ps_commands.specs.Commands.{made_limit}
-use Rattle.ps_commands.specs.Committing.{committed_ledger}
-use Rattle.ps_commands.specs.Compacting.{reports_of}
+use Rattle.ps_files.specs.declared.compacting.Compacted.{Compacted}
+use Rattle.ps_files.specs.declared.faults.Fault.{Fault}
+use Rattle.ps_files.specs.declared.faults.Fault.TheVariants.{Usage, Rules, Change, PastLimit, TooManyBuckets, Claims, Keys, TooLong, CannotRead, CannotWrite, Script, Memory}
+use Rattle.ps_files.specs.declared.faults.Limit.{Limit}
+use Rattle.ps_files.specs.declared.faults.LineFault.{LineFault}
+use Rattle.ps_files.specs.ChangeFiles.{first_passed, unless_passed, within_limits, ◌>>=◌}
+use Rattle.ps_files.specs.Making.{made_limit}
+use Rattle.ps_files.specs.Committing.{committed_ledger}
+use Rattle.ps_files.specs.Compacting.{reports_of}
 use Rattle.ps_commands.specs.Dues.{due, own_buckets, rows_after}
-use Rattle.ps_commands.specs.Generating.{made_asker, CanBeFed, admitted, summary_line, summary_by, summary_after, summary_under, summary_of, generated, CountsRows, Summarizes}
-use Rattle.ps_commands.specs.ReadingChanges.{AreValid, usual, HasCommitted, TakesLine, Writes}
-use Rattle.ps_commands.specs.RulesFaults.{rules_of_file, ReadsRules}
-use Rattle.ps_commands.proofs.Reaching.{last_more}
+use Rattle.ps_files.specs.ChangeFiles.{CanBeFed, admitted}
+use Rattle.ps_commands.specs.Generating.{made_asker, summary_line, summary_by, summary_after, summary_under, summary_of, generated, CountsRows, Summarizes}
+use Rattle.ps_files.specs.ReadingChanges.{AreValid, usual, HasCommitted, TakesLine, Writes}
+use Rattle.ps_files.specs.RulesFaults.{rules_of_file, ReadsRules}
 
 -- ---- made positions
 
@@ -45,68 +45,6 @@ fed_from last at (suc n) past within = (past, omega arith, fed_from at (at + 1) 
 
 pub made_can_be_fed : (n : ℕ) → n ≤ made_limit → CanBeFed 0 (made_input n)
 made_can_be_fed n within = fed_from 0 1 n (omega arith) (omega arith)
-
--- ---- writing
-
-pub record IsWriting (rules : RuleSet) (made left : List Transaction) (store : Store) : Type 0 where
-  pub done : List Transaction
-  pub committed : HasCommitted rules done store
-  pub meaning : admitted rules.definitions [] made ≡ admitted rules.definitions done left
-  pub can_be_fed : CanBeFed (last_position 0 done) left
-
-pub writing_starts : (rules : RuleSet) (made left : List Transaction) (store : Store) → AreValid rules → left ≡ made → CanBeFed 0 made → StoreStandsFor (usual rules) store [] → IsWriting rules made left store
-writing_starts rules made left store valid is can stands = record {
-  done = [];
-  committed = record { valid = valid; history = []; stands = stands; fed = refl; feed_open = refl; plain = λ bucket. refl; written = refl; position = refl; events = refl };
-  meaning = ap (admitted rules.definitions []) (sym is);
-  can_be_fed = subst (CanBeFed 0) (sym is) can;
-}
-
-pub writing_ends : (rules : RuleSet) (made : List Transaction) (store : Store) → IsWriting rules made [] store → Writes rules (admitted rules.definitions [] made) (Ok store)
-writing_ends rules made store w = (w.done, w.meaning, w.committed)
-
-same_taken : (t u : Transaction) (passed : Option Limit) → unless_passed t passed ≡ Ok u → t ≡ u
-same_taken t u None h = cc
-same_taken t u (Some limit) h = absurd (cc)
-
-module _ (rules : RuleSet) (made left : List Transaction) (t : Transaction) (rest : List Transaction) (old : Store) (w : IsWriting rules made left old) (next : left ≡ t ∷ rest) where
-  can : CanBeFed (last_position 0 w.done) (t ∷ rest)
-  can = subst (CanBeFed (last_position 0 w.done)) next w.can_be_fed
-
-  pub next_past : last_position 0 w.done < t.position.0
-  next_past = can.0
-
-  pub next_low : t.position.0 ≤ greatest
-  next_low = can.1
-
-  left_by : (r : Result Transaction Fault) → within_limits rules.definitions w.done t ≡ r
-      → admitted rules.definitions [] made ≡ (r >>= λ taken. admitted rules.definitions (w.done ++ taken ∷ []) rest)
-  left_by r is = w.meaning ∙ ap (admitted rules.definitions w.done) next ∙ ap (λ x. x >>= λ taken. admitted rules.definitions (w.done ++ taken ∷ []) rest) is
-
-  pub writing_more : (new : Store) → TakesLine rules w.done (within_limits rules.definitions w.done t) new (Ok tt) → IsWriting rules made rest new
-  writing_more new takes =
-      let same : t ≡ takes.0 = same_taken t takes.0 _ takes.1 in
-      let at : t.position.0 ≡ last_position 0 (w.done ++ takes.0 ∷ []) = ap (λ (x : Transaction). x.position.0) same ∙ sym (last_more 0 w.done takes.0) in
-      record {
-        done = w.done ++ takes.0 ∷ [];
-        committed = takes.2;
-        meaning = left_by (Ok takes.0) takes.1;
-        can_be_fed = subst (λ p. CanBeFed p rest) at can.2;
-      }
-
-  pub writing_stops : (new : Store) (fault : Fault) → TakesLine rules w.done (within_limits rules.definitions w.done t) new (Err fault) → Writes rules (admitted rules.definitions [] made) (Err fault)
-  writing_stops new Usage h = h
-  writing_stops new (Rules line column why) h = h
-  writing_stops new (Change line why) h = left_by (Err (Change line why)) h
-  writing_stops new (PastLimit limit) h = left_by (Err (PastLimit limit)) h
-  writing_stops new (TooManyBuckets count) h = h
-  writing_stops new Claims h = h
-  writing_stops new Keys h = h
-  writing_stops new (TooLong seen) h = h
-  writing_stops new (CannotRead name) h = h
-  writing_stops new CannotWrite h = h
-  writing_stops new (Script place cause) h = h
-  writing_stops new Memory h = tt
 
 -- ---- rows
 

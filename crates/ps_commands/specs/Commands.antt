@@ -2,36 +2,31 @@
 use Rattle.std.specs.Prelude.{◌≡◌, ◌⊎◌, ℕ, ◌<◌, ◌≤◌, nat_le, ◌&&◌, List, [], ◌∷◌, ◌++◌, length, codes, bytes_eq, decimal, Option, Some, None, option_map, option_and_then, Result, Ok, Err, if◌then◌else◌}
 use Rattle.ps_io.specs.Contents.{Contents, Holds, HasLength, Gains, GainsFront}
 use Rattle.ps_io.specs.Counts.{Rose}
-use Rattle.ps_changes.specs.declared.changes.Transaction.{Transaction}
-use Rattle.ps_changes.specs.declared.shown.Shown.{Shown}
+use Rattle.ps_rows.specs.declared.changes.Transaction.{Transaction}
+use Rattle.ps_rows.specs.declared.shown.Shown.{Shown}
 use Rattle.ps_gen.specs.Made.{made_input}
-use Rattle.ps_rules.specs.RuleSets.{RuleSet}
-use Rattle.ps_sql.specs.Meaning.{Asker}
-use Rattle.ps_token.specs.KeyFiles.{keys_of_file}
-use Rattle.ps_token.specs.KeyLists.{key_of}
+use Rattle.ps_definitions.specs.RuleSets.{RuleSet}
+use Rattle.ps_queries.specs.Meaning.{Asker}
 use Rattle.ps_token.specs.Tokens.{signed_token}
 use Rattle.ps_token.specs.declared.key_lists.Key.{Key}
-use Rattle.ps_token.specs.declared.faults.KeysFault.{KeysFault}
-use Rattle.ps_values.specs.Numbers.{decimal_of}
-use Rattle.ps_commands.specs.declared.faults.Fault.{Fault}
-use Rattle.ps_commands.specs.declared.faults.Fault.TheVariants.{Usage, Rules, Change, PastLimit, TooManyBuckets, Claims, Keys, TooLong, CannotRead, CannotWrite, Script, Memory}
-use Rattle.ps_commands.specs.declared.faults.Limit.{Limit}
-use Rattle.ps_commands.specs.declared.faults.Limit.TheVariants.{LineBytes, Entries, Operations}
-use Rattle.ps_commands.specs.declared.faults.LineFault.{LineFault}
-use Rattle.ps_commands.specs.declared.faults.LineFault.TheVariants.{BadJson, BadShape, BadPosition, BadValue, NotRising}
-use Rattle.ps_commands.specs.declared.faults.ScriptCause.{ScriptCause}
-use Rattle.ps_commands.specs.declared.faults.ScriptCause.TheVariants.{BadEvent, UnknownClient, WrongPhase}
-use Rattle.ps_commands.specs.ChangeFiles.{transactions_of, all_transactions_of}
+use Rattle.ps_files.specs.declared.faults.Fault.{Fault}
+use Rattle.ps_files.specs.declared.faults.Fault.TheVariants.{Usage, Rules, Change, PastLimit, TooManyBuckets, Claims, Keys, TooLong, CannotRead, CannotWrite, Script, Memory}
+use Rattle.ps_files.specs.declared.faults.Limit.{Limit}
+use Rattle.ps_files.specs.declared.faults.ScriptCause.{ScriptCause}
+use Rattle.ps_files.specs.ChangeFiles.{transactions_of, all_transactions_of}
+use Rattle.ps_files.specs.FaultTexts.{status_of}
+use Rattle.ps_files.specs.HeldFiles.{rules_limit, file_limit, HoldsWithin, key_of_file}
+use Rattle.ps_files.specs.Making.{count_of}
 use Rattle.ps_store.specs.Laws.{last_position}
 use Rattle.ps_store.specs.Limits.{usual_limits}
-use Rattle.ps_commands.specs.Checking.{check_text}
+use Rattle.ps_files.specs.Checking.{check_text}
 use Rattle.ps_claims.specs.Claims.{asker_of_claims}
-use Rattle.ps_commands.specs.Compacting.{compact_text}
+use Rattle.ps_files.specs.Compacting.{compact_text}
 use Rattle.ps_commands.specs.Dues.{due, own_buckets, rows_after}
 use Rattle.ps_commands.specs.Generating.{generated}
 use Rattle.ps_commands.specs.Replaying.{Game, GivesAll, GivesSome, GivesUntil}
-use Rattle.ps_commands.specs.RulesFaults.{rules_of_file, cause_text}
-use Rattle.ps_commands.specs.Texts.{lines_text}
+use Rattle.ps_files.specs.RulesFaults.{rules_of_file}
+use Rattle.ps_files.specs.Making.{lines_text}
 use Rattle.ps_core.specs.Texts.{rows_text}
 
 -- ---- words
@@ -69,16 +64,6 @@ pub data Command : Type 0 where
   generate : ℕ → Command
   generate_lines : ℕ → Command
 
--- how many transactions are to be made: a number from 1 to 100,000
-abbrev pub made_limit : ℕ
-made_limit = 100000
-
-abbrev pub may_make : ℕ → Option ℕ
-may_make n = if nat_le 1 n && nat_le n made_limit then Some n else None
-
-abbrev pub count_of : List ℕ → Option ℕ
-count_of word = option_and_then may_make (decimal_of word)
-
 -- the words `check RULES`, `rows RULES CHANGES CLAIMS`, `replay RULES CHANGES SCRIPT`, `compact RULES CHANGES`, `token KEYS KID CLAIMS`,
 -- `generate N` or `generate N lines`, and no others
 abbrev pub command_of : List (List ℕ) → Option Command
@@ -101,18 +86,6 @@ abbrev pub IsCommand : List (List ℕ) → Type 0
 IsCommand words = (command : Command) × (command_of words ≡ Some command)
 
 -- ---- files
-
--- the greatest number of bytes of a rules file, and of any other file
-abbrev pub rules_limit : ℕ
-rules_limit = 1048576
-
-abbrev pub file_limit : ℕ
-file_limit = 268435456
-
--- a file of that name has these bytes, where files tell what they hold, and no more of them than the limit
-pub record HoldsWithin (held : Option Contents) (name : List ℕ) (limit : ℕ) (bytes : List ℕ) : Type 0 where
-  pub holds : Holds held name bytes
-  pub within : length bytes ≤ limit
 
 -- a rules file is read as those rules
 pub record ReadsRules (held : Option Contents) (name : List ℕ) (rules : RuleSet) : Type 0 where
@@ -143,14 +116,6 @@ pub record ReadsGame (held : Option Contents) (names : Scripting) (game : Game) 
   pub rules_read : ReadsRules held names.rules game.rules
   pub changes_read : ReadsTransactions held names.changes game.transactions
   pub script_read : HoldsWithin held names.script file_limit game.script
-
--- the key of a kid in a key file: none where the file is not of its form, or where no key has that kid
-abbrev pub key_among : List ℕ → Result (List Key) KeysFault → Option Key
-key_among kid (Ok keys) = key_of kid keys
-key_among kid (Err fault) = None
-
-abbrev pub key_of_file : List ℕ → List ℕ → Option Key
-key_of_file kid bytes = key_among kid (keys_of_file bytes)
 
 -- a key file is read, and that is its key of that kid
 pub record ReadsKey (held : Option Contents) (name kid : List ℕ) (key : Key) : Type 0 where
@@ -465,61 +430,6 @@ Caused o words Memory = (Kept o × IsCommand words) ⊎ PrintsSome o.held words 
 abbrev pub Outcome : Outside → List (List ℕ) → Result (Unit {0}) Fault → Type 0
 Outcome o words (Ok _) = Prints o.held words o.taken_before o.taken_now
 Outcome o words (Err fault) = Caused o words fault
-
--- ---- statuses and texts
-
-abbrev pub status_of : Fault → ℕ
-status_of Usage = 1
-status_of (Rules line column why) = 2
-status_of (Change line why) = 3
-status_of (PastLimit limit) = 5
-status_of (TooManyBuckets count) = 5
-status_of Claims = 4
-status_of Keys = 4
-status_of (TooLong seen) = 5
-status_of (CannotRead name) = 6
-status_of CannotWrite = 7
-status_of (Script line why) = 9
-status_of Memory = 8
-
-abbrev pub line_fault_text : LineFault → List ℕ
-line_fault_text BadJson = codes "bad-json"
-line_fault_text BadShape = codes "bad-shape"
-line_fault_text BadPosition = codes "bad-position"
-line_fault_text BadValue = codes "bad-value"
-line_fault_text (NotRising last given) = codes "not-rising " ++ decimal last ++ codes " " ++ decimal given
-
-abbrev pub limit_text : Limit → List ℕ
-limit_text (LineBytes length) = codes "line-bytes " ++ decimal length
-limit_text (Entries count) = codes "entries " ++ decimal count
-limit_text (Operations last) = codes "operations " ++ decimal last
-
-abbrev pub script_cause_text : ScriptCause → List ℕ
-script_cause_text BadEvent = codes "bad-event"
-script_cause_text UnknownClient = codes "unknown-client"
-script_cause_text WrongPhase = codes "wrong-phase"
-
-abbrev pub fault_text : Fault → List ℕ
-fault_text Usage = codes "usage"
-fault_text (Rules line column why) = codes "rules " ++ decimal line ++ codes ":" ++ decimal column ++ codes " " ++ cause_text why
-fault_text (Change line why) = codes "change " ++ decimal line ++ codes " " ++ line_fault_text why
-fault_text (PastLimit limit) = codes "limit " ++ limit_text limit
-fault_text (TooManyBuckets count) = codes "limit buckets " ++ decimal count
-fault_text Claims = codes "claims"
-fault_text Keys = codes "keys"
-fault_text (TooLong seen) = codes "limit file-bytes " ++ decimal seen
-fault_text (CannotRead name) = codes "cannot read " ++ name.now
-fault_text CannotWrite = codes "cannot write"
-fault_text (Script line why) = codes "script " ++ decimal line ++ codes " " ++ script_cause_text why
-fault_text Memory = codes "out of memory"
-
--- what standard error gets of a fault
-abbrev pub fault_line : Fault → List ℕ
-fault_line fault = codes "powersync: " ++ fault_text fault ++ codes "\n"
-
--- a sink took a text, or its count of faults rose and it took a front of it
-abbrev pub Tells : Option (List ℕ) → Option (List ℕ) → ℕ → ℕ → List ℕ → Type 0
-Tells old new before now text = Gains old new text ⊎ (GainsFront old new text × Rose before now)
 
 -- ---- what the files mean
 

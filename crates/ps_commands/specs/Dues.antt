@@ -1,17 +1,17 @@
 -- The rows that are due to an asker.
 use Rattle.std.specs.Prelude.{◌≡◌, ℕ, ◌<◌, ◌≤◌, nat_lt, if◌then◌else◌, List, length, Result, Ok, Err}
-use Rattle.ps_changes.specs.declared.changes.Transaction.{Transaction}
-use Rattle.ps_changes.specs.declared.shown.Shown.{Shown}
-use Rattle.ps_changes.specs.Source.{source_at}
+use Rattle.ps_rows.specs.declared.changes.Transaction.{Transaction}
+use Rattle.ps_rows.specs.declared.shown.Shown.{Shown}
+use Rattle.ps_rows.specs.Source.{source_at}
 use Rattle.ps_grant.specs.Latest.{due as due_by}
 use Rattle.ps_grant.specs.Sources.{rows_in}
 use Rattle.ps_params.specs.Names.{bucket_names}
-use Rattle.ps_rules.specs.RuleSets.{RuleSet}
-use Rattle.ps_sql.specs.Meaning.{Asker}
+use Rattle.ps_definitions.specs.RuleSets.{RuleSet}
+use Rattle.ps_queries.specs.Meaning.{Asker}
 use Rattle.ps_store.specs.Laws.{last_position}
 use Rattle.ps_store.specs.Limits.{usual_limits}
-use Rattle.ps_commands.specs.declared.faults.Fault.{Fault}
-use Rattle.ps_commands.specs.declared.faults.Fault.TheVariants.{Usage, Rules, Change, PastLimit, TooManyBuckets, Claims, Keys, TooLong, CannotRead, CannotWrite, Script, Memory}
+use Rattle.ps_files.specs.declared.faults.Fault.{Fault}
+use Rattle.ps_files.specs.declared.faults.Fault.TheVariants.{Usage, Rules, Change, PastLimit, TooManyBuckets, Claims, Keys, TooLong, CannotRead, CannotWrite, Script, Memory}
 
 -- of each object that the rules grant the asker over the source at a position, the data of its latest copy, in the order of type and id
 abbrev pub due : RuleSet → Asker → List Transaction → ℕ → List Shown

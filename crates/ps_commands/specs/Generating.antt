@@ -2,37 +2,27 @@
 use Rattle.std.specs.Prelude.{◌≡◌, ℕ, ◌<◌, ◌≤◌, List, [], ◌∷◌, ◌++◌, length, codes, decimal, None, Result, Ok, Err, Vec}
 use Rattle.std.specs.declared.alloc.Global.{Global}
 use Rattle.std.specs.List.{sum_by}
-use Rattle.ps_changes.specs.declared.changes.Transaction.{Transaction}
-use Rattle.ps_changes.specs.declared.shown.Shown.{Shown}
+use Rattle.ps_rows.specs.declared.changes.Transaction.{Transaction}
+use Rattle.ps_rows.specs.declared.shown.Shown.{Shown}
 use Rattle.ps_gen.specs.Made.{made_rules, made_input}
-use Rattle.ps_rules.specs.declared.definitions.Definition.{Definition}
-use Rattle.ps_rules.specs.RuleSets.{RuleSet}
-use Rattle.ps_sql.specs.Meaning.{Asker}
+use Rattle.ps_definitions.specs.declared.definitions.Definition.{Definition}
+use Rattle.ps_definitions.specs.RuleSets.{RuleSet}
+use Rattle.ps_queries.specs.Meaning.{Asker}
 use Rattle.ps_store.specs.declared.totals.Totals.{Totals}
 use Rattle.ps_store.specs.Limits.{greatest}
 use Rattle.ps_store.specs.Totals.{totals_of}
-use Rattle.ps_commands.specs.declared.compacting.Compacted.{Compacted}
-use Rattle.ps_commands.specs.declared.faults.Fault.{Fault}
-use Rattle.ps_commands.specs.declared.faults.Fault.TheVariants.{Usage, Rules, Change, PastLimit, TooManyBuckets, Claims, Keys, TooLong, CannotRead, CannotWrite, Script, Memory}
-use Rattle.ps_commands.specs.ChangeFiles.{within_limits, ◌>>=◌}
-use Rattle.ps_commands.specs.Committing.{committed_ledger}
-use Rattle.ps_commands.specs.Compacting.{reports_of}
+use Rattle.ps_files.specs.declared.compacting.Compacted.{Compacted}
+use Rattle.ps_files.specs.declared.faults.Fault.{Fault}
+use Rattle.ps_files.specs.declared.faults.Fault.TheVariants.{Usage, Rules, Change, PastLimit, TooManyBuckets, Claims, Keys, TooLong, CannotRead, CannotWrite, Script, Memory}
+use Rattle.ps_files.specs.ChangeFiles.{within_limits, ◌>>=◌}
+use Rattle.ps_files.specs.Committing.{committed_ledger}
+use Rattle.ps_files.specs.Compacting.{reports_of}
 use Rattle.ps_commands.specs.Dues.{rows_after}
-use Rattle.ps_commands.specs.RulesFaults.{rules_of_file}
+use Rattle.ps_files.specs.RulesFaults.{rules_of_file}
 
 -- the asker of the one stream
 abbrev pub made_asker : Asker
 made_asker = record { user = codes "u1"; payload = codes "{\"sub\":\"u1\"}"; parameters = codes "{}"; client = None }
-
--- positions rise from past a last one, up to the greatest
-abbrev pub CanBeFed : ℕ → List Transaction → Type 0
-CanBeFed last [] = Unit {0}
-CanBeFed last (t ∷ ts) = (last < t.position.0) × (t.position.0 ≤ greatest) × CanBeFed t.position.0 ts
-
--- transactions behind others, none of whose changes passes a limit; or the first limit that is passed
-abbrev pub admitted : List Definition → List Transaction → List Transaction → Result (List Transaction) Fault
-admitted definitions done [] = Ok done
-admitted definitions done (t ∷ ts) = within_limits definitions done t >>= λ taken. admitted definitions (done ++ taken ∷ []) ts
 
 abbrev pub all_before : List Compacted → ℕ
 all_before reports = sum_by (λ (c : Compacted). c.report.before) reports

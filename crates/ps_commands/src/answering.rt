@@ -1,13 +1,13 @@
 ghost use Rattle.std.specs.Prelude.{List};
-ghost use Rattle.ps_changes.specs.declared.changes.Transaction.{Transaction};
-ghost use Rattle.ps_rules.specs.RuleSets.{RuleSet};
+ghost use Rattle.ps_rows.specs.declared.changes.Transaction.{Transaction};
+ghost use Rattle.ps_definitions.specs.RuleSets.{RuleSet};
 ghost use Rattle.ps_sql_eval.specs.Evaluated.{asker_of};
 ghost use Rattle.ps_commands.specs.Dues.{Answers};
-ghost use Rattle.ps_commands.specs.ReadingChanges.{HasCommitted};
+ghost use Rattle.ps_files.specs.ReadingChanges.{HasCommitted};
 
-use crate::faults::Fault;
 use crate::syncing::synced_rows;
-use ps_changes::Shown;
+use ps_files::Fault;
+use ps_rows::Shown;
 use ps_sql_eval::Asker;
 use ps_store::{Store, TakeFault, ledgers_tell_histories};
 use ps_values::Items;

@@ -1,25 +1,22 @@
 //! Made rules and transactions, written into a store, read by one stream and compacted.
 
 ghost use Rattle.std.specs.Prelude.{◌≡◌, ◌+◌, ◌^◌, ◌<◌, ◌≤◌, ◌++◌, List, [], IfOk, OnOk, decimal};
-ghost use Rattle.ps_changes.specs.declared.changes.Transaction.{Transaction as TransactionData};
-ghost use Rattle.ps_rules.specs.RuleSets.{RuleSet, AreRules};
+ghost use Rattle.ps_rows.specs.declared.changes.Transaction.{Transaction as TransactionData};
+ghost use Rattle.ps_definitions.specs.RuleSets.{RuleSet, AreRules};
 ghost use Rattle.ps_sql_eval.specs.Evaluated.{asker_of};
 ghost use Rattle.ps_store.specs.Laws.{HaveNumbers};
-ghost use Rattle.ps_commands.specs.Commands.{made_limit};
-ghost use Rattle.ps_commands.specs.Generating.{CanBeFed, CountsRows, Summarizes, admitted, all_after, all_before, generated, made_asker as made_asker_of, summary_after, summary_line, summary_under};
-ghost use Rattle.ps_commands.specs.ReadingChanges.{HasCommitted, Writes};
+ghost use Rattle.ps_files.specs.Making.{made_limit};
+ghost use Rattle.ps_commands.specs.Generating.{CountsRows, Summarizes, all_after, all_before, generated, made_asker as made_asker_of, summary_after, summary_line, summary_under};
+ghost use Rattle.ps_files.specs.ChangeFiles.{CanBeFed};
+ghost use Rattle.ps_files.specs.ReadingChanges.{HasCommitted};
 
-use crate::change_files::write_transaction;
-use crate::checking::push_number;
-use crate::compacting::{Compacted, compact_all};
-use crate::faults::Fault;
-use crate::rules_faults::read_rules_file;
 use crate::syncing::synced_rows;
-use ps_changes::Transaction;
+use ps_definitions::Rules;
+use ps_files::{Compacted, Fault, compact_all, push_number, read_rules_file, write_transactions};
 use ps_gen::{make_input, make_rules};
-use ps_rules::Rules;
+use ps_rows::Transaction;
 use ps_sql_eval::Asker;
-use ps_store::{Limits, Store, TakeFault, Totals, have_numbers, ledgers_tell_histories};
+use ps_store::{Store, TakeFault, Totals, have_numbers, ledgers_tell_histories};
 use ps_values::{Items, Memory, Text};
 use std::alloc::Global;
 
@@ -33,23 +30,6 @@ fn made_asker(alloc: Global) -> Result<Asker, Memory>
         parameters: Text::from_str(alloc, "{}")?,
         client: None,
     })
-}
-
-// Writes transactions into a new store of the rules, under the usual limits: each is fed, written in batches and committed before the next.
-// Fails with `PastLimit` by the first that passes a limit.
-fn write_all<'a>(alloc: Global, rules: Rules, made: Items<Transaction>) -> Result<Store, Fault<'a>>
-    requires { CanBeFed 0 made }
-    ensures { Writes rules (admitted rules.definitions [] made) result }
-{
-    have_numbers(&rules);
-    let mut store = Store::new(alloc, rules, Limits::usual())?;
-    'made: for transaction in made.into_vec() {
-        match write_transaction(alloc, &mut store, transaction) {
-            Ok(()) => (),
-            Err(fault) => return Err(fault),
-        }
-    }
-    Ok(store)
 }
 
 // The number of rows that a new client shows after one stream of the asker.
@@ -153,7 +133,7 @@ fn summarize<'a>(
     ensures { Summarizes (summary_under rules made) result }
 {
     have_numbers(&rules);
-    let mut store = match write_all(alloc, rules, made) {
+    let mut store = match write_transactions(alloc, rules, made) {
         Ok(store) => store,
         Err(fault) => return Err(fault),
     };

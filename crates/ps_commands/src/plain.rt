@@ -1,21 +1,20 @@
 ghost use Rattle.std.specs.Prelude.{◌≡◌, ◌≢◌, ◌≤◌, ◌⊎◌, ◌↔◌, ℕ, List, [], ◌∷◌, Option, Some, None, true, false, bytes_eq, codes};
 ghost use Rattle.ps_io.specs.Contents.{Contents};
 ghost use Rattle.ps_io.specs.Counts.{Rose};
-ghost use Rattle.ps_commands.specs.Commands.{command_of, made_limit, generate as generate_command, generate_lines as generate_lines_command, Outcome, Prints, PrintsFront, RefusesRules, RefusesMade, RefusesLines, RefusesKeys, RefusesClaims, RefusesScript, ExceedsLimit, IsNext, PrintsSome, IsExact};
-ghost use Rattle.ps_commands.specs.Saying.{SaysCause};
-ghost use Rattle.ps_commands.specs.declared.faults.LineFault.{LineFault as LineFaultData};
-ghost use Rattle.ps_commands.specs.declared.faults.RulesCause.{RulesCause as RulesCauseData};
-ghost use Rattle.ps_commands.specs.declared.faults.ScriptCause.{ScriptCause as ScriptCauseData};
+ghost use Rattle.ps_files.specs.Making.{made_limit};
+ghost use Rattle.ps_commands.specs.Commands.{command_of, generate as generate_command, generate_lines as generate_lines_command, Outcome, Prints, PrintsFront, RefusesRules, RefusesMade, RefusesLines, RefusesKeys, RefusesClaims, RefusesScript, ExceedsLimit, IsNext, PrintsSome, IsExact};
+ghost use Rattle.ps_commands.specs.Causes.{SaysCause};
+ghost use Rattle.ps_files.specs.declared.faults.LineFault.{LineFault as LineFaultData};
+ghost use Rattle.ps_files.specs.declared.faults.RulesCause.{RulesCause as RulesCauseData};
+ghost use Rattle.ps_files.specs.declared.faults.ScriptCause.{ScriptCause as ScriptCauseData};
 
-use crate::checking::print_check;
-use crate::compacting::load_reports;
-use crate::faults::Fault;
 use crate::generating::print_summary;
-use crate::loading::{load_asker, load_keys, load_rows, load_rules};
-use crate::making::{made_count, print_made};
+use crate::loading::load_rows;
 use crate::replaying::replay_files;
-use crate::saying::say;
-use crate::signing::sign_line;
+use ps_files::{
+    Fault, load_asker, load_keys, load_reports, load_rules, made_count, print_check, print_made,
+    say, sign_line,
+};
 use ps_io::{Files, Sink};
 use ps_token::SignFault;
 use ps_values::{Memory, Text};

@@ -11,10 +11,10 @@ ghost use Rattle.ps_core.specs.Worlds.{WorldStandsFor};
 ghost use Rattle.ps_commands.specs.Replays.{Replays, StepsLine, SpellsLine, PrintsLine, items_of, refused_at};
 
 use crate::replay_faults::ReplayFault;
-use ps_changes::Transaction;
 use ps_core::{Effect, World, effect_text, plays_begin_led};
+use ps_definitions::Rules;
 use ps_io::Sink;
-use ps_rules::Rules;
+use ps_rows::Transaction;
 use ps_script::{ScriptFault, is_skipped, read_event, split_line};
 use ps_values::Memory;
 use std::alloc::Global;

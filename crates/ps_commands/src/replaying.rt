@@ -5,14 +5,12 @@ ghost use Rattle.ps_core.specs.Scripts.{AreLow};
 ghost use Rattle.ps_commands.specs.Commands.{Outcome};
 ghost use Rattle.ps_commands.specs.Replaying.{PlaysOut, stopped_by};
 
-use crate::faults::{Fault, ScriptCause};
-use crate::loading::{FILE_LIMIT, load, load_rules};
 use crate::playing::replay;
-use crate::reading_all::load_transactions;
 use crate::replay_faults::ReplayFault;
-use ps_changes::Transaction;
+use ps_definitions::Rules;
+use ps_files::{FILE_LIMIT, Fault, ScriptCause, load, load_rules, load_transactions};
 use ps_io::{Files, Sink};
-use ps_rules::Rules;
+use ps_rows::Transaction;
 use ps_script::ScriptFault;
 use ps_values::Text;
 use std::alloc::Global;

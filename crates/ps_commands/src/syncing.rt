@@ -1,13 +1,13 @@
 //! A whole checkpoint into a client.
 
 ghost use Rattle.std.specs.Prelude.{◌≡◌, List, length, IfOk};
-ghost use Rattle.ps_rules.specs.RuleSets.{AreRules};
+ghost use Rattle.ps_definitions.specs.RuleSets.{AreRules};
 ghost use Rattle.ps_sql_eval.specs.Evaluated.{asker_of};
 ghost use Rattle.ps_store.specs.declared.events.Event.{Event as EventSeen};
 ghost use Rattle.ps_store.specs.declared.fixed.Fixed.{Fixed as FixedSeen};
 ghost use Rattle.ps_store.specs.Laws.{HaveNumbers};
 ghost use Rattle.ps_store.specs.Stores.{StoreStandsFor};
-ghost use Rattle.ps_sql.specs.Meaning.{Asker as AskerSeen};
+ghost use Rattle.ps_queries.specs.Meaning.{Asker as AskerSeen};
 ghost use Rattle.ps_client.specs.States.{state};
 ghost use Rattle.ps_store.specs.Courses.{course_of};
 ghost use Rattle.ps_session.specs.Kept.{state_of};
@@ -17,9 +17,9 @@ ghost use Rattle.ps_commands.specs.Turning.{Serves, IsLedIn, IsIdle};
 
 use crate::starting::{begin_client, open_session};
 use crate::turning::{complete, download, take};
-use ps_changes::Shown;
 use ps_client::Client;
 use ps_client_log::VolatileKeeper;
+use ps_rows::Shown;
 use ps_session::Session;
 use ps_sql_eval::Asker;
 use ps_store::{Store, TakeFault, courses_are_lawful, places_are_fronts};

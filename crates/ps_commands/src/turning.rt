@@ -1,8 +1,8 @@
 //! The turns of a session, whose lines go to its client.
 
 ghost use Rattle.std.specs.Prelude.{◌≡◌, ℕ, ◌<◌, List, OnOk};
-ghost use Rattle.ps_changes.specs.declared.shown.Shown.{Shown as ShownSeen};
-ghost use Rattle.ps_sql.specs.Meaning.{Asker as AskerSeen};
+ghost use Rattle.ps_rows.specs.declared.shown.Shown.{Shown as ShownSeen};
+ghost use Rattle.ps_queries.specs.Meaning.{Asker as AskerSeen};
 ghost use Rattle.ps_sql_eval.specs.Evaluated.{asker_of};
 ghost use Rattle.ps_client.specs.States.{state};
 ghost use Rattle.ps_store.specs.declared.events.Event.{Event as EventSeen};

@@ -1,7 +1,7 @@
 -- The laws of the crates below, over one rule set.
 use Rattle.ps_sql_eval.specs.declared.askers.Asker.{Asker}
 use Rattle.ps_sql_eval.specs.Evaluated.{asker_of}
-use Rattle.ps_rules.specs.RuleSets.{AreRules}
+use Rattle.ps_definitions.specs.RuleSets.{AreRules}
 use Rattle.std.proofs.Common.{List}
 use Rattle.ps_store.specs.declared.events.Event.{Event}
 use Rattle.ps_store.specs.declared.fixed.Fixed.{Fixed}

@@ -3,8 +3,8 @@ use Rattle.std.proofs.Common.{◌≡◌, ℕ, ◌+◌, List, [], ◌∷◌, ◌+
 use Rattle.std.specs.Prelude.{nat_le, nat_lt, length, take, drop}
 use Rattle.std.proofs.lemmas.Bool.{cases_Bool}
 use Rattle.ps_bucket_log.specs.declared.ops.Op.{Op}
-use Rattle.ps_changes.specs.declared.changes.Transaction.{Transaction}
-use Rattle.ps_rules.specs.RuleSets.{RuleSet}
+use Rattle.ps_rows.specs.declared.changes.Transaction.{Transaction}
+use Rattle.ps_definitions.specs.RuleSets.{RuleSet}
 use Rattle.ps_store.specs.declared.events.Event.{Event}
 use Rattle.ps_store.specs.declared.events.Event.TheVariants as events
 use Rattle.ps_store.specs.declared.fixed.Fixed.{Fixed}

@@ -1,7 +1,7 @@
 -- What the growing of a history tells, and what it leaves as it is.
 use Rattle.std.proofs.Common.{ℕ, ◌≤◌, List, [], ◌∷◌, ◌++◌, Option, Some, None, sym, ap, ◌∙◌, arith, length, length-append}
 use Rattle.std.specs.Prelude.{fold}
-use Rattle.ps_rules.specs.RuleSets.{RuleSet}
+use Rattle.ps_definitions.specs.RuleSets.{RuleSet}
 use Rattle.ps_sql_eval.specs.declared.askers.Asker.{Asker}
 use Rattle.ps_sql_eval.specs.Evaluated.{asker_of}
 use Rattle.ps_store.specs.declared.events.Event.{Event}

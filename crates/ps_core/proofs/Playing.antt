@@ -7,7 +7,7 @@ use Rattle.ps_core.specs.Plays.{Play, Outcome, first_play}
 use Rattle.ps_core.specs.PlayHeadline.{AreLed, PlaysBeginLed, PlaysStayLed}
 use Rattle.ps_core.specs.Scripts.{AreRight, ArePlayed, ScriptsAreRight}
 use Rattle.ps_core.proofs.Legal.{IsSound, event_sound}
-use Rattle.ps_rules.specs.RuleSets.{AreRules}
+use Rattle.ps_definitions.specs.RuleSets.{AreRules}
 use Rattle.ps_store.specs.Laws.{HaveNumbers}
 
 all_right : (events : List ScriptEvent) (outcomes : List Outcome) → PlaysStayLed → (fixed : Fixed) → AreRules fixed.rules → HaveNumbers fixed.rules.definitions → AreWithin fixed.limits

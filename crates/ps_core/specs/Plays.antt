@@ -1,6 +1,6 @@
 -- The play of a script: one history of a store, and the clients of the script, each with its stream.
 use Rattle.std.specs.Prelude.{ℕ, if◌then◌else◌, List, [], ◌∷◌, ◌++◌, length, Option, Some, None, bytes_eq}
-use Rattle.ps_changes.specs.declared.changes.Transaction.{Transaction}
+use Rattle.ps_rows.specs.declared.changes.Transaction.{Transaction}
 use Rattle.ps_client.specs.declared.streams.Stream.TheVariants.{Over}
 use Rattle.ps_client.specs.Clients.{PlainClient}
 use Rattle.ps_client_log.specs.Kept.{nothing_kept}

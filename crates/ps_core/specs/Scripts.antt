@@ -1,7 +1,7 @@
 -- Whole scripts: event after event, from the first on.
 use Rattle.std.specs.Prelude.{◌≤◌, All, List, [], ◌∷◌}
-use Rattle.ps_rules.specs.RuleSets.{AreRules}
-use Rattle.ps_changes.specs.declared.changes.Transaction.{Transaction}
+use Rattle.ps_definitions.specs.RuleSets.{AreRules}
+use Rattle.ps_rows.specs.declared.changes.Transaction.{Transaction}
 use Rattle.ps_store.specs.declared.fixed.Fixed.{Fixed}
 use Rattle.ps_store.specs.Laws.{HaveNumbers}
 use Rattle.ps_store.specs.Ledgers.{IsLegal}

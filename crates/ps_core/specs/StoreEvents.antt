@@ -1,9 +1,9 @@
 -- What the events of a script that are the store's do.
 use Rattle.std.specs.Prelude.{ℕ, ◌+◌, if◌then◌else◌, List, [], ◌∷◌, ◌++◌, length, take, drop, Option, Some, None, nat_le, nat_lt}
 use Rattle.ps_bucket_log.specs.declared.ops.Op.{Op}
-use Rattle.ps_changes.specs.declared.changes.Transaction.{Transaction}
+use Rattle.ps_rows.specs.declared.changes.Transaction.{Transaction}
 use Rattle.ps_compact.specs.Compaction.{report_of}
-use Rattle.ps_rules.specs.RuleSets.{RuleSet}
+use Rattle.ps_definitions.specs.RuleSets.{RuleSet}
 use Rattle.ps_store.specs.declared.events.Event.{Event}
 use Rattle.ps_store.specs.declared.events.Event.TheVariants as events
 use Rattle.ps_store.specs.declared.fixed.Fixed.{Fixed}

@@ -1,6 +1,6 @@
 -- Printed rows, and the texts of effects: docs/FORMATS.md, "Printed rows" and "Effects of scripts".
 use Rattle.std.specs.Prelude.{ℕ, List, [], ◌∷◌, ◌++◌, flat_map, length, codes, decimal}
-use Rattle.ps_changes.specs.declared.shown.Shown.{Shown}
+use Rattle.ps_rows.specs.declared.shown.Shown.{Shown}
 use Rattle.ps_client.specs.declared.events.Differing.{Differing}
 use Rattle.ps_client.specs.declared.events.Why.{Why}
 use Rattle.ps_client.specs.declared.events.Why.TheVariants.{Queue, Pending, Target}

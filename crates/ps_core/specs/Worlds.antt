@@ -5,7 +5,7 @@ use Rattle.std.specs.Prelude.{◌≡◌, ℕ, ◌≤◌, ◌⊎◌, true, false,
 use Rattle.std.specs.BTreeMap.{get}
 use Rattle.std.specs.Cmp.Lexicographic.{slice_cmp}
 use Rattle.std.specs.Ordering.{nat_cmp}
-use Rattle.ps_rules.specs.RuleSets.{AreRules}
+use Rattle.ps_definitions.specs.RuleSets.{AreRules}
 use Rattle.ps_lines.specs.Reading.{line_of}
 use Rattle.ps_lines.specs.Writing.{without_targets}
 use Rattle.ps_client.specs.States.{state}

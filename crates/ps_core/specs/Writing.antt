@@ -1,6 +1,6 @@
 -- The change that is uploaded next.
 use Rattle.std.specs.Prelude.{◌≡◌, ◌<◌, List, [], ◌∷◌, length, Option, Some, None}
-use Rattle.ps_changes.specs.declared.changes.Change.{Change}
+use Rattle.ps_rows.specs.declared.changes.Change.{Change}
 
 -- the oldest of a queue, by itself
 abbrev pub NextIs : List Change → Option (List Change) → Type 0

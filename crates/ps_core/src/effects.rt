@@ -1,7 +1,7 @@
-use ps_changes::Shown;
 use ps_client::{Differing, Why};
 use ps_compact::Report;
 use ps_lines::Line;
+use ps_rows::Shown;
 use ps_store::{Checkpoint, Totals};
 use ps_values::{Items, OpId, Position, Text};
 

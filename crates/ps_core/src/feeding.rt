@@ -12,7 +12,7 @@ ghost use Rattle.ps_core.specs.Feeding.{Goes, IsLeft, FeedsAll};
 ghost use Rattle.ps_core.specs.Scripts.{AreLow};
 
 use crate::effects::Effect;
-use ps_changes::Transaction;
+use ps_rows::Transaction;
 use ps_store::{FeedFault, Store};
 use ps_values::Memory;
 use std::collections::VecDeque;

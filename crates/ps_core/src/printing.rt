@@ -1,7 +1,7 @@
 ghost use Rattle.std.specs.Prelude.{◌≡◌, ◌++◌, ◌∷◌, [], IfOk, OnOk};
 ghost use Rattle.ps_core.specs.Texts.{row_text, rows_text};
 
-use ps_changes::Shown;
+use ps_rows::Shown;
 use ps_values::{Memory, quoted};
 use std::alloc::Global;
 

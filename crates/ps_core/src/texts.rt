@@ -3,10 +3,10 @@ ghost use Rattle.ps_core.specs.Texts.{IsPrintable, after_words, differing_words,
 
 use crate::Effect;
 use crate::printing::push_rows;
-use ps_changes::Shown;
 use ps_client::{Differing, Why};
 use ps_compact::Report;
 use ps_lines::write_line;
+use ps_rows::Shown;
 use ps_store::{Checkpoint, Totals};
 use ps_values::{Memory, Position, Text};
 use std::alloc::Global;

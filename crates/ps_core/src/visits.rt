@@ -10,7 +10,7 @@ use crate::readers::Reader;
 use crate::streaming::{cut, open, turn};
 use crate::taking::{rows, take};
 use crate::writing::{number, upload, write_locally};
-use ps_changes::Change;
+use ps_rows::Change;
 use ps_script::ScriptFault;
 use ps_store::Store;
 use ps_values::{Memory, Text};

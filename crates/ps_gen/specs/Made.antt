@@ -2,8 +2,8 @@
 use Rattle.std.specs.Prelude.{ℕ, suc, zero, ◌+◌, ◌*◌, ◌%◌, ◌==◌, pos, if◌then◌else◌, List, [], ◌∷◌, ◌++◌, Some, None, codes, decimal}
 use Rattle.ps_values.specs.declared.columns.Column.{Column}
 use Rattle.ps_values.specs.declared.values.Value.TheVariants as values
-use Rattle.ps_changes.specs.declared.changes.Change.{Change}
-use Rattle.ps_changes.specs.declared.changes.Transaction.{Transaction}
+use Rattle.ps_rows.specs.declared.changes.Change.{Change}
+use Rattle.ps_rows.specs.declared.changes.Transaction.{Transaction}
 
 -- each item lies in the bucket of its owner
 abbrev pub made_rules : List ℕ

@@ -4,7 +4,7 @@ ghost use Rattle.std.specs.Prelude.{◌≡◌, ℕ, ◌≤◌, List, ◌++◌, I
 ghost use Rattle.ps_values.specs.declared.columns.Column.{Column as ColumnData};
 ghost use Rattle.ps_gen.specs.Made.{made_change, made_columns, made_input, made_rules, made_transaction};
 
-use ps_changes::{Change, Row, Transaction};
+use ps_rows::{Change, Row, Transaction};
 use ps_values::{Column, Items, Memory, Position, Text, Value};
 use std::alloc::Global;
 

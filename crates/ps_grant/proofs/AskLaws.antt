@@ -4,10 +4,10 @@ use Rattle.std.specs.Prelude.{bytes_eq}
 use Rattle.ps_values.specs.declared.columns.Column.{Column}
 use Rattle.ps_values.specs.declared.values.Value.{Value}
 use Rattle.ps_values.specs.declared.values.Value.TheVariants.{Null}
-use Rattle.ps_sql.specs.declared.queries.ParameterQuery.{ParameterQuery}
-use Rattle.ps_sql.specs.Meaning.{Asker}
-use Rattle.ps_sql.specs.Vectors.{SourceRow, vector_on, at_row}
-use Rattle.ps_rules.specs.Vectors.{rows_read, query_vectors, vector_at}
+use Rattle.ps_queries.specs.declared.queries.ParameterQuery.{ParameterQuery}
+use Rattle.ps_queries.specs.Meaning.{Asker}
+use Rattle.ps_queries.specs.Vectors.{SourceRow, vector_on, at_row}
+use Rattle.ps_definitions.specs.Vectors.{rows_read, query_vectors, vector_at}
 use Rattle.ps_grant.specs.declared.live_rows.LiveRow.{LiveRow}
 use Rattle.ps_grant.specs.Sources.{entry_of, entries_of, row_of, rows_in}
 use Rattle.ps_grant.proofs.StepLaws.{next_is}

@@ -8,24 +8,24 @@ use Rattle.ps_values.specs.declared.values.Value.{Value}
 use Rattle.ps_values.specs.Values.{equal_sql, truth_of}
 use Rattle.ps_values.specs.Conversions.{value_of as json_value}
 use Rattle.ps_values.specs.Laws.{IsEqualWherePresent}
-use Rattle.ps_sql.specs.declared.expressions.Expr.{Expr, Expr-F, map-Expr, out-Expr, roll-Expr, out-roll-Expr, ind-Expr}
-use Rattle.ps_sql.specs.declared.expressions.Expr.TheOpen as layers
-use Rattle.ps_sql.specs.declared.expressions.Expr.TheVariants as exprs
-use Rattle.ps_sql.specs.declared.expressions.Operator.{Operator}
-use Rattle.ps_sql.specs.declared.expressions.Operator.TheVariants as operators
-use Rattle.ps_sql.specs.declared.queries.Output.{Output}
-use Rattle.ps_sql.specs.Meaning.{Given, value_of, is_true, any_equals, array_of, holds}
-use Rattle.ps_sql.specs.Subjects.{IsSameForEveryBucket}
+use Rattle.ps_queries.specs.declared.expressions.Expr.{Expr, Expr-F, map-Expr, out-Expr, roll-Expr, out-roll-Expr, ind-Expr}
+use Rattle.ps_queries.specs.declared.expressions.Expr.TheOpen as layers
+use Rattle.ps_queries.specs.declared.expressions.Expr.TheVariants as exprs
+use Rattle.ps_queries.specs.declared.expressions.Operator.{Operator}
+use Rattle.ps_queries.specs.declared.expressions.Operator.TheVariants as operators
+use Rattle.ps_queries.specs.declared.queries.Output.{Output}
+use Rattle.ps_queries.specs.Meaning.{Given, value_of, is_true, any_equals, array_of, holds}
+use Rattle.ps_queries.specs.Subjects.{IsSameForEveryBucket}
 use Rattle.ps_sql_eval.specs.Evaluated.{values_in, values_of_items}
-use Rattle.ps_rules.specs.declared.matches.Match.{Match}
-use Rattle.ps_rules.specs.declared.branches.Branch.{Branch}
-use Rattle.ps_rules.specs.declared.queries.Planned.{Planned}
-use Rattle.ps_rules.specs.Branches.{has_parameter, match_of_side, match_of_sides, match_of_layer, match_of, branch_with, leaf_branch, joined, crossed, branches_in, branches_of}
-use Rattle.ps_rules.specs.Checks.{is_bound}
-use Rattle.ps_rules.specs.Laws.{is_leaf_layer, is_leaf, EitherSide, BothSides, LeafAlone, SameTest}
-use Rattle.ps_rules.specs.Meeting.{is_among, allows, meets, meets_some}
-use Rattle.ps_rules.specs.RuleSets.{IsSoundQuery}
-use Rattle.ps_rules.specs.Vectors.{vector_at}
+use Rattle.ps_definitions.specs.declared.matches.Match.{Match}
+use Rattle.ps_definitions.specs.declared.branches.Branch.{Branch}
+use Rattle.ps_definitions.specs.declared.queries.Planned.{Planned}
+use Rattle.ps_definitions.specs.Branches.{has_parameter, match_of_side, match_of_sides, match_of_layer, match_of, branch_with, leaf_branch, joined, crossed, branches_in, branches_of}
+use Rattle.ps_definitions.specs.Checks.{is_bound}
+use Rattle.ps_definitions.specs.Laws.{is_leaf_layer, is_leaf, EitherSide, BothSides, LeafAlone, SameTest}
+use Rattle.ps_definitions.specs.Meeting.{is_among, allows, meets, meets_some}
+use Rattle.ps_definitions.specs.RuleSets.{IsSoundQuery}
+use Rattle.ps_definitions.specs.Vectors.{vector_at}
 use Rattle.ps_grant.specs.Solving.{allowed_by, is_equal_to, allows_vector, all_allow, IsUnbound}
 use Rattle.ps_grant.proofs.GainLaws.{any_append}
 use Rattle.ps_grant.proofs.SolveLaws.{same_bools, true_is}

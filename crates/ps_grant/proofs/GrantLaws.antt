@@ -5,16 +5,16 @@ use Rattle.std.specs.Prelude.{◌||◌, ◌&&◌, ◌==◌, bytes_eq}
 use Rattle.std.specs.List.{list_any, list_all, AllByRecursion}
 use Rattle.ps_values.specs.declared.values.Value.{Value}
 use Rattle.ps_values.specs.Values.{is_null}
-use Rattle.ps_changes.specs.Source.{Key, Version, Source}
-use Rattle.ps_sql.specs.declared.queries.ParameterQuery.{ParameterQuery}
-use Rattle.ps_sql.specs.Meaning.{Asker, holds}
-use Rattle.ps_rules.specs.declared.definitions.Definition.{Definition}
-use Rattle.ps_rules.specs.declared.queries.Planned.{Planned}
-use Rattle.ps_rules.specs.Checks.{names_of}
-use Rattle.ps_rules.specs.Names.{has_repeated}
-use Rattle.ps_rules.specs.RuleSets.{IsSound, IsSoundParameter}
-use Rattle.ps_sql.specs.Vectors.{SourceRow, output_value, asked_of, vector_values, vector_on}
-use Rattle.ps_rules.specs.Vectors.{rows_read, query_vectors, parameter_vectors}
+use Rattle.ps_rows.specs.Source.{Key, Version, Source}
+use Rattle.ps_queries.specs.declared.queries.ParameterQuery.{ParameterQuery}
+use Rattle.ps_queries.specs.Meaning.{Asker, holds}
+use Rattle.ps_definitions.specs.declared.definitions.Definition.{Definition}
+use Rattle.ps_definitions.specs.declared.queries.Planned.{Planned}
+use Rattle.ps_definitions.specs.Checks.{names_of}
+use Rattle.ps_definitions.specs.Names.{has_repeated}
+use Rattle.ps_definitions.specs.RuleSets.{IsSound, IsSoundParameter}
+use Rattle.ps_queries.specs.Vectors.{SourceRow, output_value, asked_of, vector_values, vector_on}
+use Rattle.ps_definitions.specs.Vectors.{rows_read, query_vectors, parameter_vectors}
 use Rattle.ps_grant.specs.Grants.{given_for, grant_of, granted_by_query, copy_of}
 use Rattle.ps_grant.specs.Solving.{HaveSame, AreAsLong}
 use Rattle.ps_grant.specs.Sources.{row_of}

@@ -5,10 +5,10 @@ use Rattle.std.specs.Map.{keys_of, remove_entry}
 use Rattle.std.specs.BTreeMap.{insert_entry, is_at}
 use Rattle.std.specs.FinMap.Entries.{put, find, where_key}
 use Rattle.std.specs.Ordering.{eq_by_cmp}
-use Rattle.ps_changes.specs.declared.changes.Change.{Change}
-use Rattle.ps_changes.specs.declared.changes.Transaction.{Transaction}
-use Rattle.ps_changes.specs.Source.{Key, key_cmp, Source, after_row, after_changes, after_transactions, source_at}
-use Rattle.ps_changes.specs.Keys.{keys_total}
+use Rattle.ps_rows.specs.declared.changes.Change.{Change}
+use Rattle.ps_rows.specs.declared.changes.Transaction.{Transaction}
+use Rattle.ps_rows.specs.Source.{Key, key_cmp, Source, after_row, after_changes, after_transactions, source_at}
+use Rattle.ps_rows.specs.Keys.{keys_total}
 use Rattle.ps_grant.specs.declared.sourcing.Version.{Version as Held}
 use Rattle.ps_grant.specs.declared.copies.Granted.{Granted}
 use Rattle.ps_grant.specs.Mapped.{version_of}

@@ -6,9 +6,9 @@ use Rattle.std.specs.Ordering.{is_eq, is_lt, eq_by_cmp, ordering_reverse}
 use Rattle.std.proofs.lemmas.Bool.{eqb-true}
 use Rattle.std.proofs.lemmas.Cmp.{tied_itself}
 use Rattle.std.proofs.lemmas.Option.{same_Some}
-use Rattle.ps_changes.specs.declared.shown.Shown.{Shown}
-use Rattle.ps_changes.specs.Source.{Key, key_cmp}
-use Rattle.ps_changes.specs.Keys.{keys_total, keys_exact}
+use Rattle.ps_rows.specs.declared.shown.Shown.{Shown}
+use Rattle.ps_rows.specs.Source.{Key, key_cmp}
+use Rattle.ps_rows.specs.Keys.{keys_total, keys_exact}
 use Rattle.ps_grant.specs.declared.copies.Granted.{Granted}
 use Rattle.ps_grant.specs.Latest.{object_of, is_later, Rows, is_superseded, kept, latest_after, shown_of, rows_of, IsLatest, row_object, by_object, AreLatest, TiesAgree}
 

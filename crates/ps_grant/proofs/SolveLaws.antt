@@ -11,9 +11,9 @@ use Rattle.ps_values.specs.declared.values.Truth.{Truth}
 use Rattle.ps_values.specs.declared.values.Truth.TheVariants.{True, False, Unknown}
 use Rattle.ps_values.specs.Values.{equal_sql, compare_values}
 use Rattle.ps_values.specs.Laws.{IsEqualWherePresent, TiesTheSame}
-use Rattle.ps_sql.specs.Meaning.{is_true}
-use Rattle.ps_rules.specs.Names.{is_in, has_repeated}
-use Rattle.ps_rules.specs.Vectors.{vector_at}
+use Rattle.ps_queries.specs.Meaning.{is_true}
+use Rattle.ps_definitions.specs.Names.{is_in, has_repeated}
+use Rattle.ps_definitions.specs.Vectors.{vector_at}
 use Rattle.ps_grant.specs.declared.solving.Allowed.{Allowed}
 use Rattle.ps_grant.specs.Solving.{is_same, is_equal_to, allows_vector, all_allow, values_for, extended, solved, AreAsLong, AreMatched, AreSolved}
 use Rattle.ps_grant.proofs.GainLaws.{any_append}

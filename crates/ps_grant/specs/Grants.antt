@@ -2,14 +2,14 @@
 use Rattle.std.specs.Prelude.{ℕ, Bool, ◌&&◌, if◌then◌else◌, List, filter_map, flat_map, Option, None, option_map, bytes_eq}
 use Rattle.std.specs.List.{list_any}
 use Rattle.ps_values.specs.declared.values.Value.{Value}
-use Rattle.ps_changes.specs.Source.{Key, Version, Source}
-use Rattle.ps_sql.specs.declared.queries.DataQuery.{DataQuery}
-use Rattle.ps_sql.specs.Meaning.{Asker, Given, holds}
-use Rattle.ps_rules.specs.declared.definitions.Definition.{Definition}
-use Rattle.ps_rules.specs.declared.queries.Planned.{Planned}
-use Rattle.ps_sql.specs.Objects.{object_id, content_of}
-use Rattle.ps_sql.specs.Vectors.{SourceRow, asked_of}
-use Rattle.ps_rules.specs.Vectors.{parameter_vectors, vector_at}
+use Rattle.ps_rows.specs.Source.{Key, Version, Source}
+use Rattle.ps_queries.specs.declared.queries.DataQuery.{DataQuery}
+use Rattle.ps_queries.specs.Meaning.{Asker, Given, holds}
+use Rattle.ps_definitions.specs.declared.definitions.Definition.{Definition}
+use Rattle.ps_definitions.specs.declared.queries.Planned.{Planned}
+use Rattle.ps_queries.specs.Objects.{object_id, content_of}
+use Rattle.ps_queries.specs.Vectors.{SourceRow, asked_of}
+use Rattle.ps_definitions.specs.Vectors.{parameter_vectors, vector_at}
 use Rattle.ps_grant.specs.declared.copies.Granted.{Granted}
 use Rattle.ps_grant.specs.Sources.{row_of, rows_in}
 

@@ -1,6 +1,6 @@
 -- The law of rows of copies, for the crates above.
 use Rattle.std.specs.Prelude.{◌≡◌, List}
-use Rattle.ps_changes.specs.declared.shown.Shown.{Shown}
+use Rattle.ps_rows.specs.declared.shown.Shown.{Shown}
 use Rattle.ps_grant.specs.declared.copies.Granted.{Granted}
 use Rattle.ps_grant.specs.Latest.{rows_of, AreLatest, TiesAgree}
 

@@ -1,7 +1,7 @@
 -- A map's entries as a source.
 use Rattle.std.specs.Prelude.{map}
 use Rattle.std.specs.BTreeMap.{BTreeMap}
-use Rattle.ps_changes.specs.Source.{Key, Version, Source}
+use Rattle.ps_rows.specs.Source.{Key, Version, Source}
 use Rattle.ps_grant.specs.declared.sourcing.Version.{Version as Held}
 
 abbrev pub version_of : Held → Version

@@ -5,12 +5,12 @@ use Rattle.ps_values.specs.declared.values.Value.{Value}
 use Rattle.std.specs.Ordering.{is_eq}
 use Rattle.std.specs.Cmp.Lexicographic.{slice_cmp}
 use Rattle.ps_values.specs.Values.{equal_sql, compare_values}
-use Rattle.ps_sql.specs.Meaning.{Given, value_of, is_true, array_of}
+use Rattle.ps_queries.specs.Meaning.{Given, value_of, is_true, array_of}
 use Rattle.ps_sql_eval.specs.Evaluated.{values_in}
-use Rattle.ps_rules.specs.declared.matches.Match.{Match}
-use Rattle.ps_rules.specs.declared.branches.Branch.{Branch}
-use Rattle.ps_rules.specs.Branches.{has_parameter}
-use Rattle.ps_rules.specs.Vectors.{vector_at}
+use Rattle.ps_definitions.specs.declared.matches.Match.{Match}
+use Rattle.ps_definitions.specs.declared.branches.Branch.{Branch}
+use Rattle.ps_definitions.specs.Branches.{has_parameter}
+use Rattle.ps_definitions.specs.Vectors.{vector_at}
 use Rattle.ps_grant.specs.declared.solving.Allowed.{Allowed}
 
 -- lists that pass and fail the same tests of some item: they have the same items, however often and in whatever order

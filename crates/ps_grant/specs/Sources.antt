@@ -1,7 +1,7 @@
 -- The rows of a source.
 use Rattle.std.specs.Prelude.{List, map}
-use Rattle.ps_changes.specs.Source.{Key, Version, Source}
-use Rattle.ps_sql.specs.Vectors.{SourceRow}
+use Rattle.ps_rows.specs.Source.{Key, Version, Source}
+use Rattle.ps_queries.specs.Vectors.{SourceRow}
 use Rattle.ps_grant.specs.declared.live_rows.LiveRow.{LiveRow}
 
 -- a live row as an entry of the source: its table and id, and how its last change left it

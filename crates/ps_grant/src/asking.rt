@@ -1,17 +1,17 @@
 //! The parameter vectors of a definition, from its parameter queries.
 
 ghost use Rattle.std.specs.Prelude.{IfOk, OnOk, filter, flat_map, bytes_eq};
-ghost use Rattle.ps_sql.specs.Vectors.{SourceRow, vector_on as vectors_on, at_row};
-ghost use Rattle.ps_rules.specs.Vectors.{query_vectors, parameter_vectors};
+ghost use Rattle.ps_queries.specs.Vectors.{SourceRow, vector_on as vectors_on, at_row};
+ghost use Rattle.ps_definitions.specs.Vectors.{query_vectors, parameter_vectors};
 ghost use Rattle.ps_sql_eval.specs.Evaluated.{asker_of};
 ghost use Rattle.ps_grant.specs.Solving.{HaveSame, Gains};
 ghost use Rattle.ps_grant.specs.Sources.{entries_of, rows_in};
 
 use crate::LiveRow;
 use crate::vectors::VectorSet;
-use ps_changes::Row;
-use ps_rules::Definition;
-use ps_sql::ParameterQuery;
+use ps_definitions::Definition;
+use ps_queries::ParameterQuery;
+use ps_rows::Row;
 use ps_sql_eval::{Asker, vector_on};
 use ps_values::{Items, Memory, Text};
 use std::alloc::Global;

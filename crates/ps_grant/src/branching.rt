@@ -2,21 +2,21 @@
 
 ghost use Rattle.std.specs.Prelude.{◌≡◌, ◌&&◌, false, IfOk, Some};
 ghost use Rattle.std.specs.List.{list_any, list_all, AllByRecursion};
-ghost use Rattle.ps_sql.specs.declared.expressions.Expr.{Expr as ExprData};
-ghost use Rattle.ps_sql.specs.Meaning.{holds as holds_for};
-ghost use Rattle.ps_rules.specs.Meeting.{meets, meets_some};
-ghost use Rattle.ps_rules.specs.Names.{has_repeated};
-ghost use Rattle.ps_rules.specs.RuleSets.{IsSoundQuery};
+ghost use Rattle.ps_queries.specs.declared.expressions.Expr.{Expr as ExprData};
+ghost use Rattle.ps_queries.specs.Meaning.{holds as holds_for};
+ghost use Rattle.ps_definitions.specs.Meeting.{meets, meets_some};
+ghost use Rattle.ps_definitions.specs.Names.{has_repeated};
+ghost use Rattle.ps_definitions.specs.RuleSets.{IsSoundQuery};
 ghost use Rattle.ps_sql_eval.specs.Evaluated.{asker_of, without_bucket};
 ghost use Rattle.ps_grant.specs.Grants.{given_for, holds_for_some};
 ghost use Rattle.ps_grant.specs.Solving.{all_allow, is_same, AreAsLong, IsUnbound};
-ghost use Rattle.ps_sql.specs.Vectors.{at_row};
+ghost use Rattle.ps_queries.specs.Vectors.{at_row};
 
 use crate::solving::{Allowed, all_allow as allow, allowed_by_all, solve};
 use crate::vectors::VectorSet;
-use ps_changes::Row;
-use ps_rules::{Branch, Planned, conditions_hold_where_a_branch_is_met, spread_as_written};
-use ps_sql::{Expr, same_for_every_bucket};
+use ps_definitions::{Branch, Planned, conditions_hold_where_a_branch_is_met, spread_as_written};
+use ps_queries::{Expr, same_for_every_bucket};
+use ps_rows::Row;
 use ps_sql_eval::{Asker, holds};
 use ps_values::{
     Items, Memory, Text, Value, compare_is_a_total_order, equal_where_both_are_present,

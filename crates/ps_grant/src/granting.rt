@@ -2,8 +2,8 @@
 
 ghost use Rattle.std.specs.Prelude.{◌≡◌, ◌++◌, IfOk, OnOk, flat_map, false};
 ghost use Rattle.std.specs.List.{AllByRecursion};
-ghost use Rattle.ps_rules.specs.Names.{has_repeated};
-ghost use Rattle.ps_rules.specs.RuleSets.{IsSound, IsSoundQuery};
+ghost use Rattle.ps_definitions.specs.Names.{has_repeated};
+ghost use Rattle.ps_definitions.specs.RuleSets.{IsSound, IsSoundQuery};
 ghost use Rattle.ps_sql_eval.specs.Evaluated.{asker_of};
 ghost use Rattle.ps_grant.specs.Grants.{copy_of, grant_of, granted_by_query, granted_by, granted};
 ghost use Rattle.ps_grant.specs.Solving.{AreAsLong};
@@ -13,7 +13,7 @@ use crate::asking::vectors_of;
 use crate::branching::holds_for_a_vector;
 use crate::vectors::VectorSet;
 use crate::{Granted, LiveRow, SourceRows};
-use ps_rules::{Definition, Planned, Rules};
+use ps_definitions::{Definition, Planned, Rules};
 use ps_sql_eval::{Asker, content, object_id};
 use ps_values::{Items, Memory, Text};
 use std::alloc::Global;

@@ -1,4 +1,4 @@
-use ps_changes::Row;
+use ps_rows::Row;
 use ps_values::{Position, Text};
 
 /// A row of the source, as its last change left it.

@@ -12,7 +12,7 @@ pub struct SourceRows {
 }
 
 impl Model for SourceRows {
-    ghost use Rattle.ps_changes.specs.Source.{Source as SeenSource};
+    ghost use Rattle.ps_rows.specs.Source.{Source as SeenSource};
     ghost use Rattle.ps_grant.specs.Sources.{entries_of as seen_entries};
 
     ghost Value = { SeenSource };

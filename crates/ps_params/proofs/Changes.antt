@@ -11,12 +11,12 @@ use Rattle.std.proofs.lemmas.Bool.{and_parts}
 use Rattle.std.proofs.lemmas.Map.Text.{is_eq-slice_cmp}
 use Rattle.std.proofs.lemmas.Slice.Eq.{bytes_eq-Decides}
 use Rattle.ps_values.specs.declared.columns.Column.{Column}
-use Rattle.ps_changes.specs.declared.changes.Change.{Change}
-use Rattle.ps_changes.specs.declared.changes.Transaction.{Transaction}
-use Rattle.ps_changes.specs.Source.{Key, key_cmp, Version, Source, after_row, after_changes, after_transactions, source_at}
-use Rattle.ps_changes.specs.Keys.{keys_total, keys_exact, find-after_row, sorted-after_transactions}
-use Rattle.ps_rules.specs.declared.definitions.Definition.{Definition}
-use Rattle.ps_sql.specs.Vectors.{SourceRow}
+use Rattle.ps_rows.specs.declared.changes.Change.{Change}
+use Rattle.ps_rows.specs.declared.changes.Transaction.{Transaction}
+use Rattle.ps_rows.specs.Source.{Key, key_cmp, Version, Source, after_row, after_changes, after_transactions, source_at}
+use Rattle.ps_rows.specs.Keys.{keys_total, keys_exact, find-after_row, sorted-after_transactions}
+use Rattle.ps_definitions.specs.declared.definitions.Definition.{Definition}
+use Rattle.ps_queries.specs.Vectors.{SourceRow}
 use Rattle.ps_params.specs.Notes.{Note, counts_for, row_after, row_at}
 use Rattle.ps_params.specs.Indexes.{is_read}
 use Rattle.ps_params.specs.Laws.{note_of_change, notes_of_transaction, notes_of, notes_read, row_of, rows_in, NotesAreTheSource, NotesReadAreTheSource}

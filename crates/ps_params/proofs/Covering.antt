@@ -7,14 +7,14 @@ use Rattle.ps_values.specs.declared.columns.Column.{Column}
 use Rattle.ps_values.specs.declared.values.Value.{Value}
 use Rattle.ps_values.specs.declared.values.Value.TheVariants.{Null, Int, Text}
 use Rattle.ps_values.specs.Values.{is_null}
-use Rattle.ps_sql.specs.declared.expressions.Expr.{Expr}
-use Rattle.ps_sql.specs.declared.queries.ParameterQuery.{ParameterQuery}
-use Rattle.ps_sql.specs.Meaning.{Asker, Given, value_of, array_of, text_of, value_in, column_value, holds}
-use Rattle.ps_sql.specs.Subjects.{IsSameOnEveryRow}
+use Rattle.ps_queries.specs.declared.expressions.Expr.{Expr}
+use Rattle.ps_queries.specs.declared.queries.ParameterQuery.{ParameterQuery}
+use Rattle.ps_queries.specs.Meaning.{Asker, Given, value_of, array_of, text_of, value_in, column_value, holds}
+use Rattle.ps_queries.specs.Subjects.{IsSameOnEveryRow}
 use Rattle.ps_sql_eval.specs.Evaluated.{values_in}
-use Rattle.ps_rules.specs.declared.definitions.Definition.{Definition}
-use Rattle.ps_sql.specs.Vectors.{SourceRow, asked_of, vector_values}
-use Rattle.ps_rules.specs.Buckets.{bucket_name_of}
+use Rattle.ps_definitions.specs.declared.definitions.Definition.{Definition}
+use Rattle.ps_queries.specs.Vectors.{SourceRow, asked_of, vector_values}
+use Rattle.ps_definitions.specs.Buckets.{bucket_name_of}
 use Rattle.ps_params.specs.declared.paths.Path.{Path}
 use Rattle.ps_params.specs.Notes.{Note, row_at}
 use Rattle.ps_params.specs.Kept.{row_under, rows_of, names_on, names_over}

@@ -10,12 +10,12 @@ use Rattle.ps_values.specs.declared.values.Truth.{Truth}
 use Rattle.ps_values.specs.declared.values.Truth.TheVariants.{True, False, Unknown}
 use Rattle.ps_values.specs.Values.{equal_sql, is_null, truth_of}
 use Rattle.ps_values.specs.Laws.{IsEqualWherePresent}
-use Rattle.ps_sql.specs.declared.expressions.Expr.{Expr, fold-roll-Expr}
-use Rattle.ps_sql.specs.declared.expressions.Expr.TheOpen as layers
-use Rattle.ps_sql.specs.declared.expressions.Expr.TheVariants as exprs
-use Rattle.ps_sql.specs.declared.expressions.Operator.{Operator}
-use Rattle.ps_sql.specs.declared.expressions.Operator.TheVariants as operators
-use Rattle.ps_sql.specs.Meaning.{Given, value_of, layer_value, two_value, is_true, truth_value, bool_value, least, any_equals, array_of, within_items, column_value}
+use Rattle.ps_queries.specs.declared.expressions.Expr.{Expr, fold-roll-Expr}
+use Rattle.ps_queries.specs.declared.expressions.Expr.TheOpen as layers
+use Rattle.ps_queries.specs.declared.expressions.Expr.TheVariants as exprs
+use Rattle.ps_queries.specs.declared.expressions.Operator.{Operator}
+use Rattle.ps_queries.specs.declared.expressions.Operator.TheVariants as operators
+use Rattle.ps_queries.specs.Meaning.{Given, value_of, layer_value, two_value, is_true, truth_value, bool_value, least, any_equals, array_of, within_items, column_value}
 use Rattle.ps_sql_eval.specs.Evaluated.{values_of_items, values_in}
 use Rattle.ps_params.specs.Accesses.{IsOneOf, IsAccess, IsColumnWith}
 use Rattle.ps_params.proofs.Members.{Has, has_contains}

@@ -11,7 +11,7 @@ use Rattle.std.specs.declared.cmp.Ordering.TheVariants.{Less, Equal, Greater}
 use Rattle.std.specs.BTreeSet.{insert_key}
 use Rattle.std.proofs.lemmas.Map.Lookups.{exact_bytes}
 use Rattle.std.proofs.lemmas.Slice.Eq.{bytes_eq-Decides}
-use Rattle.ps_rules.specs.Buckets.{in_order}
+use Rattle.ps_definitions.specs.Buckets.{in_order}
 use Rattle.ps_params.specs.Names.{IsTold, AreTold}
 use Rattle.ps_params.specs.Sets.{HaveSame}
 use Rattle.ps_params.proofs.Members.{Has, any_has, has_any}

@@ -6,11 +6,11 @@ use Rattle.std.proofs.lemmas.Bool.{and_parts}
 use Rattle.std.proofs.lemmas.List.{drop_more}
 use Rattle.std.proofs.lemmas.Slice.Eq.{bytes_eq-Decides}
 use Rattle.ps_values.specs.declared.columns.Column.{Column}
-use Rattle.ps_sql.specs.Meaning.{Asker}
-use Rattle.ps_sql.specs.declared.queries.ParameterQuery.{ParameterQuery}
-use Rattle.ps_rules.specs.declared.definitions.Definition.{Definition}
-use Rattle.ps_sql.specs.Vectors.{SourceRow, at_row}
-use Rattle.ps_rules.specs.Vectors.{rows_read}
+use Rattle.ps_queries.specs.Meaning.{Asker}
+use Rattle.ps_queries.specs.declared.queries.ParameterQuery.{ParameterQuery}
+use Rattle.ps_definitions.specs.declared.definitions.Definition.{Definition}
+use Rattle.ps_queries.specs.Vectors.{SourceRow, at_row}
+use Rattle.ps_definitions.specs.Vectors.{rows_read}
 use Rattle.ps_params.specs.Notes.{Note, counts_for, row_after, row_at}
 use Rattle.ps_params.specs.Kept.{row_under, standing, rows_of, names_on, names_over, query_names}
 use Rattle.ps_params.proofs.Members.{Has}

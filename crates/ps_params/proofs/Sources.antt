@@ -3,13 +3,13 @@ use Rattle.std.proofs.Common.{◌≡◌, ℕ, Bool, true, false, List, [], ◌�
 use Rattle.std.specs.Prelude.{◌||◌, filter, flat_map, bytes_eq}
 use Rattle.std.specs.List.{list_any}
 use Rattle.std.proofs.lemmas.Slice.Eq.{bytes_eq-Decides}
-use Rattle.ps_sql.specs.Meaning.{Asker}
-use Rattle.ps_sql.specs.declared.queries.ParameterQuery.{ParameterQuery}
-use Rattle.ps_rules.specs.declared.definitions.Definition.{Definition}
-use Rattle.ps_rules.specs.declared.queries.Planned.{Planned}
-use Rattle.ps_sql.specs.Vectors.{SourceRow, vector_on}
-use Rattle.ps_rules.specs.Vectors.{rows_read, query_vectors}
-use Rattle.ps_rules.specs.Buckets.{bucket_name_of}
+use Rattle.ps_queries.specs.Meaning.{Asker}
+use Rattle.ps_queries.specs.declared.queries.ParameterQuery.{ParameterQuery}
+use Rattle.ps_definitions.specs.declared.definitions.Definition.{Definition}
+use Rattle.ps_definitions.specs.declared.queries.Planned.{Planned}
+use Rattle.ps_queries.specs.Vectors.{SourceRow, vector_on}
+use Rattle.ps_definitions.specs.Vectors.{rows_read, query_vectors}
+use Rattle.ps_definitions.specs.Buckets.{bucket_name_of}
 use Rattle.ps_params.specs.Notes.{Note}
 use Rattle.ps_params.specs.Indexes.{is_table, has_reader, is_read, StandsAt}
 use Rattle.ps_params.specs.Names.{definition_names}

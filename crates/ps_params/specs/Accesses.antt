@@ -4,12 +4,12 @@ use Rattle.std.specs.List.{list_any}
 use Rattle.ps_values.specs.declared.columns.Column.{Column}
 use Rattle.ps_values.specs.declared.values.Value.{Value}
 use Rattle.ps_values.specs.Values.{truth_of, is_null}
-use Rattle.ps_sql.specs.declared.expressions.Expr.{Expr}
-use Rattle.ps_sql.specs.declared.subjects.Subject.TheVariants as subjects
-use Rattle.ps_sql.specs.Meaning.{Asker, Given, value_of, is_true, array_of, column_value, holds}
-use Rattle.ps_sql.specs.Subjects.{speaks}
+use Rattle.ps_queries.specs.declared.expressions.Expr.{Expr}
+use Rattle.ps_queries.specs.declared.subjects.Subject.TheVariants as subjects
+use Rattle.ps_queries.specs.Meaning.{Asker, Given, value_of, is_true, array_of, column_value, holds}
+use Rattle.ps_queries.specs.Subjects.{speaks}
 use Rattle.ps_sql_eval.specs.Evaluated.{values_in}
-use Rattle.ps_sql.specs.Vectors.{asked_of}
+use Rattle.ps_queries.specs.Vectors.{asked_of}
 use Rattle.ps_params.specs.declared.paths.Path.{Path}
 use Rattle.ps_params.specs.Notes.{Note}
 use Rattle.ps_params.specs.Kept.{row_under}

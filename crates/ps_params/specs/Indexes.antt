@@ -1,10 +1,10 @@
 -- What an index of parameter rows holds, and which sources it stands for.
 use Rattle.std.specs.Prelude.{◌≡◌, ◌↔◌, ℕ, Bool, true, false, List, Option, Some, None, Contains, bytes_eq}
 use Rattle.std.specs.List.{list_any}
-use Rattle.ps_sql.specs.declared.queries.ParameterQuery.{ParameterQuery}
-use Rattle.ps_rules.specs.declared.definitions.Definition.{Definition}
-use Rattle.ps_rules.specs.RuleSets.{RuleSet}
-use Rattle.ps_sql.specs.Vectors.{SourceRow}
+use Rattle.ps_queries.specs.declared.queries.ParameterQuery.{ParameterQuery}
+use Rattle.ps_definitions.specs.declared.definitions.Definition.{Definition}
+use Rattle.ps_definitions.specs.RuleSets.{RuleSet}
+use Rattle.ps_queries.specs.Vectors.{SourceRow}
 use Rattle.ps_params.specs.Notes.{Note, row_at}
 
 -- the rules; what is kept of the notes of tables that a parameter query reads, in which the order among different rows

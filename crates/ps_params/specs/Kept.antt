@@ -1,12 +1,12 @@
 -- Notes as they are kept, and the rows that stand by them.
 use Rattle.std.specs.Prelude.{ℕ, List, [], ◌∷◌, map, filter, filter_map, flat_map, Option, option_map, bytes_eq}
 use Rattle.ps_values.specs.declared.columns.Column.{Column}
-use Rattle.ps_sql.specs.Meaning.{Asker}
-use Rattle.ps_sql.specs.declared.queries.ParameterQuery.{ParameterQuery}
-use Rattle.ps_rules.specs.declared.definitions.Definition.{Definition}
-use Rattle.ps_sql.specs.Vectors.{SourceRow, vector_on}
-use Rattle.ps_rules.specs.Vectors.{rows_read}
-use Rattle.ps_rules.specs.Buckets.{bucket_name_of}
+use Rattle.ps_queries.specs.Meaning.{Asker}
+use Rattle.ps_queries.specs.declared.queries.ParameterQuery.{ParameterQuery}
+use Rattle.ps_definitions.specs.declared.definitions.Definition.{Definition}
+use Rattle.ps_queries.specs.Vectors.{SourceRow, vector_on}
+use Rattle.ps_definitions.specs.Vectors.{rows_read}
+use Rattle.ps_definitions.specs.Buckets.{bucket_name_of}
 use Rattle.ps_params.specs.declared.noted.Noted.{Noted}
 use Rattle.ps_params.specs.declared.paths.Path.{Path}
 use Rattle.ps_params.specs.Notes.{Note, row_at}

@@ -2,13 +2,13 @@
 use Rattle.std.specs.Prelude.{◌≡◌, ℕ, true, List, map, flat_map}
 use Rattle.std.specs.List.{AllByRecursion}
 use Rattle.ps_values.specs.declared.values.Value.{Value}
-use Rattle.ps_sql.specs.Meaning.{Asker}
-use Rattle.ps_rules.specs.declared.definitions.Definition.{Definition}
-use Rattle.ps_sql.specs.Vectors.{SourceRow}
-use Rattle.ps_rules.specs.Vectors.{parameter_vectors}
-use Rattle.ps_rules.specs.Buckets.{bucket_name_of, in_order}
-use Rattle.ps_rules.specs.Laws.{IsSqlValue}
-use Rattle.ps_rules.specs.Names.{is_definition_name}
+use Rattle.ps_queries.specs.Meaning.{Asker}
+use Rattle.ps_definitions.specs.declared.definitions.Definition.{Definition}
+use Rattle.ps_queries.specs.Vectors.{SourceRow}
+use Rattle.ps_definitions.specs.Vectors.{parameter_vectors}
+use Rattle.ps_definitions.specs.Buckets.{bucket_name_of, in_order}
+use Rattle.ps_definitions.specs.Laws.{IsSqlValue}
+use Rattle.ps_definitions.specs.Names.{is_definition_name}
 
 -- the names of a definition's buckets, one for each vector
 abbrev pub definition_names : Asker → List SourceRow → Definition → List (List ℕ)

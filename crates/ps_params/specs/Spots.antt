@@ -2,7 +2,7 @@
 use Rattle.std.specs.Prelude.{ℕ, List, take, filter, flat_map, Option, option_map}
 use Rattle.std.specs.List.{filter_map}
 use Rattle.ps_values.specs.declared.values.Value.{Value}
-use Rattle.ps_sql.specs.Meaning.{text_of}
+use Rattle.ps_queries.specs.Meaning.{text_of}
 use Rattle.ps_params.specs.declared.paths.Path.{Path}
 use Rattle.ps_params.specs.Notes.{Note}
 use Rattle.ps_params.specs.Places.{Spot, lies_at}

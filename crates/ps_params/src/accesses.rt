@@ -1,11 +1,11 @@
 //! How a condition reaches rows by a column.
 
 ghost use Rattle.std.specs.Prelude.{◌≡◌, IfSome};
-ghost use Rattle.ps_sql.specs.declared.expressions.Expr.TheVariants as exprs;
-ghost use Rattle.ps_sql.specs.declared.expressions.Operator.TheVariants as operators;
+ghost use Rattle.ps_queries.specs.declared.expressions.Expr.TheVariants as exprs;
+ghost use Rattle.ps_queries.specs.declared.expressions.Operator.TheVariants as operators;
 ghost use Rattle.ps_params.specs.Accesses.{IsAccess, IsColumnWith};
 
-use ps_sql::{Expr, Operator, Subject};
+use ps_queries::{Expr, Operator, Subject};
 use ps_values::{Text, equal_where_both_are_present};
 
 /// A column, what it is compared with, and whether that is a list of which its value is an element.

@@ -2,10 +2,10 @@
 
 ghost use Rattle.std.specs.Prelude.{◌≡◌, true, [], ◌∷◌, ◌++◌, drop, IfOk, OnOk, map, flat_map};
 ghost use Rattle.std.specs.List.{AllByRecursion};
-ghost use Rattle.ps_rules.specs.Buckets.{bucket_name_of};
-ghost use Rattle.ps_rules.specs.Names.{is_definition_name};
-ghost use Rattle.ps_rules.specs.RuleSets.{IsSound};
-ghost use Rattle.ps_sql.specs.Vectors.{at_row};
+ghost use Rattle.ps_definitions.specs.Buckets.{bucket_name_of};
+ghost use Rattle.ps_definitions.specs.Names.{is_definition_name};
+ghost use Rattle.ps_definitions.specs.RuleSets.{IsSound};
+ghost use Rattle.ps_queries.specs.Vectors.{at_row};
 ghost use Rattle.ps_sql_eval.specs.Evaluated.{asker_of};
 ghost use Rattle.ps_params.specs.Kept.{note_of, rows_of, names_on, query_names, names_in as names_of_definition};
 ghost use Rattle.ps_params.specs.Names.{IsTold};
@@ -18,9 +18,9 @@ use crate::kept::{Kept, note_at};
 use crate::name_sets::NameSet;
 use crate::noted::Noted;
 use crate::spots::spots;
-use ps_changes::Row;
-use ps_rules::{Definition, bucket_name, have_64_bits, names_are_distinct};
-use ps_sql::ParameterQuery;
+use ps_definitions::{Definition, bucket_name, have_64_bits, names_are_distinct};
+use ps_queries::ParameterQuery;
+use ps_rows::Row;
 use ps_sql_eval::{Asker, vector_on};
 use ps_values::{Items, Memory, Position, Text, Value};
 use std::alloc::Global;

@@ -1,6 +1,6 @@
 ghost use Rattle.std.specs.Prelude.{◌≡◌, ℕ, ◌≤◌, ◌+◌, max, List, [], ◌∷◌, ◌++◌, option_map, if◌then◌else◌, IfOk, OnOk};
 ghost use Rattle.std.specs.List.{list_any};
-ghost use Rattle.ps_sql.specs.Vectors.{SourceRow};
+ghost use Rattle.ps_queries.specs.Vectors.{SourceRow};
 ghost use Rattle.ps_sql_eval.specs.Evaluated.{asker_of};
 ghost use Rattle.ps_params.specs.Notes.{Note, SameFrom};
 ghost use Rattle.ps_params.specs.Indexes.{has_reader as definition_reads, is_read, is_table, StandsAt};
@@ -12,8 +12,8 @@ use crate::kept::Kept;
 use crate::name_sets::NameSet;
 use crate::noted::Noted;
 use crate::paths::paths_of;
-use ps_changes::Row;
-use ps_rules::{Definition, Rules};
+use ps_definitions::{Definition, Rules};
+use ps_rows::Row;
 use ps_sql_eval::Asker;
 use ps_values::{Items, Memory, Position, Text};
 use std::alloc::Global;
@@ -42,7 +42,7 @@ impl Drop for ParameterIndex {
 
 impl Model for ParameterIndex {
     ghost use Rattle.std.specs.Coded.{codes};
-    ghost use Rattle.ps_sql.specs.contracts.expressions.Expr as expr;
+    ghost use Rattle.ps_queries.specs.contracts.expressions.Expr as expr;
     ghost use Rattle.ps_params.specs.Indexes.{Index};
 
     ghost Value = { Index };

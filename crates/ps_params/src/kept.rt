@@ -10,7 +10,7 @@ use crate::noted::Noted;
 use crate::paths::{Path, number_of};
 use crate::places::{Found, found_at, with_notes};
 use crate::trimming::trimmed;
-use ps_changes::Row;
+use ps_rows::Row;
 use ps_values::{Items, Memory, Position, Text};
 use std::alloc::Global;
 use std::collections::BTreeMap;

@@ -1,7 +1,7 @@
 //! Names of buckets, each once.
 
 ghost use Rattle.std.specs.Prelude.{◌≡◌, [], ◌∷◌, ℕ, List, IfOk, OnOk};
-ghost use Rattle.ps_rules.specs.Buckets.{in_order as names_in_order};
+ghost use Rattle.ps_definitions.specs.Buckets.{in_order as names_in_order};
 ghost use Rattle.ps_params.specs.Names.{IsTold, AreTold};
 ghost use Rattle.ps_params.specs.Sets.{Gains, HaveSame};
 

@@ -1,4 +1,4 @@
-use ps_changes::Row;
+use ps_rows::Row;
 use ps_values::{Position, Text};
 
 /// A row as a change left it at a position; None where it was deleted.

@@ -5,8 +5,8 @@ ghost use Rattle.std.specs.Option.{option_copied};
 ghost use Rattle.ps_params.specs.declared.paths.Path.{Path as PathData};
 
 use crate::accesses::access_of;
-use ps_rules::Definition;
-use ps_sql::ParameterQuery;
+use ps_definitions::Definition;
+use ps_queries::ParameterQuery;
 use ps_values::{Items, Memory, Text};
 use std::alloc::Global;
 

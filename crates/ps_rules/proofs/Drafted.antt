@@ -8,12 +8,12 @@ use Rattle.ps_rules.specs.declared.drafts.Draft.{Draft}
 use Rattle.ps_rules.specs.declared.drafts.Parts.{Parts}
 use Rattle.ps_rules.specs.declared.faults.RulesFault.{RulesFault}
 use Rattle.ps_rules.specs.Faults.{◌>>=◌, refuse}
-use Rattle.ps_rules.specs.Names.{is_in, has_repeated, is_definition_name}
+use Rattle.ps_definitions.specs.Names.{is_in, has_repeated, is_definition_name}
 use Rattle.ps_rules.specs.Shapes.{pairs_of, has_name, shape_fault, pair_fault, parts_of, no_parts, draft_of, draft_with, draft_names, drafts_from, definitions_of, sections_of, drafts_of}
-use Rattle.ps_rules.specs.RuleSets.{AreDrafts}
+use Rattle.ps_rules.specs.Drafts.{AreDrafts}
 use Rattle.ps_rules.proofs.Steps.{past, both_ok, same_ok}
 use Rattle.ps_rules.proofs.NameLaws.{repeated_more}
-use Rattle.ps_rules.proofs.Spreads.{map_append}
+use Rattle.std.proofs.lemmas.List.{map-append}
 
 left_false : (a b : Bool) → (a || b) ≡ false → a ≡ false
 left_false false b h = refl
@@ -41,7 +41,7 @@ draft_name pair draft h =
 
 one_more : (drafts : List Draft) (draft : Draft) (name : List ℕ) → draft.name ≡ name → (not (is_definition_name name) || is_in name (draft_names drafts)) ≡ false → AreDrafts drafts → AreDrafts (drafts ++ draft ∷ [])
 one_more drafts draft name is h are =
-    let names : draft_names (drafts ++ draft ∷ []) ≡ draft_names drafts ++ name ∷ [] = map_append (λ (d : Draft). d.name) drafts (draft ∷ []) ∙ ap (λ (n : List ℕ). draft_names drafts ++ n ∷ []) is in
+    let names : draft_names (drafts ++ draft ∷ []) ≡ draft_names drafts ++ name ∷ [] = map-append (λ (d : Draft). d.name) drafts (draft ∷ []) ∙ ap (λ (n : List ℕ). draft_names drafts ++ n ∷ []) is in
     let fresh = right_false (not (is_definition_name name)) (is_in name (draft_names drafts)) h in
     let fits = not_false (is_definition_name name) (left_false (not (is_definition_name name)) (is_in name (draft_names drafts)) h) in
     record {

@@ -2,13 +2,13 @@
 use Rattle.std.proofs.Common.{◌≡◌, ℕ, ℤ, Bool, false, List, [], ◌∷◌, refl, sym, ap, ◌∙◌, map}
 use Rattle.std.specs.Prelude.{◌||◌}
 use Rattle.std.specs.List.{list_any}
-use Rattle.ps_sql.specs.declared.expressions.Expr.{Expr, fold-roll-Expr}
-use Rattle.ps_sql.specs.declared.expressions.Expr.TheOpen.{Expr-F}
-use Rattle.ps_sql.specs.declared.expressions.Expr.TheOpen as layers
-use Rattle.ps_sql.specs.declared.expressions.Expr.TheVariants as exprs
-use Rattle.ps_sql.specs.declared.expressions.Operator.{Operator}
-use Rattle.ps_sql.specs.declared.expressions.Function.{Function}
-use Rattle.ps_rules.specs.Branches.{finds, layer_finds}
+use Rattle.ps_queries.specs.declared.expressions.Expr.{Expr, fold-roll-Expr}
+use Rattle.ps_queries.specs.declared.expressions.Expr.TheOpen.{Expr-F}
+use Rattle.ps_queries.specs.declared.expressions.Expr.TheOpen as layers
+use Rattle.ps_queries.specs.declared.expressions.Expr.TheVariants as exprs
+use Rattle.ps_queries.specs.declared.expressions.Operator.{Operator}
+use Rattle.ps_queries.specs.declared.expressions.Function.{Function}
+use Rattle.ps_definitions.specs.Branches.{finds, layer_finds}
 
 -- a test of some item, of items that are tested first
 pub any_map : {X : Type 0} (p : X → Bool) (xs : List X) → list_any (λ b. b) (map p xs) ≡ list_any p xs

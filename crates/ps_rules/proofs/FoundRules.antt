@@ -2,8 +2,8 @@
 use Rattle.std.proofs.Common.{◌≡◌, ◌<◌, ℕ, ◌+◌, Bool, true, false, List, [], ◌∷◌, ◌++◌, length, refl, sym, ap, subst, ◌∙◌, map, append_assoc, arith, Result, Ok, Err, bytes_eq}
 use Rattle.std.specs.Prelude.{not, codes, ◌==◌, ◌||◌, if◌then◌else◌, IfOk}
 use Rattle.std.proofs.lemmas.Slice.Eq.{bytes_eq-Decides}
-use Rattle.ps_sql.specs.declared.queries.ParameterQuery.{ParameterQuery}
-use Rattle.ps_sql.specs.declared.queries.DataQuery.{DataQuery}
+use Rattle.ps_queries.specs.declared.queries.ParameterQuery.{ParameterQuery}
+use Rattle.ps_queries.specs.declared.queries.DataQuery.{DataQuery}
 use Rattle.ps_sql.specs.Readings.{parameter_query_of, data_query_of}
 use Rattle.ps_yaml.specs.declared.nodes.Node.{Node, out-Node, out-roll-Node}
 use Rattle.ps_yaml.specs.declared.nodes.Node.TheOpen as layers
@@ -17,24 +17,25 @@ use Rattle.ps_rules.specs.declared.drafts.Parts.{Parts}
 use Rattle.ps_rules.specs.declared.drafts.Draft.{Draft}
 use Rattle.ps_rules.specs.declared.drafts.Known.{Known}
 use Rattle.ps_rules.specs.declared.drafts.Checked.{Checked}
-use Rattle.ps_rules.specs.declared.queries.Planned.{Planned}
-use Rattle.ps_rules.specs.declared.definitions.Definition.{Definition}
-use Rattle.ps_rules.specs.declared.warnings.Warning.{Warning}
+use Rattle.ps_definitions.specs.declared.queries.Planned.{Planned}
+use Rattle.ps_definitions.specs.declared.definitions.Definition.{Definition}
+use Rattle.ps_definitions.specs.declared.warnings.Warning.{Warning}
 use Rattle.ps_rules.specs.declared.faults.RulesFault.{RulesFault}
 use Rattle.ps_rules.specs.declared.faults.RulesFault.TheVariants as faults
 use Rattle.ps_rules.specs.Faults.{◌>>=◌, refuse, sql, Reads}
-use Rattle.ps_rules.specs.Names.{is_in, has_repeated, same_names, output_names}
-use Rattle.ps_rules.specs.Branches.{branches_of}
+use Rattle.ps_definitions.specs.Names.{is_in, has_repeated, same_names, output_names}
+use Rattle.ps_definitions.specs.Branches.{branches_of}
 use Rattle.ps_rules.specs.Shapes.{Layer, layer_pairs, pairs_of, layer_written, written_of, all_written, layer_queries, queries_of, is_empty_scalar, data_of, part_of, parts_of, no_parts, has_name, shape_fault, pair_fault, draft_of, draft_with, draft_names, drafts_from, definitions_of, sections_of, drafts_of}
-use Rattle.ps_rules.specs.Checks.{names_of, is_mixed, has_no_id, has_unknown, has_many_branches, is_matched, client_warning, known_from, known_with, all_known, planned_from, planned_of, all_planned, data_warning, checked_of}
+use Rattle.ps_definitions.specs.Checks.{names_of, has_no_id, has_unknown, has_many_branches, is_matched}
+use Rattle.ps_rules.specs.Checks.{is_mixed, client_warning, known_from, known_with, all_known, planned_from, planned_of, all_planned, data_warning, checked_of}
 use Rattle.ps_rules.specs.Reading.{with_checked, rules_from, rules_of, no_rules}
-use Rattle.ps_rules.specs.RuleSets.{RuleSet}
+use Rattle.ps_definitions.specs.RuleSets.{RuleSet}
 use Rattle.ps_rules.specs.Grammar.{IsScalar, AreScalars, no_scalars, next_scalar, AreQueries, single, several, AreData, no_data, some_data, Give, given, data_given, parameters_given, nothing_given, IsDraft, Drafted, no_drafts, next_draft, IsDocumentOf, IsParameterOf, AreParametersOf, no_parameters, next_parameter, IsQueryOf, AreQueriesOf, no_queries, next_query, IsDefinition, AreDefinitions, no_definitions, next_definition, client_warnings, warnings_of, IsRules}
 use Rattle.ps_rules.proofs.Steps.{past, both_ok, same_ok}
 use Rattle.ps_rules.proofs.Kept.{append_nil, was_read, same_self, not_false}
 use Rattle.ps_rules.proofs.Drafted.{definitions_are}
 use Rattle.ps_rules.proofs.NameLaws.{repeated_more}
-use Rattle.ps_rules.proofs.Spreads.{map_append}
+use Rattle.std.proofs.lemmas.List.{map-append}
 
 same_name : (a b : List ℕ) → bytes_eq a b ≡ true → a ≡ b
 same_name a b = (bytes_eq-Decides a b).0
@@ -183,7 +184,7 @@ entries_differ : {indent : ℕ} {before : List Pair} {lines : List Line} {all : 
 entries_differ (entries_end indent before lines end) differ = differ
 entries_differ (entry indent before lines line own node after all rest here stands is fresh value more) differ =
     let name = name_of line in
-    let names = map_append (λ (p : Pair). p.name) before (_ ∷ []) in
+    let names = map-append (λ (p : Pair). p.name) before (_ ∷ []) in
     entries_differ more (ap has_repeated names ∙ repeated_more (pair_names before) name
     ∙ ap (λ b. if b then true else has_repeated (pair_names before)) (names_among name before ∙ fresh) ∙ differ)
 

@@ -3,29 +3,33 @@ use Rattle.std.proofs.Common.{◌≡◌, ℕ, zero, suc, ◌+◌, Bool, true, fa
 use Rattle.std.specs.Prelude.{◌||◌, ◌&&◌, not, nat_lt}
 use Rattle.std.specs.Cmp.Lexicographic.{nat_list_eq_equiv}
 use Rattle.std.specs.List.{list_all, AllByRecursion}
-use Rattle.ps_sql.specs.declared.queries.ParameterQuery.{ParameterQuery}
-use Rattle.ps_sql.specs.declared.queries.DataQuery.{DataQuery}
+use Rattle.ps_queries.specs.declared.queries.ParameterQuery.{ParameterQuery}
+use Rattle.ps_queries.specs.declared.queries.DataQuery.{DataQuery}
 use Rattle.ps_sql.specs.declared.faults.SqlFault.{SqlFault}
-use Rattle.ps_sql.specs.declared.subjects.Subject.TheVariants as subjects
-use Rattle.ps_sql.specs.Asking.{query_speaks, DataQueriesAskNobody, ParameterQueriesNameNoBucket}
+use Rattle.ps_queries.specs.declared.subjects.Subject.TheVariants as subjects
+use Rattle.ps_queries.specs.Subjects.{query_speaks}
+use Rattle.ps_sql.specs.Asking.{DataQueriesAskNobody, ParameterQueriesNameNoBucket}
 use Rattle.ps_sql.specs.Readings.{parameter_query_of, data_query_of}
 use Rattle.ps_rules.specs.declared.drafts.Written.{Written}
 use Rattle.ps_rules.specs.declared.drafts.Draft.{Draft}
 use Rattle.ps_rules.specs.declared.drafts.Known.{Known}
 use Rattle.ps_rules.specs.declared.drafts.Checked.{Checked}
-use Rattle.ps_rules.specs.declared.queries.Planned.{Planned}
-use Rattle.ps_rules.specs.declared.definitions.Definition.{Definition}
+use Rattle.ps_definitions.specs.declared.queries.Planned.{Planned}
+use Rattle.ps_definitions.specs.declared.definitions.Definition.{Definition}
 use Rattle.ps_rules.specs.declared.faults.RulesFault.{RulesFault}
 use Rattle.ps_rules.specs.declared.faults.RulesFault.TheVariants as faults
 use Rattle.ps_rules.specs.Faults.{◌>>=◌, refuse, sql}
-use Rattle.ps_rules.specs.Names.{is_in, are_in, has_repeated, same_names, output_names, is_definition_name}
-use Rattle.ps_rules.specs.Branches.{branches_of}
+use Rattle.ps_definitions.specs.Names.{is_in, are_in, has_repeated, same_names, output_names, is_definition_name}
+use Rattle.ps_definitions.specs.Branches.{branches_of}
 use Rattle.ps_rules.specs.Shapes.{draft_names}
-use Rattle.ps_rules.specs.Checks.{names_of, is_mixed, has_no_id, has_unknown, has_many_branches, is_matched, client_warning, known_from, known_with, all_known, planned_from, planned_of, all_planned, data_warning, checked_of}
+use Rattle.ps_definitions.specs.Checks.{names_of, has_no_id, has_unknown, has_many_branches, is_matched}
+use Rattle.ps_rules.specs.Checks.{is_mixed, client_warning, known_from, known_with, all_known, planned_from, planned_of, all_planned, data_warning, checked_of}
 use Rattle.ps_rules.specs.Reading.{with_checked, rules_from, no_rules}
-use Rattle.ps_rules.specs.RuleSets.{RuleSet, IsSoundParameter, IsSoundQuery, IsSound, AreRules, AreDrafts, rises_past, numbers_of}
+use Rattle.ps_definitions.specs.RuleSets.{RuleSet, IsSoundParameter, IsSoundQuery, IsSound, AreRules, rises_past, numbers_of}
+use Rattle.ps_rules.specs.Drafts.{AreDrafts}
 use Rattle.ps_rules.proofs.Steps.{past, both_ok, same_ok}
-use Rattle.ps_rules.proofs.Spreads.{map_append, flat_append}
+use Rattle.std.proofs.lemmas.List.{map-append}
+use Rattle.std.proofs.lemmas.Grind.{flat_map-append}
 
 -- ---- facts of each item
 
@@ -150,7 +154,7 @@ planned_all laws names before queries (written ∷ others) more h sound =
     let one = planned_step laws names (before + 1) written a.0 a.1 in
     let rest = planned_all laws names (before + 1) (queries ++ a.0 ∷ []) others more a.2 (each_more (IsSoundQuery names) queries a.0 sound one.0) in (
       rest.0,
-      rest.1 ∙ ap (λ (ns : List ℕ). ns ++ counted (before + 1) others) (map_append (λ (q : Planned). q.number) queries (a.0 ∷ []))
+      rest.1 ∙ ap (λ (ns : List ℕ). ns ++ counted (before + 1) others) (map-append (λ (q : Planned). q.number) queries (a.0 ∷ []))
           ∙ append_assoc (query_numbers queries) (a.0.number ∷ []) (counted (before + 1) others)
           ∙ ap (λ (n : ℕ). query_numbers queries ++ n ∷ counted (before + 1) others) one.1,
     )
@@ -222,14 +226,14 @@ kept_more before rules draft rest checked is kept =
     let d = checked.definition in
     let fits = both_true (is_definition_name draft.name) (list_all is_definition_name (draft_names rest)) kept.fit in
     let names : names_in (rules.definitions ++ d ∷ []) ++ draft_names rest ≡ names_in rules.definitions ++ draft.name ∷ draft_names rest =
-    ap (λ (ns : List (List ℕ)). ns ++ draft_names rest) (map_append (λ (x : Definition). x.name) rules.definitions (d ∷ []))
+    ap (λ (ns : List (List ℕ)). ns ++ draft_names rest) (map-append (λ (x : Definition). x.name) rules.definitions (d ∷ []))
     ∙ append_assoc (names_in rules.definitions) (d.name ∷ []) (draft_names rest)
     ∙ ap (λ (n : List ℕ). names_in rules.definitions ++ n ∷ draft_names rest) is.name in
     record {
       differ = ap has_repeated names ∙ kept.differ;
       fit = fits.1;
       sound = each_more IsSound rules.definitions d kept.sound (is.sound fits.0);
-      numbers = flat_append (λ (x : Definition). query_numbers x.queries) rules.definitions (d ∷ [])
+      numbers = flat_map-append (λ (x : Definition). query_numbers x.queries) rules.definitions (d ∷ [])
           ∙ ap (λ ns. numbers_of rules.definitions ++ ns) (append_nil (query_numbers d.queries) ∙ is.numbers ∙ counted_is before draft.queries)
           ∙ ap (λ ns. ns ++ numbers_upto before (length draft.queries)) kept.numbers
           ∙ ap (λ k. numbers_upto 0 before ++ numbers_upto k (length draft.queries)) (sym (zero-add before))

@@ -8,9 +8,9 @@ use Rattle.std.specs.List.{list_all}
 use Rattle.std.proofs.lemmas.List.Folds.{list_all-map, list_any-append}
 use Rattle.std.proofs.lemmas.List.{take-append-drop}
 use Rattle.std.proofs.Math.Seq.{take-suc}
-use Rattle.ps_sql.specs.declared.queries.Output.{Output}
-use Rattle.ps_rules.specs.Names.{is_in, are_in, has_repeated, output_names}
-use Rattle.ps_rules.proofs.Spreads.{map_append}
+use Rattle.ps_queries.specs.declared.queries.Output.{Output}
+use Rattle.ps_definitions.specs.Names.{is_in, are_in, has_repeated, output_names}
+use Rattle.std.proofs.lemmas.List.{map-append}
 
 pub in_more : (q : List ℕ) (names : List (List ℕ)) (name : List ℕ) → is_in q (names ++ name ∷ []) ≡ cond (bytes_eq name q) true (is_in q names)
 in_more q [] name = grind arith
@@ -60,11 +60,11 @@ names_front (x ∷ xs) ys h = elim (is_in x xs) as (λ b. is_in x xs ≡ b → (
 pub repeated_found : (outputs : List Output) (i : ℕ) (o : Output) → i < length outputs → get_or outputs i o ≡ o → is_in o.name (output_names (take i outputs)) ≡ true → has_repeated (output_names outputs) ≡ true
 repeated_found outputs i o within is found =
     let front : take (i + 1) outputs ≡ take i outputs ++ o ∷ [] = rw add-one (take-suc outputs i o within ∙ ap (λ (x : Output). take i outputs ++ x ∷ []) is) in
-    let names : output_names (take (i + 1) outputs) ≡ output_names (take i outputs) ++ o.name ∷ [] = ap output_names front ∙ map_append (λ (x : Output). x.name) (take i outputs) (o ∷ []) in
+    let names : output_names (take (i + 1) outputs) ≡ output_names (take i outputs) ++ o.name ∷ [] = ap output_names front ∙ map-append (λ (x : Output). x.name) (take i outputs) (o ∷ []) in
     let again : has_repeated (output_names (take (i + 1) outputs)) ≡ true = ap has_repeated names ∙ repeated_more (output_names (take i outputs)) o.name
     ∙ ap (λ b. cond b true (has_repeated (output_names (take i outputs)))) found in
     let whole : output_names outputs ≡ output_names (take (i + 1) outputs) ++ output_names (drop (i + 1) outputs) =
-    ap output_names (sym (take-append-drop (i + 1) outputs)) ∙ map_append (λ (x : Output). x.name) (take (i + 1) outputs) (drop (i + 1) outputs) in
+    ap output_names (sym (take-append-drop (i + 1) outputs)) ∙ map-append (λ (x : Output). x.name) (take (i + 1) outputs) (drop (i + 1) outputs) in
     ap has_repeated whole ∙ names_front (output_names (take (i + 1) outputs)) (output_names (drop (i + 1) outputs)) again
 
 pub among_outputs : (outputs : List Output) (names : List (List ℕ)) → list_all (λ (o : Output). is_in o.name names) outputs ≡ are_in (output_names outputs) names

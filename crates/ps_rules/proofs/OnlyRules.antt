@@ -3,8 +3,8 @@ use Rattle.std.proofs.Common.{◌≡◌, ◌<◌, ℕ, ◌+◌, Bool, true, fals
 use Rattle.std.specs.Prelude.{not, codes, ◌==◌, ◌||◌, ◌&&◌, if◌then◌else◌}
 use Rattle.std.specs.List.{list_all}
 use Rattle.std.proofs.lemmas.Slice.Eq.{bytes_eq-Decides}
-use Rattle.ps_sql.specs.declared.queries.ParameterQuery.{ParameterQuery}
-use Rattle.ps_sql.specs.declared.queries.DataQuery.{DataQuery}
+use Rattle.ps_queries.specs.declared.queries.ParameterQuery.{ParameterQuery}
+use Rattle.ps_queries.specs.declared.queries.DataQuery.{DataQuery}
 use Rattle.ps_yaml.specs.declared.nodes.Node.{Node}
 use Rattle.ps_yaml.specs.declared.nodes.Pair.{Pair}
 use Rattle.ps_rules.specs.declared.drafts.Written.{Written}
@@ -12,24 +12,25 @@ use Rattle.ps_rules.specs.declared.drafts.Parts.{Parts}
 use Rattle.ps_rules.specs.declared.drafts.Draft.{Draft}
 use Rattle.ps_rules.specs.declared.drafts.Known.{Known}
 use Rattle.ps_rules.specs.declared.drafts.Checked.{Checked}
-use Rattle.ps_rules.specs.declared.queries.Planned.{Planned}
-use Rattle.ps_rules.specs.declared.definitions.Definition.{Definition}
-use Rattle.ps_rules.specs.declared.warnings.Warning.{Warning}
+use Rattle.ps_definitions.specs.declared.queries.Planned.{Planned}
+use Rattle.ps_definitions.specs.declared.definitions.Definition.{Definition}
+use Rattle.ps_definitions.specs.declared.warnings.Warning.{Warning}
 use Rattle.ps_rules.specs.declared.faults.RulesFault.{RulesFault}
 use Rattle.ps_rules.specs.declared.faults.RulesFault.TheVariants as faults
 use Rattle.ps_rules.specs.Faults.{◌>>=◌, refuse, sql, Reads}
-use Rattle.ps_rules.specs.Names.{is_in, has_repeated, same_names, output_names, is_definition_name}
-use Rattle.ps_rules.specs.Branches.{branches_of}
+use Rattle.ps_definitions.specs.Names.{is_in, has_repeated, same_names, output_names, is_definition_name}
+use Rattle.ps_definitions.specs.Branches.{branches_of}
 use Rattle.ps_rules.specs.Shapes.{layer_pairs, layer_written, written_of, all_written, layer_queries, queries_of, data_of, part_of, parts_of, no_parts, has_name, shape_fault, pair_fault, draft_of, draft_with, draft_names, drafts_from, definitions_of, sections_of, drafts_of}
-use Rattle.ps_rules.specs.Checks.{names_of, is_mixed, has_no_id, has_unknown, has_many_branches, is_matched, client_warning, known_from, known_with, all_known, planned_from, planned_of, all_planned, data_warning, checked_of}
+use Rattle.ps_definitions.specs.Checks.{names_of, has_no_id, has_unknown, has_many_branches, is_matched}
+use Rattle.ps_rules.specs.Checks.{is_mixed, client_warning, known_from, known_with, all_known, planned_from, planned_of, all_planned, data_warning, checked_of}
 use Rattle.ps_rules.specs.Reading.{with_checked, rules_from, rules_of, no_rules}
-use Rattle.ps_rules.specs.RuleSets.{RuleSet}
+use Rattle.ps_definitions.specs.RuleSets.{RuleSet}
 use Rattle.ps_rules.specs.Grammar.{IsScalar, AreScalars, no_scalars, next_scalar, AreQueries, single, several, AreData, no_data, some_data, Give, given, data_given, parameters_given, nothing_given, IsDraft, Drafted, no_drafts, next_draft, IsDocumentOf, AreParametersOf, no_parameters, next_parameter, IsQueryOf, AreQueriesOf, no_queries, next_query, IsDefinition, AreDefinitions, no_definitions, next_definition, client_warnings, warnings_of, IsRules}
 use Rattle.ps_yaml.specs.Grammar.{Spells}
 use Rattle.ps_rules.proofs.Kept.{append_nil}
 use Rattle.ps_rules.proofs.Steps.{same_ok}
 use Rattle.ps_rules.proofs.NameLaws.{repeated_more, names_front}
-use Rattle.ps_rules.proofs.Spreads.{map_append}
+use Rattle.std.proofs.lemmas.List.{map-append}
 
 -- a step that went well is passed
 on : {A B : Type 0} {r : Result A RulesFault} {x : A} (f : A → Result B RulesFault) → r ≡ Ok x → (r >>= f) ≡ f x
@@ -116,9 +117,9 @@ drafts_read (next_draft pair pairs draft others d rest) before differ fit =
     let fits = both_true (is_definition_name draft.name) (list_all is_definition_name (draft_names others)) fit in
     let whole : before ++ draft ∷ others ≡ (before ++ draft ∷ []) ++ others = sym (append_assoc before (draft ∷ []) others) in
     let later : has_repeated (draft_names ((before ++ draft ∷ []) ++ others)) ≡ false = ap (λ (ds : List Draft). has_repeated (draft_names ds)) (sym whole) ∙ differ in
-    let names : draft_names (before ++ draft ∷ []) ≡ draft_names before ++ draft.name ∷ [] = map_append (λ (x : Draft). x.name) before (draft ∷ []) in
+    let names : draft_names (before ++ draft ∷ []) ≡ draft_names before ++ draft.name ∷ [] = map-append (λ (x : Draft). x.name) before (draft ∷ []) in
     let front : has_repeated (draft_names before ++ draft.name ∷ []) ≡ false = ap has_repeated (sym names)
-    ∙ front_differs (draft_names (before ++ draft ∷ [])) (draft_names others) (ap has_repeated (sym (map_append (λ (x : Draft). x.name) (before ++ draft ∷ []) others)) ∙ later) in
+    ∙ front_differs (draft_names (before ++ draft ∷ [])) (draft_names others) (ap has_repeated (sym (map-append (λ (x : Draft). x.name) (before ++ draft ∷ []) others)) ∙ later) in
     let test : (not (is_definition_name pair.name) || is_in pair.name (draft_names before)) ≡ false =
     ap (λ name. not (is_definition_name name) || is_in name (draft_names before)) (sym d.name) ∙ ap (λ b. not b || is_in draft.name (draft_names before)) fits.0 ∙ fresh (draft_names before) draft.name front in
     on (λ (x : Draft). drafts_from (before ++ x ∷ []) pairs) (unmet (pair_fault pair) (λ named. draft_of pair) test ∙ draft_reads pair draft d)

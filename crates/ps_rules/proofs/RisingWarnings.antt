@@ -2,7 +2,7 @@
 use Rattle.std.proofs.Common.{◌≡◌, ◌<◌, ◌≤◌, ℕ, ◌+◌, Bool, true, false, List, [], ◌∷◌, ◌++◌, length, refl, sym, subst, ◌∙◌, map, arith, Result, Ok, Err}
 use Rattle.std.specs.Prelude.{◌==◌, ◌&&◌, nat_lt, if◌then◌else◌, IfOk}
 use Rattle.std.proofs.lemmas.Bool.Decides.{nat_tests}
-use Rattle.ps_sql.specs.declared.queries.ParameterQuery.{ParameterQuery}
+use Rattle.ps_queries.specs.declared.queries.ParameterQuery.{ParameterQuery}
 use Rattle.ps_yaml.specs.declared.nodes.Node.{Node, out-Node}
 use Rattle.ps_yaml.specs.declared.nodes.Node.TheOpen as layers
 use Rattle.ps_yaml.specs.declared.nodes.Pair.{Pair}
@@ -10,13 +10,14 @@ use Rattle.ps_yaml.specs.Places.{NodeWithin, scalar_within, map_within, list_wit
 use Rattle.ps_rules.specs.declared.drafts.Written.{Written}
 use Rattle.ps_rules.specs.declared.drafts.Parts.{Parts}
 use Rattle.ps_rules.specs.declared.drafts.Draft.{Draft}
-use Rattle.ps_rules.specs.declared.definitions.Definition.{Definition}
-use Rattle.ps_rules.specs.declared.warnings.Warning.{Warning}
-use Rattle.ps_rules.specs.declared.warnings.WarningKind.TheVariants as kinds
+use Rattle.ps_definitions.specs.declared.definitions.Definition.{Definition}
+use Rattle.ps_definitions.specs.declared.warnings.Warning.{Warning}
+use Rattle.ps_definitions.specs.declared.warnings.WarningKind.TheVariants as kinds
 use Rattle.ps_rules.specs.declared.faults.RulesFault.{RulesFault}
-use Rattle.ps_rules.specs.Checks.{some_expr, client_warning, data_warning}
-use Rattle.ps_rules.specs.Branches.{asks_parameters}
-use Rattle.ps_rules.specs.RuleSets.{RuleSet, rises_past, WarningsRise}
+use Rattle.ps_definitions.specs.Checks.{some_expr}
+use Rattle.ps_rules.specs.Checks.{client_warning, data_warning}
+use Rattle.ps_definitions.specs.Branches.{asks_parameters}
+use Rattle.ps_definitions.specs.RuleSets.{RuleSet, rises_past, WarningsRise}
 use Rattle.ps_rules.specs.Grammar.{IsScalar, AreScalars, no_scalars, next_scalar, AreQueries, single, several, Give, given, data_given, parameters_given, nothing_given, IsDraft, Drafted, no_drafts, next_draft, client_warnings, warnings_of, IsRules}
 
 -- ---- lines of warnings

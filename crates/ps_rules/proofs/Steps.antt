@@ -1,6 +1,5 @@
 -- What a reading that went well had to pass.
-use Rattle.std.proofs.Common.{◌≡◌, Bool, true, false, refl, ◌∙◌, Result, Ok, Err}
-use Rattle.std.specs.Prelude.{IfOk}
+use Rattle.std.proofs.Common.{◌≡◌, Bool, true, false, refl, Result, Ok, Err}
 use Rattle.ps_rules.specs.declared.faults.RulesFault.{RulesFault}
 use Rattle.ps_rules.specs.Faults.{◌>>=◌, refuse}
 
@@ -16,8 +15,3 @@ both_ok (Err fault) f x h = absurd (cc)
 
 pub same_ok : {A : Type 0} (x y : A) → ◌≡◌ {A = Result A RulesFault} (Ok x) (Ok y) → x ≡ y
 same_ok x y h = cc
-
--- an answer that is one value is the other, where both are the same
-pub ok_as : {A E : Type 0} (r : Result A E) (a b : A) → a ≡ b → IfOk r (λ x. x ≡ a) → IfOk r (λ x. x ≡ b)
-ok_as (Ok x) a b e h = h ∙ e
-ok_as (Err fault) a b e h = tt

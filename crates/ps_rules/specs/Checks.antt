@@ -1,70 +1,29 @@
 -- The checks of each definition: parameter queries before data queries, each query at its scalar.
-use Rattle.std.specs.Prelude.{ℕ, ◌+◌, Bool, false, not, ◌||◌, ◌&&◌, ◌==◌, nat_lt, if◌then◌else◌, List, [], ◌∷◌, ◌++◌, map, length, Option, Some, None, Result, Ok, Err, bytes_eq, codes}
-use Rattle.std.specs.List.{list_any, list_all}
-use Rattle.ps_sql.specs.declared.expressions.Expr.{Expr}
-use Rattle.ps_sql.specs.declared.queries.Output.{Output}
-use Rattle.ps_sql.specs.declared.queries.ParameterQuery.{ParameterQuery}
-use Rattle.ps_sql.specs.declared.queries.DataQuery.{DataQuery}
+use Rattle.std.specs.Prelude.{ℕ, ◌+◌, Bool, false, not, ◌==◌, if◌then◌else◌, List, [], ◌∷◌, ◌++◌, length, Result, Ok, Err}
+use Rattle.ps_queries.specs.declared.queries.ParameterQuery.{ParameterQuery}
+use Rattle.ps_queries.specs.declared.queries.DataQuery.{DataQuery}
 use Rattle.ps_sql.specs.Readings.{parameter_query_of, data_query_of}
 use Rattle.ps_rules.specs.declared.drafts.Written.{Written}
 use Rattle.ps_rules.specs.declared.drafts.Draft.{Draft}
 use Rattle.ps_rules.specs.declared.drafts.Known.{Known}
 use Rattle.ps_rules.specs.declared.drafts.Checked.{Checked}
-use Rattle.ps_rules.specs.declared.matches.Match.{Match}
-use Rattle.ps_rules.specs.declared.branches.Branch.{Branch}
-use Rattle.ps_rules.specs.declared.queries.Planned.{Planned}
-use Rattle.ps_rules.specs.declared.warnings.Warning.{Warning}
-use Rattle.ps_rules.specs.declared.warnings.WarningKind.TheVariants as kinds
+use Rattle.ps_definitions.specs.declared.branches.Branch.{Branch}
+use Rattle.ps_definitions.specs.declared.queries.Planned.{Planned}
+use Rattle.ps_definitions.specs.declared.warnings.Warning.{Warning}
+use Rattle.ps_definitions.specs.declared.warnings.WarningKind.TheVariants as kinds
 use Rattle.ps_rules.specs.declared.faults.RulesFault.{RulesFault}
 use Rattle.ps_rules.specs.declared.faults.RulesFault.TheVariants as faults
 use Rattle.ps_rules.specs.Faults.{◌>>=◌, refuse, sql}
-use Rattle.ps_rules.specs.Names.{is_in, has_repeated, same_names, output_names}
-use Rattle.ps_rules.specs.Branches.{mentions, has_parameter, asks_parameters, branches_of}
+use Rattle.ps_definitions.specs.Names.{has_repeated, same_names, output_names}
+use Rattle.ps_definitions.specs.Branches.{asks_parameters, branches_of}
+use Rattle.ps_definitions.specs.Checks.{some_expr, names_of, has_no_id, has_unknown, has_many_branches, is_matched}
 
--- ---- what is asked of a query
-
-abbrev pub in_condition : (Expr → Bool) → Option Expr → Bool
-in_condition test None = false
-in_condition test (Some condition) = test condition
-
--- some expression of a query passes a test
-abbrev pub some_expr : (Expr → Bool) → List Output → Option Expr → Bool
-some_expr test outputs condition = list_any (λ (o : Output). test o.expr) outputs || in_condition test condition
-
--- the names of parameters are those of the first query's outputs
-abbrev pub names_of : List ParameterQuery → List (List ℕ)
-names_of [] = []
-names_of (first ∷ others) = output_names first.outputs
+-- ---- parameter queries
 
 -- a query behind a first one has another set of names
 abbrev pub is_mixed : List ParameterQuery → List (List ℕ) → Bool
 is_mixed [] names = false
 is_mixed (first ∷ others) names = not (same_names (output_names first.outputs) names)
-
--- neither `*` nor an output `id`
-abbrev pub has_no_id : DataQuery → Bool
-has_no_id query = not query.star && not (list_any (λ (o : Output). bytes_eq o.name (codes "id")) query.outputs)
-
--- `bucket.q` where q is no parameter's name
-abbrev pub has_unknown : List (List ℕ) → DataQuery → Bool
-has_unknown names query = some_expr (λ (e : Expr). mentions (λ name. not (is_in name names)) e) query.outputs query.condition
-
--- the most branches that a condition may have
-abbrev pub most_branches : ℕ
-most_branches = 64
-
-abbrev pub has_many_branches : DataQuery → Bool
-has_many_branches query = nat_lt most_branches (length (branches_of query.condition))
-
--- each parameter is matched in the branch, and stands in none of its other leaves
-abbrev pub is_bound : List (List ℕ) → Branch → Bool
-is_bound names branch = not (list_any has_parameter branch.rest) && list_all (λ name. is_in name (map (λ (m : Match). m.name) branch.matches)) names
-
--- each parameter stands in matches alone, and is matched in each branch
-abbrev pub is_matched : List (List ℕ) → DataQuery → Bool
-is_matched names query = not (list_any (λ (o : Output). has_parameter o.expr) query.outputs) && list_all (is_bound names) (branches_of query.condition)
-
--- ---- parameter queries
 
 abbrev pub client_warning : Written → ParameterQuery → List Warning
 client_warning written query = if some_expr asks_parameters query.outputs query.condition

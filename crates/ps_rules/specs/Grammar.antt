@@ -1,22 +1,24 @@
 -- The grammar of rules: a document of definitions, the query that each scalar is read as, and what each query must meet.
 use Rattle.std.specs.Prelude.{◌≡◌, ◌<◌, ℕ, ◌+◌, Bool, true, false, List, [], ◌∷◌, ◌++◌, length, Ok, codes}
-use Rattle.ps_sql.specs.declared.queries.ParameterQuery.{ParameterQuery}
+use Rattle.ps_queries.specs.declared.queries.ParameterQuery.{ParameterQuery}
 use Rattle.ps_sql.specs.Readings.{parameter_query_of, data_query_of}
 use Rattle.ps_yaml.specs.declared.nodes.Node.{Node, out-Node}
 use Rattle.ps_yaml.specs.declared.nodes.Node.TheOpen as layers
 use Rattle.ps_yaml.specs.declared.nodes.Pair.{Pair}
 use Rattle.ps_yaml.specs.Grammar.{Spells}
-use Rattle.ps_rules.specs.declared.definitions.Definition.{Definition}
+use Rattle.ps_definitions.specs.declared.definitions.Definition.{Definition}
 use Rattle.ps_rules.specs.declared.drafts.Written.{Written}
 use Rattle.ps_rules.specs.declared.drafts.Parts.{Parts}
 use Rattle.ps_rules.specs.declared.drafts.Draft.{Draft}
-use Rattle.ps_rules.specs.declared.queries.Planned.{Planned}
-use Rattle.ps_rules.specs.declared.warnings.Warning.{Warning}
-use Rattle.ps_rules.specs.Names.{has_repeated, same_names, output_names}
-use Rattle.ps_rules.specs.Branches.{branches_of}
+use Rattle.ps_definitions.specs.declared.queries.Planned.{Planned}
+use Rattle.ps_definitions.specs.declared.warnings.Warning.{Warning}
+use Rattle.ps_definitions.specs.Names.{has_repeated, same_names, output_names}
+use Rattle.ps_definitions.specs.Branches.{branches_of}
 use Rattle.ps_rules.specs.Shapes.{has_name, is_empty_scalar, no_parts}
-use Rattle.ps_rules.specs.Checks.{names_of, has_no_id, has_unknown, has_many_branches, is_matched, client_warning, data_warning}
-use Rattle.ps_rules.specs.RuleSets.{RuleSet, AreDrafts}
+use Rattle.ps_definitions.specs.Checks.{names_of, has_no_id, has_unknown, has_many_branches, is_matched}
+use Rattle.ps_rules.specs.Checks.{client_warning, data_warning}
+use Rattle.ps_definitions.specs.RuleSets.{RuleSet}
+use Rattle.ps_rules.specs.Drafts.{AreDrafts}
 
 -- ---- the document
 

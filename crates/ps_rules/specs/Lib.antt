@@ -1,14 +1,7 @@
-pub mod Branches
-pub mod Buckets
 pub mod Checks
+pub mod Drafts
 pub mod Faults
 pub mod Grammar
-pub mod Laws
-pub mod Meeting
-pub mod Names
 pub mod Reading
 pub mod Refusals
-pub mod RuleSets
 pub mod Shapes
-pub mod Types
-pub mod Vectors

@@ -8,7 +8,7 @@ use Rattle.ps_rules.specs.declared.faults.RulesFault.{RulesFault}
 use Rattle.ps_rules.specs.Faults.{◌>>=◌, yaml}
 use Rattle.ps_rules.specs.Shapes.{drafts_of}
 use Rattle.ps_rules.specs.Checks.{checked_of}
-use Rattle.ps_rules.specs.RuleSets.{RuleSet}
+use Rattle.ps_definitions.specs.RuleSets.{RuleSet}
 
 -- a definition behind those that are read
 abbrev pub with_checked : RuleSet → Checked → RuleSet

@@ -10,7 +10,7 @@ use Rattle.ps_rules.specs.declared.drafts.Draft.{Draft}
 use Rattle.ps_rules.specs.declared.faults.RulesFault.{RulesFault}
 use Rattle.ps_rules.specs.declared.faults.RulesFault.TheVariants as faults
 use Rattle.ps_rules.specs.Faults.{◌>>=◌, refuse}
-use Rattle.ps_rules.specs.Names.{is_in, is_definition_name}
+use Rattle.ps_definitions.specs.Names.{is_in, is_definition_name}
 
 -- a node with its parts
 abbrev pub Layer : Type 0

@@ -2,25 +2,27 @@
 
 ghost use Rattle.std.specs.Prelude.{◌≡◌, ℕ, List, ◌∷◌, [], ◌++◌, ◌<◌, ◌↔◌, not, IfOk, IsTrue, Some, None, length, map, bytes_eq, codes, if◌then◌else◌};
 ghost use Rattle.std.specs.List.{list_any, list_all};
-ghost use Rattle.ps_sql.specs.declared.expressions.Expr.{Expr as ExprData};
-ghost use Rattle.ps_sql.specs.declared.queries.Output.{Output as OutputData};
+ghost use Rattle.ps_queries.specs.declared.expressions.Expr.{Expr as ExprData};
+ghost use Rattle.ps_queries.specs.declared.queries.Output.{Output as OutputData};
 ghost use Rattle.ps_sql.specs.Readings.{parameter_query_of, data_query_of};
-ghost use Rattle.ps_rules.specs.declared.matches.Match.{Match as MatchData};
-ghost use Rattle.ps_rules.specs.declared.warnings.Warning.{Warning as WarningData};
+ghost use Rattle.ps_definitions.specs.declared.matches.Match.{Match as MatchData};
+ghost use Rattle.ps_definitions.specs.declared.warnings.Warning.{Warning as WarningData};
 ghost use Rattle.ps_rules.specs.Faults.{Reads, sql, placed_fault};
-ghost use Rattle.ps_rules.specs.Names.{is_in, are_in, has_repeated, output_names};
-ghost use Rattle.ps_rules.specs.Branches.{mentions, has_parameter, asks_parameters as asks};
-ghost use Rattle.ps_rules.specs.Checks.{some_expr, in_condition, names_of, is_mixed as mixes, has_no_id as lacks_id, has_unknown as knows_not, has_many_branches as has_many, is_bound as binds, is_matched as matches_all, client_warning, known_by, known_after, known_from, known_with, all_known, planned_with, planned_from, planned_of, all_planned, data_warning, checked_of};
+ghost use Rattle.ps_definitions.specs.Names.{is_in, are_in, has_repeated, output_names};
+ghost use Rattle.ps_definitions.specs.Branches.{mentions, has_parameter, asks_parameters as asks};
+ghost use Rattle.ps_definitions.specs.Checks.{some_expr, in_condition, names_of, has_no_id as lacks_id, has_unknown as knows_not, has_many_branches as has_many, is_bound as binds, is_matched as matches_all};
+ghost use Rattle.ps_rules.specs.Checks.{is_mixed as mixes, client_warning, known_by, known_after, known_from, known_with, all_known, planned_with, planned_from, planned_of, all_planned, data_warning, checked_of};
 
+use crate::RulesFault;
 use crate::drafts::{Checked, Draft, Known, Written};
 use crate::name_sets::NameSet;
-use crate::spreading::{MOST_BRANCHES, branches_of, count_branches};
 use crate::walks::{asks_parameters, has_unknown};
-use crate::{Branch, Definition, Match, Planned, RulesFault, Warning, WarningKind};
-use ps_sql::{
-    DataQuery, Expr, Output, ParameterQuery, SqlFault, Subject, read_data_query,
-    read_parameter_query,
+use ps_definitions::{
+    Branch, Definition, MOST_BRANCHES, Match, Planned, Warning, WarningKind, branches_of,
+    count_branches,
 };
+use ps_queries::{DataQuery, Expr, Output, ParameterQuery, Subject};
+use ps_sql::{SqlFault, read_data_query, read_parameter_query};
 use ps_values::{Items, Memory, Text};
 use std::alloc::Global;
 

@@ -1,5 +1,5 @@
-use crate::{Definition, Warning};
-use ps_sql::ParameterQuery;
+use ps_definitions::{Definition, Warning};
+use ps_queries::ParameterQuery;
 use ps_values::{Items, Text};
 
 /// The text of a scalar, and where it stands.

@@ -1,7 +1,7 @@
 ghost use Rattle.std.specs.Prelude.{◌≡◌, [], ◌∷◌, ◌++◌, IfOk, Some, None, length, if◌then◌else◌};
-ghost use Rattle.ps_rules.specs.Names.{is_in, has_repeated, output_names};
+ghost use Rattle.ps_definitions.specs.Names.{is_in, has_repeated, output_names};
 
-use ps_sql::Output;
+use ps_queries::Output;
 use ps_values::{Items, Memory, Text};
 use std::alloc::Global;
 use std::collections::BTreeSet;
@@ -19,7 +19,7 @@ impl Model for NameSet {
     ghost use Rattle.std.specs.Ordering.{nat_cmp};
     ghost use Rattle.std.specs.Cmp.Lexicographic.{slice_cmp};
     ghost use Rattle.std.specs.BTreeSet.{contains};
-    ghost use Rattle.ps_rules.specs.Names.{is_in as is_one_of};
+    ghost use Rattle.ps_definitions.specs.Names.{is_in as is_one_of};
 
     ghost Value = { List (List ℕ) };
 

@@ -6,12 +6,14 @@ ghost use Rattle.ps_yaml.specs.Trees.{document_of};
 ghost use Rattle.ps_rules.specs.Faults.{Reads, yaml};
 ghost use Rattle.ps_rules.specs.Reading.{rules_from, rules_of, rules_in, no_rules};
 ghost use Rattle.ps_rules.specs.Refusals.{RefusesOtherBytes};
-ghost use Rattle.ps_rules.specs.RuleSets.{AreDrafts, RuleSet, WarningsRise};
+ghost use Rattle.ps_definitions.specs.RuleSets.{RuleSet, WarningsRise};
+ghost use Rattle.ps_rules.specs.Drafts.{AreDrafts};
 
+use crate::RulesFault;
 use crate::checks::check;
 use crate::drafts::{Checked, Draft};
 use crate::shapes::drafts_in;
-use crate::{Definition, Rules, RulesFault, Warning};
+use ps_definitions::{Definition, Rules, Warning};
 use ps_sql::queries_speak_as_they_may;
 use ps_values::{Items, Memory};
 use ps_yaml::{Node, YamlFault, places_rise, read_yaml};

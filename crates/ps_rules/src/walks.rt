@@ -2,12 +2,12 @@
 
 ghost use Rattle.std.specs.Prelude.{◌≡◌, not, map};
 ghost use Rattle.std.specs.List.{list_any};
-ghost use Rattle.ps_sql.specs.declared.expressions.Expr.{Expr as ExprData};
-ghost use Rattle.ps_rules.specs.Names.{is_in};
-ghost use Rattle.ps_rules.specs.Branches.{mentions, asks_parameters as asks};
+ghost use Rattle.ps_queries.specs.declared.expressions.Expr.{Expr as ExprData};
+ghost use Rattle.ps_definitions.specs.Names.{is_in};
+ghost use Rattle.ps_definitions.specs.Branches.{mentions, asks_parameters as asks};
 
 use crate::name_sets::NameSet;
-use ps_sql::Expr;
+use ps_queries::Expr;
 
 /// Whether a parameter stands in an expression that has none of the names.
 #[cycle(unknown)]

@@ -6,7 +6,7 @@ use Rattle.std.proofs.lemmas.Option.{option_and_then_some}
 use Rattle.ps_changes.specs.Grammar.{IsLoneChange}
 use Rattle.ps_changes.specs.Lines.{lone_change_of}
 use Rattle.ps_changes.specs.Laws.{ReadsLoneChanges}
-use Rattle.ps_changes.specs.declared.changes.Change.{Change}
+use Rattle.ps_rows.specs.declared.changes.Change.{Change}
 use Rattle.ps_changes.specs.declared.faults.ChangeFault.{ChangeFault}
 use Rattle.ps_claims.specs.Claims.{asker_of_claims}
 use Rattle.ps_sql_eval.specs.Evaluated.{asker_of}

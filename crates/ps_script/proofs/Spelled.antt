@@ -2,7 +2,7 @@
 use Rattle.std.proofs.Common.{◌≡◌, ℕ, List, [], ◌∷◌, ◌++◌, Some, refl, ap}
 use Rattle.std.specs.Prelude.{option_map}
 use Rattle.ps_changes.specs.Grammar.{IsLoneChange}
-use Rattle.ps_changes.specs.declared.changes.Change.{Change}
+use Rattle.ps_rows.specs.declared.changes.Change.{Change}
 use Rattle.ps_changes.specs.Laws.{ReadsLoneChanges}
 use Rattle.ps_claims.specs.Claims.{asker_of_claims}
 use Rattle.ps_sql_eval.specs.Evaluated.{asker_of}

@@ -1,10 +1,10 @@
 -- The event that a line is, if it is one: docs/FORMATS.md, "Scripts".
 use Rattle.std.specs.Prelude.{◌≡◌, ℕ, List, codes, bytes_eq, if◌then◌else◌, Option, Some, None, option_map, option_and_then, Result, Ok, Err, ◌↔◌}
 use Rattle.ps_changes.specs.Lines.{lone_change_of}
-use Rattle.ps_changes.specs.declared.changes.Change.{Change}
+use Rattle.ps_rows.specs.declared.changes.Change.{Change}
 use Rattle.ps_changes.specs.declared.faults.ChangeFault.{ChangeFault}
 use Rattle.ps_claims.specs.Claims.{asker_of_claims}
-use Rattle.ps_sql.specs.Meaning as meaning
+use Rattle.ps_queries.specs.Meaning as meaning
 use Rattle.ps_sql_eval.specs.declared.askers.Asker.{Asker}
 use Rattle.ps_script.specs.declared.events.ScriptEvent.{ScriptEvent}
 use Rattle.ps_script.specs.declared.events.ScriptEvent.TheVariants.{Feed, Close, Write, Commit, Compact, Client, Local, Totals}

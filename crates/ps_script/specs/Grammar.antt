@@ -1,7 +1,7 @@
 -- The grammar of a script's lines: docs/FORMATS.md, "Scripts".
 use Rattle.std.specs.Prelude.{◌≡◌, ℕ, List, ◌++◌, codes, decimal, Some, IsUtf8}
 use Rattle.ps_changes.specs.Grammar.{IsLoneChange}
-use Rattle.ps_changes.specs.declared.changes.Change.{Change}
+use Rattle.ps_rows.specs.declared.changes.Change.{Change}
 use Rattle.ps_claims.specs.Claims.{asker_of_claims}
 use Rattle.ps_sql_eval.specs.Evaluated.{asker_of}
 use Rattle.ps_sql_eval.specs.declared.askers.Asker.{Asker}

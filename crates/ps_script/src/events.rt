@@ -1,4 +1,4 @@
-use ps_changes::Change;
+use ps_rows::Change;
 use ps_sql_eval::Asker;
 use ps_values::Text;
 

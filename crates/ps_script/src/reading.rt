@@ -12,8 +12,9 @@ use crate::laws::events_are_spelled;
 use crate::parts::{is_name, read_count, read_name, read_text};
 use crate::verbs::read_verb;
 use crate::{ScriptEvent, ScriptFault};
-use ps_changes::{Change, ChangeFault, read_change};
+use ps_changes::{ChangeFault, read_change};
 use ps_claims::read_claims;
+use ps_rows::Change;
 use std::alloc::Global;
 
 /// Reads a line of a script as an event: docs/FORMATS.md, "Scripts". The line feed that ends it is no part of it, and a line that is

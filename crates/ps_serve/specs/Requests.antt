@@ -1,7 +1,7 @@
 -- What a request asks for, or the first refusal: a function of its head, its body and the moment at which its token is verified.
 use Rattle.std.specs.Prelude.{ℕ, nat_eq, nat_lt, List, codes, bytes_eq, drop, Option, Some, None, Result, Ok, Err, if◌then◌else◌, ◌<◌, length, All}
 use Rattle.std.specs.List.{starts_with}
-use Rattle.ps_changes.specs.declared.changes.Change.{Change}
+use Rattle.ps_rows.specs.declared.changes.Change.{Change}
 use Rattle.ps_changes.specs.Lines as changes
 use Rattle.ps_http.specs.declared.heads.Head.{Head}
 use Rattle.ps_http.specs.Bodies.{body_limit}

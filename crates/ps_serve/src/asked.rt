@@ -1,5 +1,5 @@
-use ps_changes::Change;
 use ps_lines::Known;
+use ps_rows::Change;
 use ps_sql_eval::Asker;
 use ps_values::{Items, Text};
 

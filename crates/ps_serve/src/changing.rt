@@ -1,7 +1,7 @@
 //! Requests that change the store.
 
 ghost use Rattle.std.specs.Prelude.{◌≡◌, ◌≤◌, ◌<◌, List, length, All};
-ghost use Rattle.ps_changes.specs.declared.changes.Change.{Change as ChangeSeen};
+ghost use Rattle.ps_rows.specs.declared.changes.Change.{Change as ChangeSeen};
 ghost use Rattle.ps_store.specs.declared.events.Event.{Event as EventSeen};
 ghost use Rattle.ps_store.specs.declared.fixed.Fixed.{Fixed as FixedSeen};
 ghost use Rattle.ps_store.specs.Stores.{StoreStandsFor};
@@ -12,8 +12,8 @@ ghost use Rattle.ps_serve.specs.Changing.{AnswersNumber, AnswersUpload};
 use crate::ends::End;
 use crate::refusals::Refusal;
 use crate::writing::{answer_with, number_body, position_body, refuse};
-use ps_changes::Change;
 use ps_io::Sink;
+use ps_rows::Change;
 use ps_store::{FeedFault, Store};
 use ps_values::{Items, Memory, Position, Text};
 use ps_write_cp::NumberFault;

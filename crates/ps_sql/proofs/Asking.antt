@@ -3,29 +3,29 @@ use Rattle.std.proofs.Common.{◌≡◌, ℕ, pos, Bool, true, false, cond, List
 use Rattle.std.specs.Prelude.{Result, Ok, Err, ◌||◌, not, codes}
 use Rattle.std.specs.List.{list_any}
 use Rattle.ps_sql.specs.declared.words.Lexeme.{Lexeme}
-use Rattle.ps_sql.specs.declared.expressions.Expr.{Expr, fold-roll-Expr}
-use Rattle.ps_sql.specs.declared.expressions.Expr.TheOpen as layers
-use Rattle.ps_sql.specs.declared.expressions.Expr.TheVariants as exprs
-use Rattle.ps_sql.specs.declared.expressions.Operator.{Operator}
-use Rattle.ps_sql.specs.declared.expressions.Function.{Function}
-use Rattle.ps_sql.specs.declared.queries.Output.{Output}
-use Rattle.ps_sql.specs.declared.queries.ParameterQuery.{ParameterQuery}
-use Rattle.ps_sql.specs.declared.queries.DataQuery.{DataQuery}
+use Rattle.ps_queries.specs.declared.expressions.Expr.{Expr, fold-roll-Expr}
+use Rattle.ps_queries.specs.declared.expressions.Expr.TheOpen as layers
+use Rattle.ps_queries.specs.declared.expressions.Expr.TheVariants as exprs
+use Rattle.ps_queries.specs.declared.expressions.Operator.{Operator}
+use Rattle.ps_queries.specs.declared.expressions.Function.{Function}
+use Rattle.ps_queries.specs.declared.queries.Output.{Output}
+use Rattle.ps_queries.specs.declared.queries.ParameterQuery.{ParameterQuery}
+use Rattle.ps_queries.specs.declared.queries.DataQuery.{DataQuery}
 use Rattle.ps_sql.specs.declared.faults.SqlFault.{SqlFault}
 use Rattle.ps_sql.specs.declared.contexts.Context.{Context}
 use Rattle.ps_sql.specs.declared.contexts.Listed.{Listed}
-use Rattle.ps_sql.specs.declared.subjects.Subject.{Subject}
-use Rattle.ps_sql.specs.declared.subjects.Subject.TheVariants as subjects
+use Rattle.ps_queries.specs.declared.subjects.Subject.{Subject}
+use Rattle.ps_queries.specs.declared.subjects.Subject.TheVariants as subjects
 use Rattle.ps_sql.specs.Words.{same_word}
 use Rattle.ps_sql.specs.Inputs.{◌>>=◌}
 use Rattle.ps_sql.specs.Grammar.{request_value}
 use Rattle.ps_sql.specs.Answers.{input_of}
 use Rattle.ps_sql.specs.Queries.{parameter_query, data_query}
 use Rattle.ps_sql.specs.Readings.{lexemes_of, parameter_query_of, data_query_of}
-use Rattle.ps_sql.specs.Subjects.{any_true, layer_speaks, speaks, is_asker}
+use Rattle.ps_queries.specs.Subjects.{any_true, layer_speaks, speaks, is_asker, condition_speaks, query_speaks}
 use Rattle.ps_sql.specs.Spelled.{Rule, Spells, alone, between, is_null, is_not_null, not_negated, negated, number, negative, text, null, true_word, false_word, column, qualified, bucket, request, token_user, call, cast, brackets, AreArguments, first, further}
 use Rattle.ps_sql.specs.SpelledQueries.{IsOutput, named, own, IsItem, star, output, AreItems, last, further as further_items, AreOutputs, no_outputs, outputs, IsCondition, no_condition, filter, IsParameterQuery, IsDataQuery}
-use Rattle.ps_sql.specs.Asking.{condition_speaks, query_speaks, DataQueriesAskNobody, ParameterQueriesNameNoBucket}
+use Rattle.ps_sql.specs.Asking.{DataQueriesAskNobody, ParameterQueriesNameNoBucket}
 use Rattle.ps_sql.proofs.FoundQueries.{parameter_query_found, data_query_found}
 
 -- the asker is left out of data queries, and the bucket of parameter queries

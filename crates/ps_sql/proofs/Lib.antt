@@ -3,14 +3,12 @@ pub mod Calm
 pub mod Cuts
 pub mod Decimals
 pub mod Scopes
-pub mod ValueExamples
 pub mod Found
 pub mod FoundQueries
 pub mod GrammarLaws
 pub mod LexemeLaws
 pub mod Only
 pub mod OnlyQueries
-pub mod SubjectLaws
 pub mod QueryLaws
 pub mod Quotes
 pub mod Readings

@@ -6,10 +6,10 @@ use Rattle.ps_sql.specs.declared.words.Word.TheVariants as words
 use Rattle.ps_sql.specs.declared.words.Keyword.TheVariants as keywords
 use Rattle.ps_sql.specs.declared.words.Mark.TheVariants as marks
 use Rattle.ps_sql.specs.declared.words.Lexeme.{Lexeme}
-use Rattle.ps_sql.specs.declared.expressions.Expr.{Expr}
-use Rattle.ps_sql.specs.declared.queries.Output.{Output}
-use Rattle.ps_sql.specs.declared.queries.ParameterQuery.{ParameterQuery}
-use Rattle.ps_sql.specs.declared.queries.DataQuery.{DataQuery}
+use Rattle.ps_queries.specs.declared.expressions.Expr.{Expr}
+use Rattle.ps_queries.specs.declared.queries.Output.{Output}
+use Rattle.ps_queries.specs.declared.queries.ParameterQuery.{ParameterQuery}
+use Rattle.ps_queries.specs.declared.queries.DataQuery.{DataQuery}
 use Rattle.ps_sql.specs.declared.faults.SqlFault.{SqlFault}
 use Rattle.ps_sql.specs.declared.contexts.Scope.TheVariants as scopes
 use Rattle.ps_sql.specs.declared.contexts.Context.{Context}

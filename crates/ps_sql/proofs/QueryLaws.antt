@@ -7,13 +7,13 @@ use Rattle.ps_sql.specs.declared.contexts.Listed.{Listed}
 use Rattle.ps_sql.specs.declared.contexts.Body.{Body}
 use Rattle.ps_sql.specs.declared.contexts.Scope.TheVariants as scopes
 use Rattle.ps_sql.specs.declared.words.Keyword.TheVariants as keywords
-use Rattle.ps_sql.specs.declared.expressions.Expr.{Expr}
+use Rattle.ps_queries.specs.declared.expressions.Expr.{Expr}
 use Rattle.ps_sql.specs.Grammar.{expr}
 use Rattle.ps_sql.specs.Inputs.{Input, ◌>>=◌, next, here, past, is_mark, is_keyword, refusal, expect_keyword, expect_name}
 use Rattle.ps_sql.specs.Queries.{own_name, begins_clause, own_output, own_or, output_name, output, item, items, outputs, condition, finish, ending, body, parameters_of, scope_of, table_clause, data_of, source, parameter_query, data_query}
 use Rattle.ps_sql.specs.SpelledQueries.{IsParameterQuery, IsDataQuery}
-use Rattle.ps_sql.specs.declared.queries.ParameterQuery.{ParameterQuery}
-use Rattle.ps_sql.specs.declared.queries.DataQuery.{DataQuery}
+use Rattle.ps_queries.specs.declared.queries.ParameterQuery.{ParameterQuery}
+use Rattle.ps_queries.specs.declared.queries.DataQuery.{DataQuery}
 use Rattle.ps_sql.proofs.GrammarLaws.{same_steps, grouped}
 use Rattle.ps_sql.proofs.Calm.{Calm, parameter_calm, data_calm}
 use Rattle.ps_sql.proofs.FoundQueries.{parameter_query_found, data_query_found}

@@ -3,8 +3,8 @@ use Rattle.std.proofs.Common.{◌≡◌, ℕ, zero, suc, ◌+◌, ◌≤◌, Boo
 use Rattle.std.specs.Prelude.{if◌then◌else◌}
 use Rattle.ps_sql.specs.declared.words.Word.{Word}
 use Rattle.ps_sql.specs.declared.words.Lexeme.{Lexeme}
-use Rattle.ps_sql.specs.declared.queries.ParameterQuery.{ParameterQuery}
-use Rattle.ps_sql.specs.declared.queries.DataQuery.{DataQuery}
+use Rattle.ps_queries.specs.declared.queries.ParameterQuery.{ParameterQuery}
+use Rattle.ps_queries.specs.declared.queries.DataQuery.{DataQuery}
 use Rattle.ps_sql.specs.declared.faults.SqlFault.{SqlFault}
 use Rattle.ps_sql.specs.declared.faults.SqlFault.TheVariants as faults
 use Rattle.ps_sql.specs.Words.{is_blank, word_at}

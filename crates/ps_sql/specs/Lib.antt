@@ -3,15 +3,9 @@ pub mod Asking
 pub mod Grammar
 pub mod Inputs
 pub mod Lexemes
-pub mod Json
-pub mod Meaning
-pub mod Objects
-pub mod Subjects
 pub mod Queries
 pub mod Readings
 pub mod Spelled
 pub mod SpelledQueries
 pub mod Spellings
-pub mod ValueLaws
-pub mod Vectors
 pub mod Words

@@ -2,11 +2,11 @@
 use Rattle.std.specs.Prelude.{ℕ, zero, suc, Bool, true, false, not, ◌&&◌, ◌||◌, if◌then◌else◌, List, [], ◌∷◌, ◌++◌, Option, Some, None, is_some, Result, Ok, Err, codes}
 use Rattle.ps_sql.specs.declared.words.Keyword.TheVariants as keywords
 use Rattle.ps_sql.specs.declared.words.Mark.TheVariants as marks
-use Rattle.ps_sql.specs.declared.expressions.Expr.{Expr}
-use Rattle.ps_sql.specs.declared.expressions.Expr.TheVariants as exprs
-use Rattle.ps_sql.specs.declared.queries.Output.{Output}
-use Rattle.ps_sql.specs.declared.queries.ParameterQuery.{ParameterQuery}
-use Rattle.ps_sql.specs.declared.queries.DataQuery.{DataQuery}
+use Rattle.ps_queries.specs.declared.expressions.Expr.{Expr}
+use Rattle.ps_queries.specs.declared.expressions.Expr.TheVariants as exprs
+use Rattle.ps_queries.specs.declared.queries.Output.{Output}
+use Rattle.ps_queries.specs.declared.queries.ParameterQuery.{ParameterQuery}
+use Rattle.ps_queries.specs.declared.queries.DataQuery.{DataQuery}
 use Rattle.ps_sql.specs.declared.contexts.Scope.{Scope}
 use Rattle.ps_sql.specs.declared.contexts.Scope.TheVariants as scopes
 use Rattle.ps_sql.specs.declared.contexts.Context.{Context}

@@ -2,8 +2,8 @@
 use Rattle.std.specs.Prelude.{ℕ, zero, suc, ◌+◌, if◌then◌else◌, List, [], ◌∷◌, drop, length, Option, Some, None, Result, Ok, Err}
 use Rattle.ps_sql.specs.declared.words.Word.{Word}
 use Rattle.ps_sql.specs.declared.words.Lexeme.{Lexeme}
-use Rattle.ps_sql.specs.declared.queries.ParameterQuery.{ParameterQuery}
-use Rattle.ps_sql.specs.declared.queries.DataQuery.{DataQuery}
+use Rattle.ps_queries.specs.declared.queries.ParameterQuery.{ParameterQuery}
+use Rattle.ps_queries.specs.declared.queries.DataQuery.{DataQuery}
 use Rattle.ps_sql.specs.declared.faults.SqlFault.{SqlFault}
 use Rattle.ps_sql.specs.declared.faults.SqlFault.TheVariants as faults
 use Rattle.ps_sql.specs.Words.{is_blank, word_at}

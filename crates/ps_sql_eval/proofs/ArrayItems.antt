@@ -8,7 +8,7 @@ use Rattle.serde_json.specs.declared.value.Value.{Value as Json}
 use Rattle.ps_values.specs.declared.values.Value.{Value}
 use Rattle.ps_values.specs.Values.{equal_sql}
 use Rattle.ps_values.specs.Conversions.{value_of as json_value}
-use Rattle.ps_sql.specs.Meaning.{is_true, any_equals}
+use Rattle.ps_queries.specs.Meaning.{is_true, any_equals}
 use Rattle.ps_sql_eval.specs.Evaluated.{values_of_items}
 use Rattle.ps_sql_eval.proofs.Floats.{left, right}
 

@@ -2,16 +2,16 @@
 use Rattle.std.proofs.Common.{◌≡◌, ℕ, false, List, map, sym, ap, ◌∙◌}
 use Rattle.std.specs.Prelude.{Result, Ok, Err, IfOk}
 use Rattle.ps_values.specs.declared.values.Value.{Value}
-use Rattle.ps_sql.specs.declared.expressions.Expr.{Expr}
-use Rattle.ps_sql.specs.declared.expressions.Expr.TheVariants as exprs
-use Rattle.ps_sql.specs.declared.expressions.Function.{Function}
-use Rattle.ps_sql.specs.Meaning.{Given, value_of, call_value}
+use Rattle.ps_queries.specs.declared.expressions.Expr.{Expr}
+use Rattle.ps_queries.specs.declared.expressions.Expr.TheVariants as exprs
+use Rattle.ps_queries.specs.declared.expressions.Function.{Function}
+use Rattle.ps_queries.specs.Meaning.{Given, value_of, call_value}
 use Rattle.ps_values.specs.declared.columns.Column.{Column}
-use Rattle.ps_sql.specs.declared.subjects.Subject.TheVariants as subjects
-use Rattle.ps_sql.specs.Subjects.{speaks, IsSameForEveryAsker, IsSameForEveryBucket}
+use Rattle.ps_queries.specs.declared.subjects.Subject.TheVariants as subjects
+use Rattle.ps_queries.specs.Subjects.{speaks, IsSameForEveryAsker, IsSameForEveryBucket}
 use Rattle.ps_sql_eval.specs.declared.askers.Asker.{Asker}
 use Rattle.ps_sql_eval.specs.Evaluated.{asker_of, given_of, without_bucket, IsValueFor, IsValueOn}
-use Rattle.ps_sql.specs.ValueLaws.{value_of-Call}
+use Rattle.ps_queries.specs.ValueLaws.{value_of-Call}
 
 pub call_is : {E : Type 0} (given : Given) (expr : Expr) (function : Function) (arguments passed : List Expr) (r : Result Value E) → expr ≡ exprs.Call function arguments → passed ≡ arguments
     → IfOk r (λ value. value ≡ call_value function (map (value_of given) passed)) → IfOk r (λ value. value ≡ value_of given expr)

@@ -10,7 +10,7 @@ use Rattle.serde_json.specs.Find.{get, at, get_member, get_item}
 use Rattle.serde_json.specs.Written.{has_float, items_have_float, members_have_float}
 use Rattle.ps_values.specs.declared.values.Value.{Value}
 use Rattle.ps_values.specs.declared.values.Value.TheVariants.{Null, Int, Text}
-use Rattle.ps_sql.specs.Meaning.{member_at}
+use Rattle.ps_queries.specs.Meaning.{member_at}
 
 pub left : (a b : Bool) → (a || b) ≡ false → a ≡ false
 left false b h = refl

@@ -4,9 +4,9 @@ use Rattle.std.specs.Prelude.{◌&&◌}
 use Rattle.std.specs.List.{list_any}
 use Rattle.ps_values.specs.declared.values.Value.{Value}
 use Rattle.ps_values.specs.Values.{is_null}
-use Rattle.ps_sql.specs.declared.queries.ParameterQuery.{ParameterQuery}
-use Rattle.ps_sql.specs.Meaning.{Asker, holds}
-use Rattle.ps_sql.specs.Vectors.{SourceRow, asked_of, vector_values, vector_on}
+use Rattle.ps_queries.specs.declared.queries.ParameterQuery.{ParameterQuery}
+use Rattle.ps_queries.specs.Meaning.{Asker, holds}
+use Rattle.ps_queries.specs.Vectors.{SourceRow, asked_of, vector_values, vector_on}
 
 module _ (names : List (List ℕ)) (asker : Asker) (query : ParameterQuery) (row : SourceRow) where
   -- where the condition holds, by whether a value is Null

@@ -15,8 +15,8 @@ use Rattle.std.proofs.lemmas.Map.Text.{is_eq-slice_cmp}
 use Rattle.std.proofs.lemmas.Slice.Eq.{bytes_eq-Decides}
 use Rattle.ps_values.specs.declared.columns.Column.{Column}
 use Rattle.ps_values.specs.declared.values.Value.TheVariants.{Null}
-use Rattle.ps_changes.specs.Rows.{is_id, rises_from, is_row}
-use Rattle.ps_sql.specs.Meaning.{value_in}
+use Rattle.ps_rows.specs.Rows.{is_id, rises_from, is_row}
+use Rattle.ps_queries.specs.Meaning.{value_in}
 
 left : (a b : Bool) → (a && b) ≡ true → a ≡ true
 left true b h = refl

@@ -3,10 +3,10 @@ use Rattle.std.proofs.Common.{◌≡◌, ℕ, Bool, true, List, [], ◌++◌, ma
 use Rattle.std.specs.Prelude.{if◌then◌else◌}
 use Rattle.ps_values.specs.declared.columns.Column.{Column}
 use Rattle.ps_values.specs.Documents.{document_of}
-use Rattle.ps_sql.specs.declared.queries.Output.{Output}
-use Rattle.ps_sql.specs.declared.queries.DataQuery.{DataQuery}
-use Rattle.ps_sql.specs.Meaning.{Given}
-use Rattle.ps_sql.specs.Objects.{output_column, shown_columns, content_of}
+use Rattle.ps_queries.specs.declared.queries.Output.{Output}
+use Rattle.ps_queries.specs.declared.queries.DataQuery.{DataQuery}
+use Rattle.ps_queries.specs.Meaning.{Given}
+use Rattle.ps_queries.specs.Objects.{output_column, shown_columns, content_of}
 
 -- the columns that are shown are the row's
 pub starred_alone : (given : Given) (query : DataQuery) (object : List ℕ) (columns : List Column) → query.star ≡ true → query.outputs ≡ [] → columns ≡ given.row

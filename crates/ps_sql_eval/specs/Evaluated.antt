@@ -2,13 +2,13 @@
 use Rattle.std.specs.Prelude.{◌≡◌, ℕ, List, [], ◌∷◌, Option, Some, None}
 use Rattle.serde_json.specs.Data.{Data, Items, no_items, item}
 use Rattle.ps_values.specs.Conversions.{value_of as json_value}
-use Rattle.ps_sql.specs.Json.{plain_json}
+use Rattle.ps_queries.specs.Json.{plain_json}
 use Rattle.ps_values.specs.declared.columns.Column.{Column}
 use Rattle.ps_values.specs.declared.values.Value.{Value}
 use Rattle.ps_values.specs.declared.values.Value.TheVariants.{Null, Int, Text}
-use Rattle.ps_sql.specs.declared.expressions.Expr.{Expr}
-use Rattle.ps_sql.specs.Meaning.{Given, value_of}
-use Rattle.ps_sql.specs.Meaning as meaning
+use Rattle.ps_queries.specs.declared.expressions.Expr.{Expr}
+use Rattle.ps_queries.specs.Meaning.{Given, value_of}
+use Rattle.ps_queries.specs.Meaning as meaning
 use Rattle.ps_sql_eval.specs.declared.askers.Asker.{Asker}
 
 -- an asker by its texts

@@ -2,7 +2,7 @@ ghost use Rattle.std.specs.Prelude.{◌≡◌, false, IfOk};
 ghost use Rattle.serde_json.specs.Find.{as_array};
 ghost use Rattle.serde_json.specs.View.{view, items_view};
 ghost use Rattle.serde_json.specs.Written.{has_float, items_have_float};
-ghost use Rattle.ps_sql.specs.Meaning.{array_of};
+ghost use Rattle.ps_queries.specs.Meaning.{array_of};
 ghost use Rattle.ps_sql_eval.specs.Evaluated.{values_of_items, values_in};
 
 use crate::members::{json_of, value_of_plain};

@@ -1,7 +1,7 @@
 ghost use Rattle.std.specs.Prelude.{◌≡◌, false, map, [], ◌∷◌, IfOk};
-ghost use Rattle.ps_sql.specs.Meaning.{value_of, two_value, call_value};
-ghost use Rattle.ps_sql.specs.declared.subjects.Subject.TheVariants as subjects;
-ghost use Rattle.ps_sql.specs.Subjects.{speaks};
+ghost use Rattle.ps_queries.specs.Meaning.{value_of, two_value, call_value};
+ghost use Rattle.ps_queries.specs.declared.subjects.Subject.TheVariants as subjects;
+ghost use Rattle.ps_queries.specs.Subjects.{speaks};
 ghost use Rattle.ps_sql_eval.specs.Evaluated.{given_of, without_bucket, IsValueFor, IsValueOn};
 
 use crate::Asker;
@@ -13,8 +13,8 @@ use crate::truths::{
     bool_value, greater, greater_or_equal, greatest, least, less, less_or_equal, opposite,
     truth_value,
 };
-use ps_changes::Row;
-use ps_sql::{Expr, Function, Operator, same_for_every_asker, same_for_every_bucket};
+use ps_queries::{Expr, Function, Operator, same_for_every_asker, same_for_every_bucket};
+use ps_rows::Row;
 use ps_values::{Memory, Text, Truth, Value, equal_sql, truth_of};
 use std::alloc::Global;
 

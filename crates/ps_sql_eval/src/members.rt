@@ -4,7 +4,7 @@ ghost use Rattle.ps_sql_eval.specs.Evaluated.{json_in};
 ghost use Rattle.serde_json.specs.View.{view, items_view};
 ghost use Rattle.serde_json.specs.Written.{has_float, items_have_float};
 ghost use Rattle.ps_values.specs.Conversions.{value_of as value_of_data};
-ghost use Rattle.ps_sql.specs.Meaning.{any_equals as any_equals_of, array_of, within_items as within_items_of, member_at, member_of, member_text, member_value};
+ghost use Rattle.ps_queries.specs.Meaning.{any_equals as any_equals_of, array_of, within_items as within_items_of, member_at, member_of, member_text, member_value};
 
 use crate::truths::bool_value;
 use ps_values::{Memory, Text, Truth, Value, equal_sql, plain_json, text_of_json};
@@ -42,7 +42,7 @@ fn any_equals(alloc: Global, x: &Value, items: &Vec<Json>) -> Result<bool, Memor
 }
 
 /// The JSON that a text holds; none where the value is no text, or its text no JSON.
-#[tactic(auto, unfolding(ps_sql::specs::Json::plain_json))]
+#[tactic(auto, unfolding(ps_queries::specs::Json::plain_json))]
 pub(crate) fn json_of(alloc: Global, value: &Value) -> Result<Option<Json>, Memory>
     ensures json { IfOk result (λ json. option_map view json ≡ json_in value.now) }
     ensures floatless { IfOk result (λ json. IfSome json (λ json. has_float (view json) ≡ false)) }

@@ -1,20 +1,20 @@
 //! The object that a data query shows for a row: docs/FORMATS.md, "Rules files".
 
 ghost use Rattle.std.specs.Prelude.{◌≡◌, [], ◌++◌, IfOk, if◌then◌else◌, map};
-ghost use Rattle.ps_sql.specs.Objects.{id_value as id_value_of, object_id as object_id_of, shown_columns as columns_shown, content_of, output_column};
+ghost use Rattle.ps_queries.specs.Objects.{id_value as id_value_of, object_id as object_id_of, shown_columns as columns_shown, content_of, output_column};
 ghost use Rattle.ps_sql_eval.specs.Evaluated.{without_bucket};
 
 use crate::Asker;
 use crate::evaluations::eval_without_bucket;
 use crate::texts::text_of;
-use ps_changes::{Column, Row};
-use ps_sql::{DataQuery, Output};
-use ps_values::{Items, Memory, Text, Value, copy_all, document};
+use ps_queries::{DataQuery, Output};
+use ps_rows::Row;
+use ps_values::{Column, Items, Memory, Text, Value, copy_all, document};
 use std::alloc::Global;
 
 /// The id of the object that a data query shows an asker for a row, where every parameter of a bucket is Null: the text of its output
 /// `id`, or the row's id where `*` shows it. None where that is Null, and the query shows no object.
-#[tactic(auto, unfolding(ps_sql::specs::Objects::object_id))]
+#[tactic(auto, unfolding(ps_queries::specs::Objects::object_id))]
 pub fn object_id(
     alloc: Global,
     query: &DataQuery,
@@ -52,7 +52,7 @@ fn id_value(
 
 /// The data of an object that a data query shows an asker for a row: the compact JSON object of all outputs, with its id as a text.
 /// Where the query shows `*` alone, no column is copied.
-#[tactic(auto, using(crate::proofs::Starred::starred_alone), unfolding(ps_sql::specs::Objects::content_of))]
+#[tactic(auto, using(crate::proofs::Starred::starred_alone), unfolding(ps_queries::specs::Objects::content_of))]
 pub fn content(
     alloc: Global,
     query: &DataQuery,
@@ -71,7 +71,7 @@ pub fn content(
 }
 
 // The columns that a query shows: of one name the last counts.
-#[tactic(auto, unfolding(ps_sql::specs::Objects::shown_columns))]
+#[tactic(auto, unfolding(ps_queries::specs::Objects::shown_columns))]
 fn shown_columns(
     alloc: Global,
     query: &DataQuery,

@@ -2,7 +2,7 @@ ghost use Rattle.std.specs.Prelude.{◌≡◌, ◌++◌, pos, length as count, I
 ghost use Rattle.std.specs.Str.{chars};
 ghost use Rattle.ps_values.specs.declared.values.Value.TheVariants as values;
 ghost use Rattle.std.specs.Char.{to_ascii_uppercase, to_ascii_lowercase};
-ghost use Rattle.ps_sql.specs.Meaning.{text_of as text_in, text_value, joined, length_value, type_text};
+ghost use Rattle.ps_queries.specs.Meaning.{text_of as text_in, text_value, joined, length_value, type_text};
 
 use ps_values::{Memory, Text, Value, decimal};
 use std::alloc::Global;

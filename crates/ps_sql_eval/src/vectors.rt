@@ -4,14 +4,14 @@ ghost use Rattle.std.specs.Prelude.{◌≡◌, Some, IfOk, map};
 ghost use Rattle.std.specs.List.{list_any};
 ghost use Rattle.std.specs.Option.{option_to_list};
 ghost use Rattle.ps_values.specs.Values.{is_null};
-ghost use Rattle.ps_sql.specs.Meaning.{holds as holds_for};
-ghost use Rattle.ps_sql.specs.Vectors.{output_value as value_of_output, vector_on as vectors_on, at_row};
+ghost use Rattle.ps_queries.specs.Meaning.{holds as holds_for};
+ghost use Rattle.ps_queries.specs.Vectors.{output_value as value_of_output, vector_on as vectors_on, at_row};
 ghost use Rattle.ps_sql_eval.specs.Evaluated.{asker_of, without_bucket};
 
 use crate::Asker;
 use crate::evaluations::eval_without_bucket;
-use ps_changes::Row;
-use ps_sql::{Expr, Output, ParameterQuery};
+use ps_queries::{Expr, Output, ParameterQuery};
+use ps_rows::Row;
 use ps_values::{Items, Memory, Text, Truth, Value, truth_of};
 use std::alloc::Global;
 

@@ -4,8 +4,8 @@ use Rattle.std.specs.Prelude.{if◌then◌else◌, nat_le}
 use Rattle.std.proofs.lemmas.Bool.Decides.{nat_tests}
 use Rattle.ps_store.specs.declared.reach.End.{End}
 use Rattle.ps_store.specs.declared.rows.Rows.{Rows}
-use Rattle.ps_changes.specs.Source.{Key}
-use Rattle.ps_rules.specs.declared.definitions.Definition.{Definition}
+use Rattle.ps_rows.specs.Source.{Key}
+use Rattle.ps_definitions.specs.declared.definitions.Definition.{Definition}
 use Rattle.ps_params.specs.Indexes.{is_read}
 use Rattle.ps_params.specs.Notes.{Note, SameFrom}
 use Rattle.ps_values.specs.declared.columns.Column.{Column}

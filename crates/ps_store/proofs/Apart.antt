@@ -5,9 +5,9 @@ use Rattle.std.specs.Ordering.{is_eq, eq_by_cmp}
 use Rattle.std.specs.FinMap.Entries.{find, is_sorted}
 use Rattle.std.proofs.lemmas.Option.{same_Some}
 use Rattle.ps_values.specs.declared.columns.Column.{Column}
-use Rattle.ps_changes.specs.Source.{Key, key_cmp, Version, Source, after_row}
-use Rattle.ps_changes.specs.Keys.{keys_exact, find-after_row, sorted-after_row}
-use Rattle.ps_rules.specs.declared.definitions.Definition.{Definition}
+use Rattle.ps_rows.specs.Source.{Key, key_cmp, Version, Source, after_row}
+use Rattle.ps_rows.specs.Keys.{keys_exact, find-after_row, sorted-after_row}
+use Rattle.ps_definitions.specs.declared.definitions.Definition.{Definition}
 use Rattle.ps_store.specs.Originals.{Timed, key_of, after, change_ops}
 use Rattle.ps_store.specs.Steps.{Step, source_after}
 use Rattle.ps_store.proofs.Moments.{IsEarlier, IsReached}

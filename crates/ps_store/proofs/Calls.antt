@@ -7,9 +7,9 @@ use Rattle.ps_write_cp.specs.declared.faults.NumberFault.{NumberFault}
 use Rattle.ps_write_cp.specs.declared.faults.NumberFault.TheVariants as numbering
 use Rattle.ps_write_cp.specs.Kept.{Kept, heads_at, StandsFor, HaveSame, Answers}
 use Rattle.ps_write_cp.specs.Numbers.{Made}
-use Rattle.ps_changes.specs.declared.changes.Change.{Change}
-use Rattle.ps_changes.specs.declared.changes.Transaction.{Transaction}
-use Rattle.ps_changes.specs.Source.{Key}
+use Rattle.ps_rows.specs.declared.changes.Change.{Change}
+use Rattle.ps_rows.specs.declared.changes.Transaction.{Transaction}
+use Rattle.ps_rows.specs.Source.{Key}
 use Rattle.ps_params.specs.Indexes.{Index}
 use Rattle.ps_params.specs.Notes.{Note, SameFrom}
 use Rattle.ps_store.specs.declared.events.Event.{Event}

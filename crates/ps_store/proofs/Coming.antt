@@ -1,6 +1,6 @@
 -- One more event of a history.
 use Rattle.std.proofs.Common.{◌≡◌, List, [], ◌∷◌, ◌++◌, sym, ◌∙◌, subst, fold}
-use Rattle.ps_rules.specs.RuleSets.{RuleSet}
+use Rattle.ps_definitions.specs.RuleSets.{RuleSet}
 use Rattle.ps_store.specs.declared.events.Event.{Event}
 use Rattle.ps_store.specs.declared.fixed.Fixed.{Fixed}
 use Rattle.ps_store.specs.declared.stores.Store.{Store}

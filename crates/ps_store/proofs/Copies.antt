@@ -17,34 +17,34 @@ use Rattle.ps_values.specs.declared.values.Truth.{Truth}
 use Rattle.ps_values.specs.declared.values.Truth.TheVariants.{True, False, Unknown}
 use Rattle.ps_values.specs.Values.{truth_of}
 use Rattle.ps_values.specs.Documents.{document_of}
-use Rattle.ps_changes.specs.Source.{Key, key_cmp, Version, Source}
-use Rattle.ps_changes.specs.Keys.{keys_total, keys_exact}
-use Rattle.ps_sql.specs.declared.expressions.Expr.{Expr}
-use Rattle.ps_sql.specs.declared.queries.Output.{Output}
-use Rattle.ps_sql.specs.declared.queries.DataQuery.{DataQuery}
-use Rattle.ps_sql.specs.declared.queries.ParameterQuery.{ParameterQuery}
-use Rattle.ps_sql.specs.declared.subjects.Subject.TheVariants as subjects
-use Rattle.ps_sql.specs.Meaning.{Asker, Given, value_of, text_of, is_true, Holds, holds}
-use Rattle.ps_sql.specs.Subjects.{speaks, IsSameForEveryAsker}
-use Rattle.ps_sql.specs.Asking.{condition_speaks}
-use Rattle.ps_rules.specs.declared.definitions.Definition.{Definition}
-use Rattle.ps_rules.specs.declared.queries.Planned.{Planned}
-use Rattle.ps_rules.specs.Names.{is_in, has_repeated}
-use Rattle.ps_rules.specs.Checks.{names_of}
-use Rattle.ps_rules.specs.RuleSets.{RuleSet, AreRules, IsSound, IsSoundQuery}
-use Rattle.ps_sql.specs.Vectors.{SourceRow, asked_of, vector_values, vector_on}
-use Rattle.ps_rules.specs.Vectors.{rows_read, query_vectors, parameter_vectors}
+use Rattle.ps_rows.specs.Source.{Key, key_cmp, Version, Source}
+use Rattle.ps_rows.specs.Keys.{keys_total, keys_exact}
+use Rattle.ps_queries.specs.declared.expressions.Expr.{Expr}
+use Rattle.ps_queries.specs.declared.queries.Output.{Output}
+use Rattle.ps_queries.specs.declared.queries.DataQuery.{DataQuery}
+use Rattle.ps_queries.specs.declared.queries.ParameterQuery.{ParameterQuery}
+use Rattle.ps_queries.specs.declared.subjects.Subject.TheVariants as subjects
+use Rattle.ps_queries.specs.Meaning.{Asker, Given, value_of, text_of, is_true, Holds, holds}
+use Rattle.ps_queries.specs.Subjects.{speaks, IsSameForEveryAsker}
+use Rattle.ps_queries.specs.Subjects.{condition_speaks}
+use Rattle.ps_definitions.specs.declared.definitions.Definition.{Definition}
+use Rattle.ps_definitions.specs.declared.queries.Planned.{Planned}
+use Rattle.ps_definitions.specs.Names.{is_in, has_repeated}
+use Rattle.ps_definitions.specs.Checks.{names_of}
+use Rattle.ps_definitions.specs.RuleSets.{RuleSet, AreRules, IsSound, IsSoundQuery}
+use Rattle.ps_queries.specs.Vectors.{SourceRow, asked_of, vector_values, vector_on}
+use Rattle.ps_definitions.specs.Vectors.{rows_read, query_vectors, parameter_vectors}
 use Rattle.ps_grant.specs.declared.copies.Granted.{Granted}
 use Rattle.ps_grant.specs.Sources.{row_of as read_row, rows_in}
 use Rattle.ps_grant.specs.Grants.{given_for, holds_for_some, is_granted, copy_with, copy_of, grant_of, granted_by_query, granted_by, granted}
 use Rattle.ps_bucket_eval.specs.declared.placed.Placed.{Placed}
-use Rattle.ps_rules.specs.Buckets.{bucket_name_of, in_order}
-use Rattle.ps_sql.specs.Objects.{value_named, object_id, output_column, shown_columns, content_of}
+use Rattle.ps_definitions.specs.Buckets.{bucket_name_of, in_order}
+use Rattle.ps_queries.specs.Objects.{value_named, object_id, output_column, shown_columns, content_of}
 use Rattle.ps_sql_eval.specs.Evaluated.{nobody}
 use Rattle.ps_bucket_eval.specs.Shown.{alone}
 use Rattle.ps_bucket_eval.specs.Vectors.{with_vector, holding}
 use Rattle.ps_bucket_eval.specs.Entries.{RowOf, placed_in, entry_of, placed_all, buckets_of, query_entries, definition_entries, entries_of}
-use Rattle.ps_rules.specs.Laws.{NamesDiffer}
+use Rattle.ps_definitions.specs.Laws.{NamesDiffer}
 use Rattle.ps_bucket_eval.specs.Laws.{IsVectorOf, PlacedWhereItHolds}
 use Rattle.ps_store.specs.Originals.{row_of}
 use Rattle.ps_store.specs.Standing.{Standing, IsCopyOf}

@@ -14,17 +14,17 @@ use Rattle.ps_bucket_log.specs.declared.ops.Key.{Key}
 use Rattle.ps_bucket_log.specs.declared.ops.Op.{Op}
 use Rattle.ps_compact.specs.Laws.{CompactedStands}
 use Rattle.ps_bucket_log.specs.Laws.{GrowsLater, StandsLater, StandsForItself}
-use Rattle.ps_changes.specs.declared.changes.Transaction.{Transaction}
+use Rattle.ps_rows.specs.declared.changes.Transaction.{Transaction}
 use Rattle.ps_write_cp.specs.Kept.{Rises}
 use Rattle.ps_write_cp.specs.Laws.{HasHead, IsGreatestReached, CoveredIsGreatest, CoversAllBefore}
 use Rattle.ps_write_cp.specs.Numbers.{Made, is_of, covered}
-use Rattle.ps_sql.specs.Meaning.{Asker}
-use Rattle.ps_rules.specs.declared.definitions.Definition.{Definition}
-use Rattle.ps_rules.specs.RuleSets.{RuleSet, AreRules, IsSound as IsSoundDefinition}
-use Rattle.ps_sql.specs.Vectors.{SourceRow}
-use Rattle.ps_rules.specs.Vectors.{parameter_vectors}
+use Rattle.ps_queries.specs.Meaning.{Asker}
+use Rattle.ps_definitions.specs.declared.definitions.Definition.{Definition}
+use Rattle.ps_definitions.specs.RuleSets.{RuleSet, AreRules, IsSound as IsSoundDefinition}
+use Rattle.ps_queries.specs.Vectors.{SourceRow}
+use Rattle.ps_definitions.specs.Vectors.{parameter_vectors}
 use Rattle.ps_grant.specs.Sources.{rows_in}
-use Rattle.ps_rules.specs.Buckets.{bucket_name_of}
+use Rattle.ps_definitions.specs.Buckets.{bucket_name_of}
 use Rattle.ps_params.specs.Names.{definition_names, bucket_names, IsTold, AreTold}
 use Rattle.ps_store.specs.declared.events.Event.{Event}
 use Rattle.ps_store.specs.declared.events.Event.TheVariants.{WriteCheckpoint}

@@ -5,12 +5,12 @@ use Rattle.std.specs.Ordering.{nat_cmp, is_le, ordering_then}
 use Rattle.std.specs.FinMap.Entries.{is_sorted}
 use Rattle.ps_bucket_log.specs.declared.ops.Op.{Op}
 use Rattle.ps_bucket_log.specs.Ops.{id_of}
-use Rattle.ps_changes.specs.declared.shown.Shown.{Shown}
-use Rattle.ps_changes.specs.Source.{Key, key_cmp, Source}
+use Rattle.ps_rows.specs.declared.shown.Shown.{Shown}
+use Rattle.ps_rows.specs.Source.{Key, key_cmp, Source}
 use Rattle.ps_client_log.specs.Rows.{HeldCopy, content_of, row_at}
 use Rattle.ps_client_log.specs.Rows as held_rows
-use Rattle.ps_sql.specs.Meaning.{Asker}
-use Rattle.ps_rules.specs.declared.definitions.Definition.{Definition}
+use Rattle.ps_queries.specs.Meaning.{Asker}
+use Rattle.ps_definitions.specs.declared.definitions.Definition.{Definition}
 use Rattle.ps_grant.specs.declared.copies.Granted.{Granted}
 use Rattle.ps_grant.specs.Grants.{granted}
 use Rattle.ps_grant.specs.Latest.{object_of, is_later, shown_of, IsLatest, row_object, by_object, AreLatest}

@@ -1,14 +1,14 @@
 -- All changes of transactions as steps whose ids follow one another.
 use Rattle.std.proofs.Common.{◌≡◌, ℕ, List, [], Option, Some, None, refl, ◌∙◌}
 use Rattle.std.specs.Prelude.{IfSome}
-use Rattle.ps_changes.specs.declared.changes.Transaction.{Transaction}
-use Rattle.ps_changes.specs.declared.shown.Shown.{Shown}
-use Rattle.ps_changes.specs.Source.{Key as Object, source_at}
+use Rattle.ps_rows.specs.declared.changes.Transaction.{Transaction}
+use Rattle.ps_rows.specs.declared.shown.Shown.{Shown}
+use Rattle.ps_rows.specs.Source.{Key as Object, source_at}
 use Rattle.ps_client_log.specs.Kept.{Kept, bucket_at}
 use Rattle.ps_client_log.specs.Rows.{IsLatestContent, row_at}
-use Rattle.ps_sql.specs.Meaning.{Asker}
-use Rattle.ps_rules.specs.declared.definitions.Definition.{Definition}
-use Rattle.ps_sql.specs.Vectors.{SourceRow}
+use Rattle.ps_queries.specs.Meaning.{Asker}
+use Rattle.ps_definitions.specs.declared.definitions.Definition.{Definition}
+use Rattle.ps_queries.specs.Vectors.{SourceRow}
 use Rattle.ps_store.specs.Originals.{timed, ops_from}
 use Rattle.ps_store.specs.Standing.{Holding}
 use Rattle.ps_store.specs.Steps.{Step, lane_ops, source_after, StepsRise}

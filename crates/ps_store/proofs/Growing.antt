@@ -15,10 +15,10 @@ use Rattle.ps_bucket_log.specs.Standing.{StandsFor}
 use Rattle.ps_bucket_log.specs.Laws.{GrowsLater, StandsLater, StandsForItself}
 use Rattle.ps_compact.specs.Compaction.{compacted}
 use Rattle.ps_compact.specs.Laws.{CompactedStands}
-use Rattle.ps_changes.specs.declared.changes.Transaction.{Transaction}
+use Rattle.ps_rows.specs.declared.changes.Transaction.{Transaction}
 use Rattle.ps_write_cp.specs.Kept.{Rises, AreUpTo}
 use Rattle.ps_write_cp.specs.Numbers.{Made, is_of, heads_of}
-use Rattle.ps_rules.specs.RuleSets.{RuleSet}
+use Rattle.ps_definitions.specs.RuleSets.{RuleSet}
 use Rattle.ps_bucket_eval.specs.declared.placed.Placed.{Placed}
 use Rattle.ps_store.specs.declared.events.Event.{Event}
 use Rattle.ps_store.specs.declared.events.Event.TheVariants.{Feed, Close, Write, Commit, Compact, WriteCheckpoint}

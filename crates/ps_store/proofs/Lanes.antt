@@ -8,8 +8,8 @@ use Rattle.std.proofs.lemmas.List.Sums.{fold-append}
 use Rattle.ps_bucket_log.specs.declared.ops.Op.{Op}
 use Rattle.ps_bucket_log.specs.Logs.{IsRising}
 use Rattle.ps_bucket_log.specs.Ops.{id_of, is_clear, newest}
-use Rattle.ps_changes.specs.Source.{Key, key_cmp, Version}
-use Rattle.ps_changes.specs.Keys.{find-after_row}
+use Rattle.ps_rows.specs.Source.{Key, key_cmp, Version}
+use Rattle.ps_rows.specs.Keys.{find-after_row}
 use Rattle.ps_bucket_eval.specs.declared.placed.Placed.{Placed}
 use Rattle.ps_store.specs.declared.fixed.Limits.{Limits}
 use Rattle.ps_store.specs.declared.plans.Refusal.{Refusal}

@@ -12,7 +12,7 @@ use Rattle.ps_bucket_log.specs.Logs.{IsRising, IsLog, AreEntries, cleared}
 use Rattle.ps_bucket_log.specs.Standing.{StandsFor}
 use Rattle.ps_bucket_log.specs.Batches.{batch_of}
 use Rattle.ps_bucket_log.specs.Laws.{StaysHonest, StaysHonestUpTo, WholeAtNewest, FreshIsHonest, HonestLater, AddsNothing, StandsForItself, StandingIsLog, WithinLevel, TargetWithinLevel, SameSums, TotalIsSum, BatchRises, ReadsLongestFront, ReadsOn}
-use Rattle.ps_changes.specs.declared.shown.Shown.{Shown}
+use Rattle.ps_rows.specs.declared.shown.Shown.{Shown}
 use Rattle.ps_params.specs.Names.{AreTold}
 use Rattle.ps_bucket_log.specs.declared.takes.TakenBucket.{TakenBucket}
 use Rattle.ps_store.specs.Courses.{Course, bucket_in}

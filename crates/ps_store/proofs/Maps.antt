@@ -10,8 +10,8 @@ use Rattle.std.specs.declared.cmp.Ordering.TheVariants.{Less, Equal, Greater}
 use Rattle.std.proofs.lemmas.Bool.Decides.{nat_tests}
 use Rattle.std.proofs.lemmas.Cmp.{same_from_slice_cmp, nat_list_eq_equiv}
 use Rattle.std.proofs.lemmas.Slice.Eq.{bytes_eq-Decides}
-use Rattle.ps_changes.specs.Source.{Key, key_cmp}
-use Rattle.ps_changes.specs.Keys.{keys_total, keys_exact}
+use Rattle.ps_rows.specs.Source.{Key, key_cmp}
+use Rattle.ps_rows.specs.Keys.{keys_total, keys_exact}
 
 -- ---- texts, and tables with ids, as keys
 

@@ -2,9 +2,9 @@
 use Rattle.std.proofs.Common.{◌≡◌, ℕ, ◌+◌, ◌<◌, ◌≤◌, cond, List, [], ◌∷◌, ◌++◌, refl, sym, ap, ◌∙◌, arith}
 use Rattle.std.specs.Prelude.{filter, nat_le}
 use Rattle.std.proofs.lemmas.Bool.{le-leb}
-use Rattle.ps_changes.specs.declared.changes.Change.{Change}
-use Rattle.ps_changes.specs.declared.changes.Transaction.{Transaction}
-use Rattle.ps_changes.specs.Source.{Source, Version, after_changes, after_transactions, source_at}
+use Rattle.ps_rows.specs.declared.changes.Change.{Change}
+use Rattle.ps_rows.specs.declared.changes.Transaction.{Transaction}
+use Rattle.ps_rows.specs.Source.{Source, Version, after_changes, after_transactions, source_at}
 use Rattle.ps_store.specs.Originals.{Timed, timed_from, timed, after}
 use Rattle.ps_store.specs.Laws.{Rises, last_position}
 

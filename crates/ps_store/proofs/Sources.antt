@@ -4,9 +4,9 @@ use Rattle.std.specs.Prelude.{if◌then◌else◌}
 use Rattle.std.specs.FinMap.Entries.{find}
 use Rattle.std.specs.Ordering.{eq_by_cmp}
 use Rattle.ps_values.specs.declared.columns.Column.{Column}
-use Rattle.ps_changes.specs.Source.{key_cmp, Key, Source, Version}
-use Rattle.ps_changes.specs.Keys.{find-after_row}
-use Rattle.ps_rules.specs.declared.definitions.Definition.{Definition}
+use Rattle.ps_rows.specs.Source.{key_cmp, Key, Source, Version}
+use Rattle.ps_rows.specs.Keys.{find-after_row}
+use Rattle.ps_definitions.specs.declared.definitions.Definition.{Definition}
 use Rattle.ps_params.specs.Notes.{Note, counts_for, row_after, SameFrom}
 use Rattle.ps_params.specs.Indexes.{is_read}
 use Rattle.ps_store.specs.Noting.{with_note}

@@ -12,10 +12,10 @@ use Rattle.ps_bucket_log.specs.declared.ops.Key.{Key as EntryKey}
 use Rattle.ps_bucket_log.specs.declared.ops.Op.{Op}
 use Rattle.ps_bucket_log.specs.Ops.{id_of}
 use Rattle.ps_bucket_log.specs.Buckets.{bucket_of, fresh}
-use Rattle.ps_changes.specs.Source.{Key, key_cmp, Version, Source}
-use Rattle.ps_changes.specs.Keys.{keys_total, keys_exact, find-after_row}
-use Rattle.ps_rules.specs.declared.definitions.Definition.{Definition}
-use Rattle.ps_rules.specs.RuleSets.{rises_past, numbers_of}
+use Rattle.ps_rows.specs.Source.{Key, key_cmp, Version, Source}
+use Rattle.ps_rows.specs.Keys.{keys_total, keys_exact, find-after_row}
+use Rattle.ps_definitions.specs.declared.definitions.Definition.{Definition}
+use Rattle.ps_definitions.specs.RuleSets.{rises_past, numbers_of}
 use Rattle.ps_bucket_eval.specs.declared.placed.Placed.{Placed}
 use Rattle.ps_bucket_eval.specs.Entries.{RowOf, entries_of}
 use Rattle.ps_bucket_eval.specs.Laws.{EntriesRise}

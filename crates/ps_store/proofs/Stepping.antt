@@ -6,8 +6,8 @@ use Rattle.std.proofs.lemmas.Bool.{ltb-true}
 use Rattle.std.proofs.lemmas.Bool.Decides.{nat_tests}
 use Rattle.std.proofs.lemmas.List.{map-append}
 use Rattle.std.proofs.lemmas.Slice.Eq.{bytes_eq-Decides}
-use Rattle.ps_changes.specs.Source.{Source}
-use Rattle.ps_rules.specs.declared.definitions.Definition.{Definition}
+use Rattle.ps_rows.specs.Source.{Source}
+use Rattle.ps_definitions.specs.declared.definitions.Definition.{Definition}
 use Rattle.ps_store.specs.Originals.{Entered, Timed, after, change_ops, ops_from, in_bucket}
 use Rattle.ps_store.specs.Steps.{Step, marked, lane_ops, source_after, IsPast, IsFollowed, StepsRise, changes_of}
 use Rattle.ps_store.proofs.Moments.{after_all, IsReached, MomentsRise}

@@ -6,10 +6,10 @@ use Rattle.ps_values.specs.declared.ids.Position.{Position}
 use Rattle.ps_bucket_log.specs.declared.ops.Op.{Op}
 use Rattle.ps_bucket_log.specs.Logs.{IsRising}
 use Rattle.ps_bucket_log.specs.Ops.{newest, sum_of}
-use Rattle.ps_changes.specs.declared.changes.Change.{Change}
-use Rattle.ps_changes.specs.declared.changes.Transaction.{Transaction}
-use Rattle.ps_changes.specs.Source.{Key, key_cmp, Version}
-use Rattle.ps_rules.specs.RuleSets.{RuleSet}
+use Rattle.ps_rows.specs.declared.changes.Change.{Change}
+use Rattle.ps_rows.specs.declared.changes.Transaction.{Transaction}
+use Rattle.ps_rows.specs.Source.{Key, key_cmp, Version}
+use Rattle.ps_definitions.specs.RuleSets.{RuleSet}
 use Rattle.ps_params.specs.Indexes.{Index}
 use Rattle.ps_params.specs.Notes.{Note, SameFrom}
 use Rattle.ps_write_cp.specs.Kept.{Kept, heads_at}

@@ -9,13 +9,13 @@ use Rattle.ps_values.specs.declared.shortage.Memory.{Memory}
 use Rattle.ps_bucket_log.specs.declared.ops.Op.{Op}
 use Rattle.ps_bucket_log.specs.declared.batches.Batch.{Batch}
 use Rattle.ps_bucket_log.specs.Batches as logs
-use Rattle.ps_changes.specs.declared.changes.Change.{Change}
-use Rattle.ps_changes.specs.declared.changes.Transaction.{Transaction}
-use Rattle.ps_changes.specs.Source.{source_at}
-use Rattle.ps_sql.specs.Meaning.{Asker}
-use Rattle.ps_rules.specs.declared.definitions.Definition.{Definition}
-use Rattle.ps_rules.specs.RuleSets.{RuleSet}
-use Rattle.ps_sql.specs.Vectors.{SourceRow}
+use Rattle.ps_rows.specs.declared.changes.Change.{Change}
+use Rattle.ps_rows.specs.declared.changes.Transaction.{Transaction}
+use Rattle.ps_rows.specs.Source.{source_at}
+use Rattle.ps_queries.specs.Meaning.{Asker}
+use Rattle.ps_definitions.specs.declared.definitions.Definition.{Definition}
+use Rattle.ps_definitions.specs.RuleSets.{RuleSet}
+use Rattle.ps_queries.specs.Vectors.{SourceRow}
 use Rattle.ps_grant.specs.Sources.{rows_in}
 use Rattle.ps_params.specs.Indexes.{is_read, StandsAt}
 use Rattle.ps_params.specs.Laws.{note_of_change, notes_of_transaction, notes_of, notes_read, NotesReadAreTheSource}

@@ -3,17 +3,17 @@ use Rattle.std.proofs.Common.{◌≡◌, ℕ, Bool, true, false, cond, List, [],
 use Rattle.std.specs.Prelude.{filter_map}
 use Rattle.std.specs.List.{cons_option}
 use Rattle.std.proofs.lemmas.Option.{same_Some}
-use Rattle.ps_changes.specs.Source.{Key, Version, Source}
-use Rattle.ps_sql.specs.Meaning.{Asker}
-use Rattle.ps_rules.specs.declared.definitions.Definition.{Definition}
-use Rattle.ps_rules.specs.declared.queries.Planned.{Planned}
-use Rattle.ps_rules.specs.RuleSets.{RuleSet, AreRules}
-use Rattle.ps_sql.specs.Vectors.{asked_of}
-use Rattle.ps_rules.specs.Vectors.{parameter_vectors}
+use Rattle.ps_rows.specs.Source.{Key, Version, Source}
+use Rattle.ps_queries.specs.Meaning.{Asker}
+use Rattle.ps_definitions.specs.declared.definitions.Definition.{Definition}
+use Rattle.ps_definitions.specs.declared.queries.Planned.{Planned}
+use Rattle.ps_definitions.specs.RuleSets.{RuleSet, AreRules}
+use Rattle.ps_queries.specs.Vectors.{asked_of}
+use Rattle.ps_definitions.specs.Vectors.{parameter_vectors}
 use Rattle.ps_grant.specs.declared.copies.Granted.{Granted}
 use Rattle.ps_grant.specs.Grants.{is_granted, copy_with, copy_of, grant_of, granted_by_query, granted_by, granted}
 use Rattle.ps_grant.specs.Latest.{object_of, TiesAgree}
-use Rattle.ps_sql.specs.Objects.{object_id, content_of}
+use Rattle.ps_queries.specs.Objects.{object_id, content_of}
 use Rattle.ps_grant.specs.Sources.{row_of, rows_in}
 use Rattle.ps_store.proofs.Members.{Has, from_flat, contains_has}
 use Rattle.ps_store.proofs.Queries.{same_place}

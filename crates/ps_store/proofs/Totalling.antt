@@ -5,7 +5,7 @@ use Rattle.std.specs.List.{list_any}
 use Rattle.std.proofs.lemmas.Map.Text.{is_eq-slice_cmp}
 use Rattle.ps_bucket_log.specs.declared.ops.Op.{Op}
 use Rattle.ps_bucket_log.specs.Ops.{sum_of}
-use Rattle.ps_changes.specs.declared.changes.Transaction.{Transaction}
+use Rattle.ps_rows.specs.declared.changes.Transaction.{Transaction}
 use Rattle.ps_store.specs.declared.events.Event.TheVariants.{Compact}
 use Rattle.ps_store.specs.Histories.{written_in}
 use Rattle.ps_store.specs.Ledgers.{Ledger, ledger_of}

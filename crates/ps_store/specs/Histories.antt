@@ -1,6 +1,6 @@
 -- What a ledger says of a history, in the subject's words.
 use Rattle.std.specs.Prelude.{◌≡◌, ℕ, ◌+◌, ◌≤◌, Bool, false, ◌||◌, List, [], ◌∷◌, length, take, fold, bytes_eq}
-use Rattle.ps_rules.specs.RuleSets.{RuleSet}
+use Rattle.ps_definitions.specs.RuleSets.{RuleSet}
 use Rattle.ps_store.specs.declared.events.Event.{Event}
 use Rattle.ps_store.specs.declared.events.Event.TheVariants.{Feed, Close, Write, Commit, Compact, WriteCheckpoint}
 use Rattle.ps_store.specs.Ledgers.{Ledger, ledger_of, reached_by, op_at, IsLegal}

@@ -1,8 +1,8 @@
 -- The rows that buckets hold, over what is held of each key in each bucket: of each object the data of its latest copy.
 use Rattle.std.specs.Prelude.{◌≡◌, ℕ, IsTrue, IfSome, IsSome, List, Some}
 use Rattle.std.specs.Ordering.{is_le}
-use Rattle.ps_changes.specs.declared.shown.Shown.{Shown}
-use Rattle.ps_changes.specs.Source.{Key as Object}
+use Rattle.ps_rows.specs.declared.shown.Shown.{Shown}
+use Rattle.ps_rows.specs.Source.{Key as Object}
 use Rattle.ps_client_log.specs.Rows.{HeldCopy, object_of, place_of, place_cmp, content_of, AreInOrder, row_at}
 use Rattle.ps_store.specs.Standing.{Holding}
 

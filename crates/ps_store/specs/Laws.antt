@@ -4,21 +4,21 @@ use Rattle.std.specs.List.{AllByRecursion}
 use Rattle.ps_values.specs.declared.values.Value.{Value}
 use Rattle.ps_bucket_log.specs.declared.ops.Key.{Key}
 use Rattle.ps_bucket_log.specs.Buckets.{bucket_of}
-use Rattle.ps_changes.specs.declared.changes.Transaction.{Transaction}
-use Rattle.ps_changes.specs.declared.shown.Shown.{Shown}
-use Rattle.ps_changes.specs.Source.{Key as Object, source_at}
+use Rattle.ps_rows.specs.declared.changes.Transaction.{Transaction}
+use Rattle.ps_rows.specs.declared.shown.Shown.{Shown}
+use Rattle.ps_rows.specs.Source.{Key as Object, source_at}
 use Rattle.ps_client_log.specs.Kept.{Kept, bucket_at}
 use Rattle.ps_client_log.specs.Rows.{HeldCopy, Holds, object_of, IsLatestContent, AreInOrder, row_at}
-use Rattle.ps_sql.specs.Meaning.{Asker}
-use Rattle.ps_rules.specs.RuleSets.{RuleSet, AreRules}
-use Rattle.ps_rules.specs.declared.definitions.Definition.{Definition}
-use Rattle.ps_rules.specs.declared.queries.Planned.{Planned}
-use Rattle.ps_sql.specs.Vectors.{SourceRow}
-use Rattle.ps_rules.specs.Vectors.{parameter_vectors}
+use Rattle.ps_queries.specs.Meaning.{Asker}
+use Rattle.ps_definitions.specs.RuleSets.{RuleSet, AreRules}
+use Rattle.ps_definitions.specs.declared.definitions.Definition.{Definition}
+use Rattle.ps_definitions.specs.declared.queries.Planned.{Planned}
+use Rattle.ps_queries.specs.Vectors.{SourceRow}
+use Rattle.ps_definitions.specs.Vectors.{parameter_vectors}
 use Rattle.ps_grant.specs.Latest.{due}
 use Rattle.ps_grant.specs.Sources.{rows_in}
-use Rattle.ps_rules.specs.Buckets.{bucket_name_of}
-use Rattle.ps_rules.specs.Laws.{IsSqlValue}
+use Rattle.ps_definitions.specs.Buckets.{bucket_name_of}
+use Rattle.ps_definitions.specs.Laws.{IsSqlValue}
 use Rattle.ps_store.specs.Originals.{original, in_bucket}
 use Rattle.ps_store.specs.Standing.{Holding, HoldsStanding}
 

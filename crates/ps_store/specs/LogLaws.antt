@@ -3,7 +3,7 @@ use Rattle.std.specs.Prelude.{ℕ, ◌≤◌, List}
 use Rattle.ps_bucket_log.specs.Logs.{AreEntries}
 use Rattle.ps_bucket_log.specs.Ops.{newest}
 use Rattle.ps_bucket_log.specs.Standing.{StandsFor}
-use Rattle.ps_rules.specs.RuleSets.{RuleSet}
+use Rattle.ps_definitions.specs.RuleSets.{RuleSet}
 use Rattle.ps_store.specs.declared.events.Event.{Event}
 use Rattle.ps_store.specs.Ledgers.{Ledger, ledger_of, IsLegal}
 use Rattle.ps_store.specs.Originals.{in_bucket}

@@ -1,8 +1,8 @@
 -- The numbers of data queries, one by one.
 use Rattle.std.specs.Prelude.{◌<◌, ◌^◌}
 use Rattle.std.specs.List.{AllByRecursion}
-use Rattle.ps_rules.specs.declared.definitions.Definition.{Definition}
-use Rattle.ps_rules.specs.declared.queries.Planned.{Planned}
+use Rattle.ps_definitions.specs.declared.definitions.Definition.{Definition}
+use Rattle.ps_definitions.specs.declared.queries.Planned.{Planned}
 
 abbrev pub IsNumbered : Planned → Type 0
 IsNumbered planned = planned.number < 2 ^ 32

@@ -7,10 +7,10 @@ use Rattle.ps_checksum.specs.Sums.{checksum_of, put_text, remove_text}
 use Rattle.ps_bucket_log.specs.declared.ops.Op.{Op}
 use Rattle.ps_bucket_log.specs.declared.ops.Op.TheVariants.{Put, Remove}
 use Rattle.ps_bucket_log.specs.Ops.{same_key}
-use Rattle.ps_changes.specs.declared.changes.Change.{Change}
-use Rattle.ps_changes.specs.declared.changes.Transaction.{Transaction}
-use Rattle.ps_changes.specs.Source.{Key, key_cmp, Version, Source, after_row}
-use Rattle.ps_rules.specs.declared.definitions.Definition.{Definition}
+use Rattle.ps_rows.specs.declared.changes.Change.{Change}
+use Rattle.ps_rows.specs.declared.changes.Transaction.{Transaction}
+use Rattle.ps_rows.specs.Source.{Key, key_cmp, Version, Source, after_row}
+use Rattle.ps_definitions.specs.declared.definitions.Definition.{Definition}
 use Rattle.ps_bucket_eval.specs.declared.placed.Placed.{Placed}
 use Rattle.ps_bucket_eval.specs.Entries.{RowOf, entries_of}
 -- ---- one change

@@ -1,9 +1,9 @@
 -- A plan: what some changes make, over live rows.
 use Rattle.std.specs.Prelude.{◌≡◌, ℕ, List, [], ◌∷◌, ◌++◌, map, fold, take, Option, Some, None, unwrap_or}
 use Rattle.std.specs.BTreeMap.{get}
-use Rattle.ps_changes.specs.Source.{Key, key_cmp}
-use Rattle.ps_rules.specs.declared.definitions.Definition.{Definition}
-use Rattle.ps_rules.specs.RuleSets.{RuleSet}
+use Rattle.ps_rows.specs.Source.{Key, key_cmp}
+use Rattle.ps_definitions.specs.declared.definitions.Definition.{Definition}
+use Rattle.ps_definitions.specs.RuleSets.{RuleSet}
 use Rattle.ps_store.specs.declared.rows.Rows.{Rows}
 use Rattle.ps_store.specs.declared.plans.Plan.{Plan}
 use Rattle.ps_store.specs.declared.plans.Planned.{Planned}

@@ -9,8 +9,8 @@ use Rattle.ps_bucket_log.specs.declared.batches.Batch.{Batch}
 use Rattle.ps_bucket_log.specs.Ops.{upto, sum_of, newest}
 use Rattle.ps_bucket_log.specs.Batches as logs
 use Rattle.ps_write_cp.specs.Numbers.{covered}
-use Rattle.ps_changes.specs.Source.{source_at}
-use Rattle.ps_sql.specs.Meaning.{Asker}
+use Rattle.ps_rows.specs.Source.{source_at}
+use Rattle.ps_queries.specs.Meaning.{Asker}
 use Rattle.ps_grant.specs.Sources.{rows_in}
 use Rattle.ps_params.specs.Names.{bucket_names, AreTold}
 use Rattle.ps_store.specs.declared.events.Event.{Event}

@@ -1,8 +1,8 @@
 -- The live rows of the store.
 use Rattle.std.specs.Prelude.{ℕ, ◌≤◌, Bool, List, length, Option, Some, None, is_some}
 use Rattle.std.specs.BTreeMap.{get}
-use Rattle.ps_changes.specs.Source.{Key, key_cmp, Version}
-use Rattle.ps_rules.specs.declared.definitions.Definition.{Definition}
+use Rattle.ps_rows.specs.Source.{Key, key_cmp, Version}
+use Rattle.ps_definitions.specs.declared.definitions.Definition.{Definition}
 use Rattle.ps_store.specs.declared.rows.Rows.{Rows}
 use Rattle.ps_store.specs.Originals.{entries_at, columns_of}
 

@@ -4,8 +4,8 @@ use Rattle.std.specs.FinMap.Entries.{find}
 use Rattle.ps_bucket_log.specs.declared.ops.Key.{Key as EntryKey}
 use Rattle.ps_bucket_log.specs.declared.ops.Op.{Op}
 use Rattle.ps_bucket_log.specs.Ops.{id_of}
-use Rattle.ps_changes.specs.Source.{Key, key_cmp, Version, Source}
-use Rattle.ps_rules.specs.declared.definitions.Definition.{Definition}
+use Rattle.ps_rows.specs.Source.{Key, key_cmp, Version, Source}
+use Rattle.ps_definitions.specs.declared.definitions.Definition.{Definition}
 use Rattle.ps_grant.specs.declared.copies.Granted.{Granted}
 use Rattle.ps_bucket_eval.specs.declared.placed.Placed.{Placed}
 use Rattle.ps_store.specs.Originals.{put, entries_at}

@@ -1,8 +1,8 @@
 -- Original operations step by step: each change carries the first of its ids. Ids may leave gaps between steps.
 use Rattle.std.specs.Prelude.{ℕ, ◌+◌, ◌<◌, ◌≤◌, ◌≡◌, ◌⊎◌, List, [], ◌∷◌, ◌++◌, fold, filter, length, map, nat_le}
 use Rattle.ps_bucket_log.specs.Buckets.{bucket_of}
-use Rattle.ps_changes.specs.Source.{Source}
-use Rattle.ps_rules.specs.declared.definitions.Definition.{Definition}
+use Rattle.ps_rows.specs.Source.{Source}
+use Rattle.ps_definitions.specs.declared.definitions.Definition.{Definition}
 use Rattle.ps_store.specs.Originals.{Entered, Timed, after, change_ops, in_bucket}
 use Rattle.ps_store.specs.Standing.{Holding}
 

@@ -2,8 +2,8 @@
 use Rattle.std.specs.Prelude.{◌≡◌, ℕ, ◌+◌, ◌-◌, ◌<◌, ◌≤◌, true, List, [], ◌∷◌, map, drop, zero, suc, Option, option_map, if◌then◌else◌}
 use Rattle.std.specs.Ordering.{eq_by_cmp}
 use Rattle.std.specs.VecDeque.{deque_len, deque_capacity}
-use Rattle.ps_changes.specs.Source.{Key, key_cmp, Version}
-use Rattle.ps_rules.specs.declared.definitions.Definition.{Definition}
+use Rattle.ps_rows.specs.Source.{Key, key_cmp, Version}
+use Rattle.ps_definitions.specs.declared.definitions.Definition.{Definition}
 use Rattle.ps_params.specs.Notes.{Note}
 use Rattle.ps_store.specs.declared.reach.End.{End}
 use Rattle.ps_store.specs.declared.rows.Rows.{Rows}

@@ -1,4 +1,4 @@
-use ps_changes::Transaction;
+use ps_rows::Transaction;
 use ps_values::Text;
 
 /// One accepted changing call of a store. A history is a list of them.

@@ -1,7 +1,7 @@
 ghost use Rattle.std.specs.Prelude.{◌≡◌};
 ghost use Rattle.ps_store.specs.Limits.{usual_limits, AreWithin};
 
-use ps_rules::Rules;
+use ps_definitions::Rules;
 use ps_values::GREATEST;
 
 /// What bounds a store.

@@ -15,9 +15,9 @@ use ps_bucket_log::{
     standing_logs_stay_standing, totals_are_sums, what_is_written_later_adds_nothing,
 };
 use ps_compact::compacted_logs_stand;
+use ps_definitions::names_are_distinct;
 use ps_grant::latest_rows_are_unique;
-use ps_rules::names_are_distinct;
-use ps_sql::same_for_every_asker;
+use ps_queries::same_for_every_asker;
 use ps_write_cp::{covered_is_the_greatest, covers_all_before};
 
 /// A law: what the readers of a lane's buckets hold, once they took the original operations of its steps, is the entries of

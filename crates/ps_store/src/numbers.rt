@@ -2,11 +2,11 @@
 
 ghost use Rattle.std.specs.Prelude.{◌<◌, ◌^◌};
 ghost use Rattle.std.specs.List.{AllByRecursion};
-ghost use Rattle.ps_rules.specs.RuleSets.{AreRules};
+ghost use Rattle.ps_definitions.specs.RuleSets.{AreRules};
 ghost use Rattle.ps_store.specs.Laws.{HaveNumbers};
 ghost use Rattle.ps_store.specs.Numbers.{IsNumbered, AreNumbered};
 
-use ps_rules::{Planned, Rules};
+use ps_definitions::{Planned, Rules};
 
 // A query's number has 32 bits: to read it says so.
 fn read_number(planned: &Planned)

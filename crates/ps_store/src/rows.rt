@@ -4,10 +4,10 @@
 ghost use Rattle.std.specs.Prelude.{◌≡◌, None, true, IfOk, OnOk, if◌then◌else◌};
 ghost use Rattle.std.specs.Option.{option_copied};
 ghost use Rattle.std.specs.Ordering.{eq_by_cmp};
-ghost use Rattle.ps_changes.specs.Source.{Key, key_cmp};
+ghost use Rattle.ps_rows.specs.Source.{Key, key_cmp};
 ghost use Rattle.ps_store.specs.Rows.{row_at, has_place};
 
-use ps_changes::Row;
+use ps_rows::Row;
 use ps_values::{Memory, Position, Text};
 use std::alloc::Global;
 use std::collections::BTreeMap;
@@ -26,7 +26,7 @@ pub(crate) struct Live {
 
 impl Model for Live {
     ghost use Rattle.std.specs.Coded.{codes};
-    ghost use Rattle.ps_changes.specs.Source.{Version};
+    ghost use Rattle.ps_rows.specs.Source.{Version};
 
     ghost Value = { Version };
 

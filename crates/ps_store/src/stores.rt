@@ -1,8 +1,8 @@
 //! The store.
 
 ghost use Rattle.std.specs.Prelude.{◌≡◌, ℕ, ◌+◌, ◌≤◌, ◌<◌, ◌∷◌, ◌++◌, [], take, length, List, OnOk, IfOk, IsSome, All};
-ghost use Rattle.ps_changes.specs.declared.changes.Change.{Change as ChangeSeen};
-ghost use Rattle.ps_changes.specs.Source.{Key};
+ghost use Rattle.ps_rows.specs.declared.changes.Change.{Change as ChangeSeen};
+ghost use Rattle.ps_rows.specs.Source.{Key};
 ghost use Rattle.ps_sql_eval.specs.Evaluated.{asker_of};
 ghost use Rattle.ps_store.specs.declared.events.Event.{Event as EventSeen};
 ghost use Rattle.ps_store.specs.declared.events.Event.TheVariants.{Close};
@@ -31,10 +31,10 @@ use crate::waiting::Waiting;
 use ps_bucket_log::{
     Batch, Taken, standing_logs_have_the_sums_of_their_originals, standing_logs_stay_standing,
 };
-use ps_changes::{Change, Transaction};
 use ps_compact::Report;
+use ps_definitions::Rules;
 use ps_params::{ParameterIndex, notes_of_changes_are_the_source};
-use ps_rules::Rules;
+use ps_rows::{Change, Transaction};
 use ps_sql_eval::Asker;
 use ps_values::{Items, Memory, OpId, Position, Text};
 use ps_write_cp::{NumberFault, WriteCheckpoints};

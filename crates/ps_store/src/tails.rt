@@ -1,7 +1,7 @@
 //! What is fed and not written.
 
 ghost use Rattle.std.specs.Prelude.{◌≡◌, ℕ, ◌+◌, ◌≤◌, ◌<◌, ◌++◌, ◌∷◌, [], OnOk, length, take, drop, true, option_map};
-ghost use Rattle.ps_changes.specs.Source.{Key};
+ghost use Rattle.ps_rows.specs.Source.{Key};
 ghost use Rattle.ps_store.specs.Ledgers.{timed_of, end_of};
 ghost use Rattle.ps_store.specs.Originals.{timed_from, key_of};
 ghost use Rattle.ps_store.specs.Rows.{row_at, has_place};
@@ -13,8 +13,8 @@ use crate::plans::Made;
 use crate::reach::{End, Reach};
 use crate::rows::{Live, Rows};
 use crate::waiting::Waiting;
-use ps_changes::{Change, Row, Transaction};
 use ps_params::ParameterIndex;
+use ps_rows::{Change, Row, Transaction};
 use ps_values::{Items, Memory, OpId, Position};
 use std::alloc::Global;
 use std::collections::VecDeque;

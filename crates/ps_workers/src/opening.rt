@@ -5,8 +5,8 @@ ghost use Rattle.ps_lock.specs.Words.{IsSeatOf, seen_by, own_entries_of};
 ghost use Rattle.ps_store.specs.Limits.{AreWithin};
 ghost use Rattle.ps_store.specs.Sharing.{fixed_of};
 
+use ps_definitions::Rules;
 use ps_lock::{Seat, StoreLock, open_lock};
-use ps_rules::Rules;
 use ps_store::{Limits, Store};
 use ps_values::Memory;
 use std::alloc::Global;

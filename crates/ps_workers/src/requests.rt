@@ -1,15 +1,15 @@
 //! What clients ask for, each in one turn: an upload, and the number of a write checkpoint.
 
 ghost use Rattle.std.specs.Prelude.{◌≡◌, ◌<◌, List, All, length, IfOk};
-ghost use Rattle.ps_changes.specs.declared.changes.Change.{Change as ChangeSeen};
+ghost use Rattle.ps_rows.specs.declared.changes.Change.{Change as ChangeSeen};
 ghost use Rattle.ps_lock.specs.Words.{IsSeatOf};
 ghost use Rattle.ps_store.specs.declared.events.Event.{Event as EventSeen};
 ghost use Rattle.ps_store.specs.declared.events.Event.TheVariants.{WriteCheckpoint};
 ghost use Rattle.ps_store.specs.Sharing.{fixed_of};
 ghost use Rattle.ps_workers.specs.Gains.{UploadsIn, NumbersIn};
 
-use ps_changes::{Change, Transaction};
 use ps_lock::{Seat, StoreLock};
+use ps_rows::{Change, Transaction};
 use ps_store::{Event, FeedFault, Store};
 use ps_values::{Items, Memory, Position, Text};
 use ps_write_cp::NumberFault;

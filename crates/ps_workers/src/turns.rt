@@ -8,8 +8,8 @@ ghost use Rattle.ps_store.specs.Limits.{greatest};
 ghost use Rattle.ps_store.specs.Sharing.{fixed_of};
 ghost use Rattle.ps_workers.specs.Gains.{AddsTo, FeedsIn, WritesIn, CommitsIn};
 
-use ps_changes::Transaction;
 use ps_lock::{Seat, StoreLock};
+use ps_rows::Transaction;
 use ps_store::{Checkpoint, Event, FeedFault, NothingToCommit, Store, WriteFault, Wrote};
 use std::alloc::Global;
 use std::sync::Wait;

@@ -1,8 +1,10 @@
 use crate::changes::show_change;
 use crate::expressions::show_fault;
 use crate::queries::text_of;
-use ps_changes::{Change, Row, read_change};
-use ps_sql::{Expr, SqlFault, Subject, read_parameter_query};
+use ps_changes::read_change;
+use ps_queries::{Expr, Subject};
+use ps_rows::{Change, Row};
+use ps_sql::{SqlFault, read_parameter_query};
 use ps_sql_eval::{Asker, eval_request, eval_row};
 use ps_values::{Items, Memory, Text, Value};
 use std::alloc::Global;

@@ -1,4 +1,5 @@
-use ps_sql::{Expr, SqlFault};
+use ps_queries::Expr;
+use ps_sql::SqlFault;
 use std::alloc::AllocError;
 
 /// An expression, with brackets round all that has parts.

@@ -1,8 +1,6 @@
 use crate::expressions::{show_condition, show_fault};
-use ps_sql::{
-    DataQuery, Expr, Output, ParameterQuery, SqlFault, Token, TokenKind, read_data_query,
-    read_parameter_query, tokens,
-};
+use ps_queries::{DataQuery, Expr, Output, ParameterQuery};
+use ps_sql::{SqlFault, Token, TokenKind, read_data_query, read_parameter_query, tokens};
 use ps_values::{Memory, Text};
 use std::alloc::{AllocError, Global};
 

@@ -1,10 +1,11 @@
 use crate::expressions::show;
 use crate::rules_faults::show_fault;
-use ps_rules::{
-    Branch, Definition, Match, Planned, Rules, RulesFault, Warning, WarningKind,
-    conditions_hold_where_a_branch_is_met, null_is_not_allowed, read_rules, spread_as_written,
+use ps_definitions::{
+    Branch, Definition, Match, Planned, Rules, Warning, WarningKind,
+    conditions_hold_where_a_branch_is_met, null_is_not_allowed, spread_as_written,
 };
-use ps_sql::same_for_every_bucket;
+use ps_queries::same_for_every_bucket;
+use ps_rules::{RulesFault, read_rules};
 use ps_values::Memory;
 use std::alloc::{AllocError, Global};
 

@@ -1,9 +1,10 @@
 //! Lines and changes that are written. What is written here is not read first, as targets of operations, which no line tells.
 
 use ps_bucket_log::{Key, Op};
-use ps_changes::{Change, Transaction, read_change, write_change};
+use ps_changes::{read_change, write_change};
 use ps_checksum::Sum;
 use ps_lines::{Entry, Line, write_line};
+use ps_rows::{Change, Transaction};
 use ps_values::{Items, Memory, OpId, Position, Text};
 use std::alloc::Global;
 

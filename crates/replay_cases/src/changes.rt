@@ -5,7 +5,8 @@ ghost use Rattle.ps_core.specs.Scripts.{AreLow};
 
 use crate::chance::Chance;
 use crate::stops::Stop;
-use ps_changes::{Transaction, read_line};
+use ps_changes::read_line;
+use ps_rows::Transaction;
 use ps_values::GREATEST;
 use std::alloc::Global;
 

@@ -3,7 +3,8 @@
 use crate::chance::Chance;
 use crate::scripts::{Played, play_script};
 use crate::stops::Stop;
-use ps_rules::{Rules, read_rules};
+use ps_definitions::Rules;
+use ps_rules::read_rules;
 use std::alloc::Global;
 
 const RULES: &[u8] = b"bucket_definitions:

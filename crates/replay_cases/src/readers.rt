@@ -1,7 +1,7 @@
 //! What is known of a client, beside the world.
 
 use crate::stops::{Stop, expect};
-use ps_changes::Change;
+use ps_rows::Change;
 use ps_sql_eval::Asker;
 use ps_values::{Memory, OpId, Position, Text};
 use std::alloc::Global;

@@ -7,7 +7,7 @@ use crate::playing::{cut, number, open, play, shows_what_is_due, take, turn, upl
 use crate::readers::Reader;
 use crate::stages::Stage;
 use crate::stops::Stop;
-use ps_rules::Rules;
+use ps_definitions::Rules;
 use ps_values::{Memory, Text};
 use std::alloc::Global;
 

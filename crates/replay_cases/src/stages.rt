@@ -2,9 +2,9 @@
 
 ghost use Rattle.ps_core.specs.Scripts.{AreLow};
 
-use ps_changes::Transaction;
 use ps_core::{Effect, World};
-use ps_rules::Rules;
+use ps_definitions::Rules;
+use ps_rows::Transaction;
 use ps_script::{ScriptEvent, ScriptFault};
 use ps_values::Memory;
 use std::alloc::Global;

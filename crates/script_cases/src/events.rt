@@ -1,7 +1,7 @@
 //! Events, as they are printed.
 
 use case_words::push_escaped;
-use ps_changes::{Change, Row};
+use ps_rows::{Change, Row};
 use ps_script::ScriptEvent;
 use ps_values::{Memory, Text, Value};
 

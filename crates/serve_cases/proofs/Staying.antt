@@ -1,7 +1,7 @@
 -- What the calls of a store leave stands for some history.
 use Rattle.std.proofs.Common.{List, [], ◌∷◌, ◌++◌, Ok, Err}
 use Rattle.std.specs.Prelude.{Result}
-use Rattle.ps_changes.specs.declared.changes.Transaction.{Transaction}
+use Rattle.ps_rows.specs.declared.changes.Transaction.{Transaction}
 use Rattle.ps_store.specs.declared.events.Event.{Event}
 use Rattle.ps_store.specs.declared.events.Event.TheVariants.{Feed, Write, Commit}
 use Rattle.ps_store.specs.declared.faults.FeedFault.{FeedFault}

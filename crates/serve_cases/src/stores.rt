@@ -6,7 +6,7 @@ ghost use Rattle.serve_cases.specs.Standing.{IsStore};
 
 use case_stores::{limits_of, rules_of, transaction_of};
 use case_words::Stop;
-use ps_changes::Transaction;
+use ps_rows::Transaction;
 use ps_store::{Checkpoint, FeedFault, NothingToCommit, Store, WriteFault, Wrote, have_numbers};
 use std::alloc::Global;
 

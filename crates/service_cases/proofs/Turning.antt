@@ -5,7 +5,7 @@ use Rattle.ps_values.specs.declared.ids.OpId.{OpId}
 use Rattle.ps_bucket_log.specs.declared.batches.Batch.{Batch}
 use Rattle.ps_lines.specs.declared.lines.Line.{Line}
 use Rattle.ps_lines.specs.Writing.{IsWritable}
-use Rattle.ps_sql.specs.Meaning.{Asker}
+use Rattle.ps_queries.specs.Meaning.{Asker}
 use Rattle.ps_bucket_log.specs.declared.takes.Taken.{Taken}
 use Rattle.ps_store.specs.declared.stores.Store.{Store}
 use Rattle.ps_store.specs.Courses.{Course, course_of}

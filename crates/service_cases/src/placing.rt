@@ -4,8 +4,9 @@ use crate::texts::Texts;
 use case_stores::rules_of;
 use case_words::{Stop, cut};
 use ps_bucket_eval::{PlaceFault, Placed, entries_of_row, entries_stand_where_conditions_hold};
-use ps_changes::{Change, Row, read_change};
-use ps_rules::{Rules, bucket_name, names_are_distinct};
+use ps_changes::read_change;
+use ps_definitions::{Rules, bucket_name, names_are_distinct};
+use ps_rows::{Change, Row};
 use ps_values::{Items, Memory, Text, Value, read_json, value_of_json};
 use std::alloc::{AllocError, Global};
 

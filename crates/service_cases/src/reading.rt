@@ -1,7 +1,8 @@
 //! Transactions and askers, as the cases have them.
 
 use case_words::Stop;
-use ps_changes::{Transaction, read_line};
+use ps_changes::read_line;
+use ps_rows::Transaction;
 use ps_sql_eval::Asker;
 use ps_values::{Items, Memory, Text};
 use std::alloc::Global;

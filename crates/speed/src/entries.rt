@@ -6,8 +6,9 @@
 
 use crate::shared::{TO_DO, rules_of};
 use ps_bucket_eval::{PlaceFault, entries_of_row};
-use ps_changes::{Change, Row, read_change};
-use ps_rules::Rules;
+use ps_changes::read_change;
+use ps_definitions::Rules;
+use ps_rows::{Change, Row};
 use ps_values::{Memory, Text};
 use std::alloc::Global;
 use std::io;

@@ -4,12 +4,14 @@
 //! came of it.
 
 ghost use Rattle.std.specs.Prelude.{◌≡◌, false};
-ghost use Rattle.ps_sql.specs.declared.subjects.Subject.TheVariants as subjects;
-ghost use Rattle.ps_sql.specs.Subjects.{speaks};
+ghost use Rattle.ps_queries.specs.declared.subjects.Subject.TheVariants as subjects;
+ghost use Rattle.ps_queries.specs.Subjects.{speaks};
 
 use crate::shared::nested;
-use ps_changes::{Change, Row, read_change};
-use ps_sql::{Expr, ParameterQuery, Subject, read_parameter_query};
+use ps_changes::read_change;
+use ps_queries::{Expr, ParameterQuery, Subject};
+use ps_rows::{Change, Row};
+use ps_sql::read_parameter_query;
 use ps_sql_eval::{Asker, eval_request};
 use ps_values::{Items, Memory, Text, Truth, Value, truth_of};
 use std::alloc::Global;

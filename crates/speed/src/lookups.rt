@@ -5,9 +5,10 @@
 ghost use Rattle.std.specs.Prelude.{◌≡◌, ◌≤◌, IfSome};
 
 use crate::shared::{TO_DO, asker, rules_of};
-use ps_changes::{Change, read_change};
+use ps_changes::read_change;
+use ps_definitions::Rules;
 use ps_params::ParameterIndex;
-use ps_rules::Rules;
+use ps_rows::Change;
 use ps_sql_eval::Asker;
 use ps_values::{Memory, Position, Text};
 use std::alloc::Global;

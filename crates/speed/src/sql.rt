@@ -3,7 +3,8 @@
 //! stack. Prints what came of it.
 
 use crate::shared::nested;
-use ps_sql::{DataQuery, read_data_query};
+use ps_queries::DataQuery;
+use ps_sql::read_data_query;
 use ps_values::{Memory, Text};
 use std::alloc::Global;
 use std::thread::Threads;

@@ -5,7 +5,8 @@ ghost use Rattle.ps_store.specs.Limits.{greatest};
 ghost use Rattle.speed.specs.Standing.{IsStore};
 
 use crate::shared::rules_of;
-use ps_changes::{Transaction, read_line};
+use ps_changes::read_line;
+use ps_rows::Transaction;
 use ps_store::{Limits, Store};
 use ps_values::GREATEST;
 use std::alloc::Global;

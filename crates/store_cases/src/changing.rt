@@ -7,7 +7,7 @@ ghost use Rattle.store_cases.specs.Standing.{IsStore};
 use crate::reading::transaction_of;
 use case_stores::{limits_of, rules_of};
 use case_words::Stop;
-use ps_changes::Transaction;
+use ps_rows::Transaction;
 use ps_store::{CompactFault, FeedFault, Store, WriteFault, Wrote};
 use ps_values::{Memory, Text};
 use std::alloc::Global;

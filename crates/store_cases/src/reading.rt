@@ -4,7 +4,7 @@ ghost use Rattle.std.specs.Prelude.{◌≤◌, IfOk};
 ghost use Rattle.ps_store.specs.Limits.{greatest};
 
 use case_words::Stop;
-use ps_changes::Transaction;
+use ps_rows::Transaction;
 use std::alloc::Global;
 
 // Adds the numbers from 1 on, with commas between.

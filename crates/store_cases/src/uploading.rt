@@ -1,12 +1,13 @@
 //! What clients ask a store for: uploads, and the numbers of write checkpoints.
 
 ghost use Rattle.std.specs.Prelude.{◌<◌, length, All, IfOk};
-ghost use Rattle.ps_changes.specs.declared.changes.Change.{Change as ChangeSeen};
+ghost use Rattle.ps_rows.specs.declared.changes.Change.{Change as ChangeSeen};
 ghost use Rattle.store_cases.specs.Standing.{IsStore};
 
 use crate::changing::push_feed_fault;
 use case_words::{Stop, cut};
-use ps_changes::{Change, ChangeFault, read_changes};
+use ps_changes::{ChangeFault, read_changes};
+use ps_rows::Change;
 use ps_store::{FeedFault, Store};
 use ps_values::{Items, Position, Text};
 use ps_write_cp::NumberFault;

@@ -6,19 +6,19 @@ use Rattle.ps_values.proofs.texts.Text.TheSendSync as texts
 use Rattle.ps_values.proofs.ids.Position.TheSendSync as positions
 use Rattle.ps_values.proofs.ids.OpId.TheSendSync as ops
 use Rattle.ps_values.proofs.boxes.Boxed.TheSendSync as boxes
-use Rattle.ps_sql.proofs.expressions.Function.TheSendSync as functions
-use Rattle.ps_sql.proofs.expressions.Operator.TheSendSync as operators
-use Rattle.ps_sql.proofs.expressions.Expr.TheLaws.TheKnot.{send-Expr}
-use Rattle.ps_sql.specs.contracts.expressions.Expr as Expr
-use Rattle.ps_sql.specs.contracts.queries.Output as Output
-use Rattle.ps_sql.specs.contracts.queries.ParameterQuery as ParameterQuery
-use Rattle.ps_sql.specs.contracts.queries.DataQuery as DataQuery
-use Rattle.ps_rules.specs.contracts.matches.Match as Match
-use Rattle.ps_rules.specs.contracts.branches.Branch as Branch
-use Rattle.ps_rules.specs.contracts.queries.Planned as Planned
-use Rattle.ps_rules.specs.contracts.definitions.Definition as Definition
-use Rattle.ps_rules.specs.contracts.rule_sets.Rules as Rules
-use Rattle.ps_rules.proofs.warnings.Warning.TheSendSync as warnings
+use Rattle.ps_queries.proofs.expressions.Function.TheSendSync as functions
+use Rattle.ps_queries.proofs.expressions.Operator.TheSendSync as operators
+use Rattle.ps_queries.proofs.expressions.Expr.TheLaws.TheKnot.{send-Expr}
+use Rattle.ps_queries.specs.contracts.expressions.Expr as Expr
+use Rattle.ps_queries.specs.contracts.queries.Output as Output
+use Rattle.ps_queries.specs.contracts.queries.ParameterQuery as ParameterQuery
+use Rattle.ps_queries.specs.contracts.queries.DataQuery as DataQuery
+use Rattle.ps_definitions.specs.contracts.matches.Match as Match
+use Rattle.ps_definitions.specs.contracts.branches.Branch as Branch
+use Rattle.ps_definitions.specs.contracts.queries.Planned as Planned
+use Rattle.ps_definitions.specs.contracts.definitions.Definition as Definition
+use Rattle.ps_definitions.specs.contracts.rule_sets.Rules as Rules
+use Rattle.ps_definitions.proofs.warnings.Warning.TheSendSync as warnings
 use Rattle.ps_params.specs.contracts.indexes.ParameterIndex as ParameterIndex
 use Rattle.ps_params.proofs.kept.Kept.TheSendSync as kept
 use Rattle.ps_write_cp.proofs.numbers.WriteCheckpoints.TheSendSync as numbers

@@ -7,9 +7,9 @@ ghost use Rattle.ps_store.specs.Sharing.{fixed_of};
 ghost use Rattle.ps_store.specs.Stores.{StoreStandsFor};
 
 use crate::stores::made_store;
-use ps_changes::Transaction;
 use ps_gen::make_input;
 use ps_lock::{Seat, StoreLock};
+use ps_rows::Transaction;
 use ps_store::Store;
 use ps_values::{GREATEST, Items};
 use ps_workers::{commit_in_turn, feed_in_turn, write_in_turn};

@@ -1,6 +1,6 @@
 use Rattle.std.proofs.Common.{◌≡◌, true, [], List, ℕ, map, arith, ap, sym, ◌∙◌, subst}
 use Rattle.std.specs.Prelude.{IfOk, if◌then◌else◌}
-use Rattle.ps_rules.specs.declared.matches.Match.{Match}
+use Rattle.ps_definitions.specs.declared.matches.Match.{Match}
 use Rattle.ps_bucket_eval.specs.Shown.{alone}
 use Rattle.ps_bucket_eval.specs.Solving.{Fits, allowed, all_hold, names_from, branch_names}
 use Rattle.ps_bucket_eval.proofs.placing.name_branch.Goals as goal

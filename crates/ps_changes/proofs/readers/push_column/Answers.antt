@@ -4,7 +4,7 @@ use Rattle.serde_json.specs.Data.{Data}
 use Rattle.ps_values.specs.declared.columns.Column.{Column}
 use Rattle.ps_values.specs.declared.values.Value.{Value}
 use Rattle.ps_changes.specs.Borrowed.{seen}
-use Rattle.ps_changes.specs.Rows.{is_id}
+use Rattle.ps_rows.specs.Rows.{is_id}
 use Rattle.ps_changes.specs.Lines.{value_in, column_of}
 use Rattle.ps_changes.proofs.readers.push_column.Goals as goal
 

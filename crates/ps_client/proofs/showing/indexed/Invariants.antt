@@ -1,5 +1,5 @@
 use Rattle.std.proofs.Common.{◌≡◌, take}
-use Rattle.ps_changes.specs.Source.{Key as Object}
+use Rattle.ps_rows.specs.Source.{Key as Object}
 use Rattle.ps_client_log.specs.Kept.{shown_in}
 use Rattle.ps_client.specs.Listing.{content_at}
 use Rattle.ps_client.proofs.showing.indexed.Given as goal

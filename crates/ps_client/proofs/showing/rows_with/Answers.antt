@@ -1,4 +1,4 @@
-use Rattle.ps_changes.specs.declared.shown.Shown.{Shown}
+use Rattle.ps_rows.specs.declared.shown.Shown.{Shown}
 use Rattle.ps_client.proofs.ShownRows.{shown_deleted, shown_put, others_distinct, changed_distinct}
 use Rattle.ps_client.proofs.showing.rows_with.Goals as goal
 

@@ -1,6 +1,6 @@
 use Rattle.std.proofs.Common.{◌≡◌, None}
 use Rattle.std.specs.List.{AllByRecursion}
-use Rattle.ps_changes.specs.Source.{Key as Object}
+use Rattle.ps_rows.specs.Source.{Key as Object}
 use Rattle.ps_client_log.specs.Lending.{noted}
 use Rattle.ps_client_log.specs.Seeing.{copies_of, HoldsKeysOnce, all_seen}
 use Rattle.ps_client_log.proofs.rows.latest_copies.Given as goal

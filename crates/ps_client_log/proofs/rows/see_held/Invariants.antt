@@ -1,5 +1,5 @@
 use Rattle.std.proofs.Common.{◌≡◌}
-use Rattle.ps_changes.specs.Source.{Key as Object}
+use Rattle.ps_rows.specs.Source.{Key as Object}
 use Rattle.ps_client_log.specs.Lending.{noted}
 use Rattle.ps_client_log.specs.Seeing.{copies_in, all_seen}
 use Rattle.ps_client_log.proofs.rows.see_held.Given as goal

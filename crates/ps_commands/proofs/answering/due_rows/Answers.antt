@@ -1,6 +1,6 @@
 use Rattle.std.proofs.Common.{Err, ap, ◌∙◌}
 use Rattle.ps_sql_eval.specs.Evaluated.{asker_of}
-use Rattle.ps_commands.specs.ReadingChanges.{usual}
+use Rattle.ps_files.specs.ReadingChanges.{usual}
 use Rattle.ps_commands.proofs.DueRows.{synced_are_due, many_are_own}
 use Rattle.ps_commands.proofs.answering.due_rows.Goals as goal
 

@@ -1,6 +1,6 @@
 use Rattle.std.proofs.Common.{◌+◌, arith, sym, ap, ◌∙◌, take}
 use Rattle.std.proofs.lemmas.List.Sums.{sum_by_more}
-use Rattle.ps_commands.specs.declared.compacting.Compacted.{Compacted}
+use Rattle.ps_files.specs.declared.compacting.Compacted.{Compacted}
 use Rattle.ps_commands.specs.Generating.{all_after, all_before}
 use Rattle.ps_commands.proofs.generating.add_up.Goals as goal
 

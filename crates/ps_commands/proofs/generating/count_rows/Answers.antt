@@ -1,11 +1,11 @@
 use Rattle.std.proofs.Common.{Err, ap, ◌∙◌, subst}
-use Rattle.ps_sql.specs.Meaning.{Asker}
+use Rattle.ps_queries.specs.Meaning.{Asker}
 use Rattle.ps_sql_eval.specs.Evaluated.{asker_of}
 use Rattle.ps_store.specs.Ledgers.{ledger_of}
 use Rattle.ps_store.specs.Limits.{usual_limits}
 use Rattle.ps_store.specs.Readings.{AreTooMany}
 use Rattle.ps_commands.specs.Syncing.{AreSynced}
-use Rattle.ps_commands.specs.ReadingChanges.{usual}
+use Rattle.ps_files.specs.ReadingChanges.{usual}
 use Rattle.ps_commands.proofs.Summaries.{counted, too_many_own}
 use Rattle.ps_commands.proofs.generating.count_rows.Goals as goal
 

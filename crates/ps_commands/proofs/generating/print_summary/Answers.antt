@@ -1,7 +1,8 @@
 use Rattle.std.proofs.Common.{◌≡◌, ◌∙◌, ap, sym, subst, refl, length, arith, List}
-use Rattle.ps_changes.specs.declared.changes.Transaction.{Transaction}
+use Rattle.ps_rows.specs.declared.changes.Transaction.{Transaction}
 use Rattle.ps_gen.specs.Made.{made_rules}
-use Rattle.ps_commands.specs.Generating.{CanBeFed, Summarizes, summary_under}
+use Rattle.ps_files.specs.ChangeFiles.{CanBeFed}
+use Rattle.ps_commands.specs.Generating.{Summarizes, summary_under}
 use Rattle.ps_commands.proofs.Summaries.{ruled, not_ruled, made_can_be_fed}
 use Rattle.ps_commands.proofs.generating.print_summary.Goals as goal
 

@@ -1,6 +1,6 @@
 use Rattle.std.proofs.Common.{ap, ◌∙◌}
 use Rattle.ps_commands.specs.Generating.{summary_line}
-use Rattle.ps_commands.specs.ReadingChanges.{usual}
+use Rattle.ps_files.specs.ReadingChanges.{usual}
 use Rattle.ps_commands.proofs.Summaries.{summed, not_counted}
 use Rattle.ps_commands.proofs.generating.summarize_store.Goals as goal
 

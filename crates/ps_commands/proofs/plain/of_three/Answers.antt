@@ -1,5 +1,5 @@
 use Rattle.std.proofs.Common.{rules, ◌≡◌, [], ◌∷◌, Some, true, false, bytes_eq, codes}
-use Rattle.ps_commands.specs.Commands.{count_of}
+use Rattle.ps_files.specs.Making.{count_of}
 use Rattle.ps_commands.proofs.Causes.{words_generate_lines}
 use Rattle.ps_commands.proofs.plain.of_three.Goals as goal
 

@@ -1,5 +1,5 @@
 use Rattle.std.proofs.Common.{◌≡◌, List}
-use Rattle.ps_sql.specs.Meaning.{Asker}
+use Rattle.ps_queries.specs.Meaning.{Asker}
 use Rattle.ps_client.specs.States.{state}
 use Rattle.ps_store.specs.declared.events.Event.{Event}
 use Rattle.ps_store.specs.declared.fixed.Fixed.{Fixed}

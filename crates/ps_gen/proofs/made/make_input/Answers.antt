@@ -1,5 +1,5 @@
 use Rattle.std.proofs.Common.{◌≡◌, ℕ, ◌<◌, ◌+◌, ◌-◌, suc, List, [], ◌∷◌, ◌++◌, ap, ◌∙◌, arith, append_assoc}
-use Rattle.ps_changes.specs.declared.changes.Transaction.{Transaction}
+use Rattle.ps_rows.specs.declared.changes.Transaction.{Transaction}
 use Rattle.ps_gen.specs.Made.{made_from, made_input, made_transaction}
 use Rattle.ps_gen.proofs.made.make_input.Goals as goal
 

@@ -1,7 +1,7 @@
 use Rattle.std.proofs.Common.{◌≡◌, drop, Some}
 use Rattle.std.specs.List.{list_all}
-use Rattle.ps_sql.specs.declared.expressions.Expr.{Expr}
-use Rattle.ps_sql.specs.Meaning.{holds}
+use Rattle.ps_queries.specs.declared.expressions.Expr.{Expr}
+use Rattle.ps_queries.specs.Meaning.{holds}
 use Rattle.ps_sql_eval.specs.Evaluated.{without_bucket}
 use Rattle.ps_grant.proofs.branching.all_hold.Given as goal
 

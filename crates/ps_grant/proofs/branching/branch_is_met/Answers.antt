@@ -1,10 +1,10 @@
 use Rattle.std.proofs.Common.{◌≡◌, true, List, Some, map, sym, ap, ◌∙◌, subst}
 use Rattle.std.specs.Prelude.{IfOk}
 use Rattle.std.specs.List.{list_any, list_all}
-use Rattle.ps_sql.specs.declared.expressions.Expr.{Expr}
-use Rattle.ps_sql.specs.Meaning.{Given, holds}
+use Rattle.ps_queries.specs.declared.expressions.Expr.{Expr}
+use Rattle.ps_queries.specs.Meaning.{Given, holds}
 use Rattle.ps_sql_eval.specs.Evaluated.{without_bucket}
-use Rattle.ps_rules.specs.declared.matches.Match.{Match}
+use Rattle.ps_definitions.specs.declared.matches.Match.{Match}
 use Rattle.ps_grant.specs.declared.solving.Allowed.{Allowed}
 use Rattle.ps_grant.specs.Solving.{all_allow, allowed_by}
 use Rattle.ps_grant.proofs.BranchLaws.{met_where_allowed, met_nowhere}

@@ -2,13 +2,13 @@ use Rattle.std.proofs.Common.{List, drop, ◌+◌, sym, ap, ◌∙◌}
 use Rattle.std.specs.Prelude.{◌||◌}
 use Rattle.std.specs.List.{list_any}
 use Rattle.ps_values.specs.declared.values.Value.{Value}
-use Rattle.ps_sql.specs.Meaning.{Given}
+use Rattle.ps_queries.specs.Meaning.{Given}
 use Rattle.ps_sql_eval.specs.Evaluated.{asker_of}
-use Rattle.ps_rules.specs.declared.branches.Branch.{Branch}
-use Rattle.ps_rules.specs.Meeting.{meets_some}
+use Rattle.ps_definitions.specs.declared.branches.Branch.{Branch}
+use Rattle.ps_definitions.specs.Meeting.{meets_some}
 use Rattle.ps_grant.specs.Grants.{given_for}
 use Rattle.ps_grant.specs.Solving.{IsUnbound}
-use Rattle.ps_sql.specs.Vectors.{at_row}
+use Rattle.ps_queries.specs.Vectors.{at_row}
 use Rattle.ps_grant.proofs.BranchLaws.{some_branch, none_of}
 use Rattle.ps_grant.proofs.StepLaws.{next_is, holds_later, nothing_left}
 use Rattle.ps_grant.proofs.branching.some_branch_is_met.Goals as goal

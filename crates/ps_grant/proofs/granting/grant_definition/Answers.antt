@@ -1,13 +1,13 @@
 use Rattle.std.proofs.Common.{◌≡◌, ℕ, List, ◌++◌, flat_map, sym, ap, ◌∙◌, subst}
 use Rattle.std.specs.Prelude.{OnOk}
 use Rattle.std.specs.List.{AllByRecursion}
-use Rattle.ps_changes.specs.Source.{Source}
-use Rattle.ps_sql.specs.Meaning.{Asker}
+use Rattle.ps_rows.specs.Source.{Source}
+use Rattle.ps_queries.specs.Meaning.{Asker}
 use Rattle.ps_sql_eval.specs.Evaluated.{asker_of}
-use Rattle.ps_rules.specs.declared.queries.Planned.{Planned}
-use Rattle.ps_rules.specs.Names.{has_repeated}
-use Rattle.ps_rules.specs.RuleSets.{IsSoundQuery}
-use Rattle.ps_rules.specs.Vectors.{parameter_vectors}
+use Rattle.ps_definitions.specs.declared.queries.Planned.{Planned}
+use Rattle.ps_definitions.specs.Names.{has_repeated}
+use Rattle.ps_definitions.specs.RuleSets.{IsSoundQuery}
+use Rattle.ps_definitions.specs.Vectors.{parameter_vectors}
 use Rattle.ps_grant.specs.declared.copies.Granted.{Granted}
 use Rattle.ps_grant.specs.Grants.{granted_by_query}
 use Rattle.ps_grant.specs.Solving.{AreAsLong}

@@ -1,6 +1,6 @@
 use Rattle.std.proofs.Common.{◌≡◌, drop, leb, filter}
-use Rattle.ps_changes.specs.declared.changes.Transaction.{Transaction}
-use Rattle.ps_changes.specs.Source.{after_transactions, source_at}
+use Rattle.ps_rows.specs.declared.changes.Transaction.{Transaction}
+use Rattle.ps_rows.specs.Source.{after_transactions, source_at}
 use Rattle.ps_grant.specs.Mapped.{kept_rows}
 use Rattle.ps_grant.proofs.sourcing.source_at.Given as goal
 

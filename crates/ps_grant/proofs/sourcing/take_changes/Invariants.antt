@@ -1,5 +1,5 @@
 use Rattle.std.proofs.Common.{◌≡◌, drop}
-use Rattle.ps_changes.specs.Source.{after_changes}
+use Rattle.ps_rows.specs.Source.{after_changes}
 use Rattle.ps_grant.specs.Mapped.{kept_rows}
 use Rattle.ps_grant.proofs.sourcing.take_changes.Given as goal
 

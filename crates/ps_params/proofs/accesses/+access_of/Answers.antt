@@ -1,8 +1,8 @@
 use Rattle.std.proofs.Common.{sym, ap, ◌∙◌, subst}
 use Rattle.std.specs.Prelude.{IfSome}
-use Rattle.ps_sql.specs.declared.expressions.Expr.{Expr}
-use Rattle.ps_sql.specs.declared.expressions.Expr.TheVariants as exprs
-use Rattle.ps_sql.specs.declared.expressions.Operator.TheVariants as operators
+use Rattle.ps_queries.specs.declared.expressions.Expr.{Expr}
+use Rattle.ps_queries.specs.declared.expressions.Expr.TheVariants as exprs
+use Rattle.ps_queries.specs.declared.expressions.Operator.TheVariants as operators
 use Rattle.ps_params.specs.declared.accesses.Access.{Access}
 use Rattle.ps_params.specs.Accesses.{IsAccess}
 use Rattle.ps_params.proofs.Leaves.{if_some, left_access, right_access}

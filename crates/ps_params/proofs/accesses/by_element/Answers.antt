@@ -1,7 +1,7 @@
 use Rattle.std.proofs.Common.{◌≡◌, true, Option, Some, None}
 use Rattle.std.specs.Prelude.{IfSome}
-use Rattle.ps_sql.specs.declared.expressions.Expr.TheVariants as exprs
-use Rattle.ps_sql.specs.declared.expressions.Operator.TheVariants as operators
+use Rattle.ps_queries.specs.declared.expressions.Expr.TheVariants as exprs
+use Rattle.ps_queries.specs.declared.expressions.Operator.TheVariants as operators
 use Rattle.ps_params.specs.declared.accesses.Access.{Access}
 use Rattle.ps_params.specs.Accesses.{IsAccess, IsColumnWith}
 use Rattle.ps_params.proofs.Leaves.{by_list}

@@ -1,5 +1,5 @@
 use Rattle.std.proofs.Common.{◌≡◌, drop}
-use Rattle.ps_sql.specs.Meaning.{value_in}
+use Rattle.ps_queries.specs.Meaning.{value_in}
 use Rattle.ps_params.proofs.places.text_of_column.Given as goal
 
 -- none so far has the name

@@ -1,6 +1,6 @@
 use Rattle.std.proofs.Common.{◌≡◌, ℕ, List, Option, Some, sym, ap, ◌∙◌, subst}
 use Rattle.std.specs.Prelude.{slice_get}
-use Rattle.ps_sql.specs.declared.expressions.Expr.{Expr}
+use Rattle.ps_queries.specs.declared.expressions.Expr.{Expr}
 use Rattle.ps_sql_eval.specs.Evaluated.{asker_of}
 use Rattle.ps_params.specs.declared.paths.Path.{Path}
 use Rattle.ps_params.specs.Accesses.{Covers}

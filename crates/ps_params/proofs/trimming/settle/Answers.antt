@@ -6,7 +6,7 @@ use Rattle.std.specs.Cmp.{tied_then}
 use Rattle.std.specs.Cmp.Lexicographic.{slice_cmp}
 use Rattle.std.specs.BTreeMap.{is_at}
 use Rattle.std.proofs.lemmas.Map.Text.{is_eq-slice_cmp}
-use Rattle.ps_changes.specs.Source.{Key, key_cmp}
+use Rattle.ps_rows.specs.Source.{Key, key_cmp}
 use Rattle.ps_params.specs.Trimming.{is_settled, settles}
 use Rattle.ps_params.proofs.trimming.settle.Goals as goal
 use Rattle.ps_params.proofs.trimming.settle.Goals.{in-Ok-insert, in-Err}

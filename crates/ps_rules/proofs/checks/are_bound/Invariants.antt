@@ -1,6 +1,6 @@
 use Rattle.std.proofs.Common.{◌≡◌, take, true}
 use Rattle.std.specs.List.{list_all}
-use Rattle.ps_rules.specs.Checks.{is_bound}
+use Rattle.ps_definitions.specs.Checks.{is_bound}
 use Rattle.ps_rules.proofs.checks.are_bound.Given as goal
 
 -- all branches that were seen

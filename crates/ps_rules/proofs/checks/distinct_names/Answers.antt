@@ -1,7 +1,7 @@
 use Rattle.std.proofs.Common.{ap, sym, ◌∙◌, true, cond, None, Some, arith}
 use Rattle.std.specs.Prelude.{if◌then◌else◌}
 use Rattle.std.proofs.lemmas.Grind.{common_steps}
-use Rattle.ps_rules.specs.Names.{has_repeated, output_names, is_in}
+use Rattle.ps_definitions.specs.Names.{has_repeated, output_names, is_in}
 use Rattle.ps_rules.proofs.NameLaws.{repeated_more, repeated_found}
 use Rattle.ps_rules.proofs.checks.distinct_names.Goals as goal
 

@@ -1,5 +1,5 @@
 use Rattle.std.proofs.Common.{◌≡◌, take, false}
-use Rattle.ps_rules.specs.Names.{output_names, has_repeated}
+use Rattle.ps_definitions.specs.Names.{output_names, has_repeated}
 use Rattle.ps_rules.proofs.checks.distinct_names.Given as goal
 
 -- the names that were seen, none of which stands twice

@@ -1,5 +1,5 @@
 use Rattle.std.proofs.Common.{◌≡◌, take, map}
-use Rattle.ps_rules.specs.declared.matches.Match.{Match}
+use Rattle.ps_definitions.specs.declared.matches.Match.{Match}
 use Rattle.ps_rules.proofs.checks.matched_names.Given as goal
 
 -- the names that were seen

@@ -1,5 +1,5 @@
 use Rattle.std.proofs.Common.{◌≡◌, take}
-use Rattle.ps_rules.specs.Names.{output_names}
+use Rattle.ps_definitions.specs.Names.{output_names}
 use Rattle.ps_rules.proofs.checks.names_of_outputs.Given as goal
 
 -- the names that were seen

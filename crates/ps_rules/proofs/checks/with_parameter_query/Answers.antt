@@ -1,5 +1,5 @@
 use Rattle.std.proofs.Common.{Result, Err, List, subst}
-use Rattle.ps_sql.specs.declared.queries.ParameterQuery.{ParameterQuery}
+use Rattle.ps_queries.specs.declared.queries.ParameterQuery.{ParameterQuery}
 use Rattle.ps_rules.specs.declared.faults.RulesFault.{RulesFault}
 use Rattle.ps_rules.specs.Checks.{known_by, known_with}
 use Rattle.ps_rules.specs.Faults.{Reads}

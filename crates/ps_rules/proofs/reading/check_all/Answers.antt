@@ -1,6 +1,6 @@
 use Rattle.std.proofs.Common.{◌≡◌, Ok, arith}
 use Rattle.std.proofs.lemmas.Grind.{common_steps}
-use Rattle.ps_rules.specs.RuleSets.{RuleSet}
+use Rattle.ps_definitions.specs.RuleSets.{RuleSet}
 use Rattle.ps_rules.specs.Reading.{rules_from, no_rules}
 use Rattle.ps_rules.proofs.Kept.{kept}
 use Rattle.ps_rules.proofs.reading.check_all.Goals as goal

@@ -1,7 +1,7 @@
 use Rattle.std.proofs.Common.{ap, sym, ◌∙◌, true, false, List}
 use Rattle.std.specs.List.{list_any}
-use Rattle.ps_sql.specs.declared.expressions.Expr.{Expr}
-use Rattle.ps_rules.specs.Branches.{finds}
+use Rattle.ps_queries.specs.declared.expressions.Expr.{Expr}
+use Rattle.ps_definitions.specs.Branches.{finds}
 use Rattle.ps_rules.proofs.Finds.{finds-Call}
 use Rattle.ps_rules.proofs.walks.+asking.Goals as goal
 

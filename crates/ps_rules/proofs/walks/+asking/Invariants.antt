@@ -1,7 +1,7 @@
 use Rattle.std.proofs.Common.{◌≡◌, drop}
 use Rattle.std.specs.List.{list_any}
-use Rattle.ps_sql.specs.declared.expressions.Expr.{Expr}
-use Rattle.ps_rules.specs.Branches.{asks_parameters}
+use Rattle.ps_queries.specs.declared.expressions.Expr.{Expr}
+use Rattle.ps_definitions.specs.Branches.{asks_parameters}
 use Rattle.ps_rules.proofs.walks.+asking.Given as goal
 
 -- none was found so far

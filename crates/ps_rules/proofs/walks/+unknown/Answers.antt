@@ -1,9 +1,9 @@
 use Rattle.std.proofs.Common.{ap, sym, ◌∙◌, false, List}
 use Rattle.std.specs.Prelude.{not}
 use Rattle.std.specs.List.{list_any}
-use Rattle.ps_sql.specs.declared.expressions.Expr.{Expr}
-use Rattle.ps_rules.specs.Names.{is_in}
-use Rattle.ps_rules.specs.Branches.{finds}
+use Rattle.ps_queries.specs.declared.expressions.Expr.{Expr}
+use Rattle.ps_definitions.specs.Names.{is_in}
+use Rattle.ps_definitions.specs.Branches.{finds}
 use Rattle.ps_rules.proofs.Finds.{finds-Call}
 use Rattle.ps_rules.proofs.walks.+unknown.Goals as goal
 

@@ -1,9 +1,9 @@
 use Rattle.std.proofs.Common.{◌≡◌, drop}
 use Rattle.std.specs.List.{list_any}
-use Rattle.ps_sql.specs.declared.expressions.Expr.{Expr}
+use Rattle.ps_queries.specs.declared.expressions.Expr.{Expr}
 use Rattle.std.specs.Prelude.{not}
-use Rattle.ps_rules.specs.Branches.{mentions}
-use Rattle.ps_rules.specs.Names.{is_in}
+use Rattle.ps_definitions.specs.Branches.{mentions}
+use Rattle.ps_definitions.specs.Names.{is_in}
 use Rattle.ps_rules.proofs.walks.+unknown.Given as goal
 
 -- none was found so far

@@ -1,5 +1,5 @@
 use Rattle.std.proofs.Common.{◌≡◌, ◌++◌, map, take}
-use Rattle.ps_sql.specs.Objects.{output_column}
+use Rattle.ps_queries.specs.Objects.{output_column}
 use Rattle.ps_sql_eval.specs.Evaluated.{without_bucket}
 use Rattle.ps_sql_eval.proofs.objects.with_outputs.Given as goal
 

@@ -1,6 +1,6 @@
 use Rattle.std.proofs.Common.{◌≡◌, drop}
 use Rattle.ps_sql_eval.specs.Evaluated.{without_bucket}
-use Rattle.ps_sql.specs.Vectors.{output_value}
+use Rattle.ps_queries.specs.Vectors.{output_value}
 use Rattle.ps_sql_eval.proofs.vectors.output_value.Given as goal
 
 -- none so far has the name

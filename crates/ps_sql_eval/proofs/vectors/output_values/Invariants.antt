@@ -1,6 +1,6 @@
 use Rattle.std.proofs.Common.{◌≡◌, map, take}
 use Rattle.ps_sql_eval.specs.Evaluated.{without_bucket}
-use Rattle.ps_sql.specs.Vectors.{output_value}
+use Rattle.ps_queries.specs.Vectors.{output_value}
 use Rattle.ps_sql_eval.proofs.vectors.output_values.Given as goal
 
 -- the values so far

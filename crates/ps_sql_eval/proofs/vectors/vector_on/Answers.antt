@@ -2,8 +2,8 @@ use Rattle.std.proofs.Common.{◌≡◌, List, [], ◌∷◌, false, not, cond, 
 use Rattle.std.specs.List.{list_any}
 use Rattle.ps_values.specs.declared.values.Value.{Value}
 use Rattle.ps_values.specs.Values.{is_null}
-use Rattle.ps_sql.specs.declared.queries.Output.{Output}
-use Rattle.ps_sql.specs.Vectors.{output_value, vector_values, at_row}
+use Rattle.ps_queries.specs.declared.queries.Output.{Output}
+use Rattle.ps_queries.specs.Vectors.{output_value, vector_values, at_row}
 use Rattle.ps_sql_eval.specs.Evaluated.{asker_of, without_bucket}
 use Rattle.ps_sql_eval.proofs.OnRows.{some_where_held}
 use Rattle.ps_sql_eval.proofs.vectors.vector_on.Goals as goal

@@ -1,6 +1,6 @@
 use Rattle.std.proofs.Common.{List, [], sym, ap, ◌∙◌, subst}
-use Rattle.ps_changes.specs.declared.changes.Transaction.{Transaction}
-use Rattle.ps_changes.specs.Source.{Source}
+use Rattle.ps_rows.specs.declared.changes.Transaction.{Transaction}
+use Rattle.ps_rows.specs.Source.{Source}
 use Rattle.ps_grant.specs.Grants.{granted}
 use Rattle.ps_grant.specs.Latest.{rows_of}
 use Rattle.ps_grant.specs.Sources.{rows_in}

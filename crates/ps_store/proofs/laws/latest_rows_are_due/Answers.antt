@@ -1,5 +1,5 @@
 use Rattle.std.proofs.Common.{List, [], sym, ap, ◌∙◌, subst}
-use Rattle.ps_changes.specs.Source.{Source}
+use Rattle.ps_rows.specs.Source.{Source}
 use Rattle.ps_client_log.specs.Kept.{bucket_at}
 use Rattle.ps_grant.specs.Grants.{granted}
 use Rattle.ps_grant.specs.Latest.{rows_of}

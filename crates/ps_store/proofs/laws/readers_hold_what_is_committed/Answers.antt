@@ -1,6 +1,6 @@
 use Rattle.std.proofs.Common.{List, [], subst}
-use Rattle.ps_changes.specs.declared.changes.Transaction.{Transaction}
-use Rattle.ps_changes.specs.Source.{Source}
+use Rattle.ps_rows.specs.declared.changes.Transaction.{Transaction}
+use Rattle.ps_rows.specs.Source.{Source}
 use Rattle.ps_store.specs.Originals.{Entered, ops_from, timed}
 use Rattle.ps_store.specs.Standing.{Holding, HoldsStanding}
 use Rattle.ps_store.specs.Steps.{source_after, held_of}

@@ -1,5 +1,5 @@
 use Rattle.std.proofs.Common.{List, [], subst}
-use Rattle.ps_changes.specs.Source.{Source}
+use Rattle.ps_rows.specs.Source.{Source}
 use Rattle.ps_store.specs.Originals.{Entered, original}
 use Rattle.ps_store.specs.Standing.{HoldsStanding}
 use Rattle.ps_store.specs.Steps.{source_after, held_of}

@@ -1,5 +1,5 @@
 use Rattle.std.proofs.Common.{◌≡◌}
-use Rattle.ps_changes.specs.Source.{Key}
+use Rattle.ps_rows.specs.Source.{Key}
 use Rattle.ps_store.specs.Rows.{row_at}
 use Rattle.ps_store.proofs.plans.tidy_all.Given as goal
 

@@ -1,5 +1,5 @@
 use Rattle.std.proofs.Common.{◌≡◌, take}
-use Rattle.ps_changes.specs.Source.{Key}
+use Rattle.ps_rows.specs.Source.{Key}
 use Rattle.ps_store.specs.Rows.{row_at}
 use Rattle.ps_store.specs.Tails.{HasPlaces}
 use Rattle.ps_store.proofs.stores.make_places.Given as goal

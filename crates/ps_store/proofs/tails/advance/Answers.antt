@@ -1,7 +1,7 @@
 use Rattle.std.proofs.Common.{◌≡◌, suc, Option, List, ◌∷◌, sym, ap, ◌∙◌, subst, length, take, drop, arith}
-use Rattle.ps_changes.specs.Source.{Key, Version}
-use Rattle.ps_rules.specs.declared.definitions.Definition.{Definition}
-use Rattle.ps_rules.specs.RuleSets.{RuleSet}
+use Rattle.ps_rows.specs.Source.{Key, Version}
+use Rattle.ps_definitions.specs.declared.definitions.Definition.{Definition}
+use Rattle.ps_definitions.specs.RuleSets.{RuleSet}
 use Rattle.ps_params.specs.Notes.{Note}
 use Rattle.ps_store.specs.declared.plans.Made.{Made}
 use Rattle.ps_store.specs.Noting.{noted, with_note}

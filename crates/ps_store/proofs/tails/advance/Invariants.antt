@@ -1,5 +1,5 @@
 use Rattle.std.proofs.Common.{◌≡◌, ℕ, ◌≤◌, length, take, drop}
-use Rattle.ps_changes.specs.Source.{Key}
+use Rattle.ps_rows.specs.Source.{Key}
 use Rattle.ps_store.specs.Rows.{row_at}
 use Rattle.ps_store.specs.Reach.{reached}
 use Rattle.ps_store.specs.Tails.{Tied, HasPlaces, AreRowsOf, NotFalling, Ascend, ids, reach_after, rows_after, notes_after}

@@ -1,5 +1,5 @@
 use Rattle.std.proofs.Common.{ap, ◌∙◌}
-use Rattle.ps_changes.specs.declared.changes.Change.{Change}
+use Rattle.ps_rows.specs.declared.changes.Change.{Change}
 use Rattle.ps_params.specs.Notes.{Note}
 use Rattle.ps_store.proofs.Advancing.{noted_by}
 use Rattle.ps_store.proofs.tails.advance_one.Goals as goal

@@ -1,6 +1,6 @@
 use Rattle.std.proofs.Common.{◌+◌, List, [], ◌∷◌, ◌++◌, length, sym, ap, ◌∙◌, subst}
-use Rattle.ps_changes.specs.declared.changes.Change.{Change}
-use Rattle.ps_changes.specs.declared.changes.Transaction.{Transaction}
+use Rattle.ps_rows.specs.declared.changes.Change.{Change}
+use Rattle.ps_rows.specs.declared.changes.Transaction.{Transaction}
 use Rattle.ps_lock.specs.Words.{history_of, own_entries_in}
 use Rattle.ps_store.specs.declared.events.Event.TheVariants.{Feed}
 use Rattle.ps_store.specs.Sharing.{fixed_of}

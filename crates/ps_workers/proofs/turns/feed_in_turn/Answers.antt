@@ -1,5 +1,5 @@
 use Rattle.std.proofs.Common.{length, ◌+◌, ap, ◌∙◌, ◌∷◌, [], ◌++◌, sym, subst}
-use Rattle.ps_changes.specs.declared.changes.Transaction.{Transaction}
+use Rattle.ps_rows.specs.declared.changes.Transaction.{Transaction}
 use Rattle.ps_lock.specs.Words.{history_of, own_entries_in}
 use Rattle.ps_store.specs.declared.events.Event.TheVariants.{Feed}
 use Rattle.ps_store.specs.Sharing.{fixed_of}

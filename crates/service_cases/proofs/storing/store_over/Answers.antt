@@ -1,4 +1,4 @@
-use Rattle.ps_commands.specs.ReadingChanges.{usual}
+use Rattle.ps_files.specs.ReadingChanges.{usual}
 use Rattle.service_cases.proofs.storing.store_over.Goals as goal
 
 pub returns-in-Ok : goal.returns-in-Ok

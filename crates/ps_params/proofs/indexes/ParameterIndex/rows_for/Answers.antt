@@ -1,8 +1,8 @@
 use Rattle.std.proofs.Common.{◌≡◌, ℕ, List, flat_map, sym, ap, ◌∙◌, subst}
 use Rattle.std.specs.Prelude.{◌||◌}
 use Rattle.std.specs.List.{list_any}
-use Rattle.ps_rules.specs.declared.definitions.Definition.{Definition}
-use Rattle.ps_rules.specs.RuleSets.{RuleSet}
+use Rattle.ps_definitions.specs.declared.definitions.Definition.{Definition}
+use Rattle.ps_definitions.specs.RuleSets.{RuleSet}
 use Rattle.ps_sql_eval.specs.Evaluated.{asker_of}
 use Rattle.ps_params.specs.Notes.{Note}
 use Rattle.ps_params.specs.Indexes.{Index, StandsAt}

@@ -1,6 +1,6 @@
 use Rattle.std.proofs.Common.{Some, map, unwrap_or}
 use Rattle.std.specs.Ordering.{eq_by_cmp}
-use Rattle.ps_changes.specs.Source.{key_cmp}
+use Rattle.ps_rows.specs.Source.{key_cmp}
 use Rattle.ps_store.specs.Originals.{entries_at, columns_of}
 use Rattle.ps_store.specs.Places.{place_of}
 use Rattle.ps_store.specs.Rows.{row_at}

@@ -2,7 +2,7 @@ use Rattle.std.proofs.Common.{Some, refl, ap, subst}
 use Rattle.std.specs.Option.{IsSome}
 use Rattle.std.specs.Prelude.{is_some}
 use Rattle.std.specs.Ordering.{eq_by_cmp}
-use Rattle.ps_changes.specs.Source.{key_cmp}
+use Rattle.ps_rows.specs.Source.{key_cmp}
 use Rattle.ps_store.specs.Rows.{in_place}
 use Rattle.ps_store.proofs.Maps.{Puts, tied_rows, equal_rows, read_after, read_kept}
 use Rattle.ps_store.proofs.rows.Rows.set.Goals as goal

@@ -3,7 +3,7 @@ use Rattle.std.specs.Option.{option_copied}
 use Rattle.std.specs.Prelude.{is_some}
 use Rattle.std.specs.BTreeMap.{get}
 use Rattle.std.specs.Ordering.{eq_by_cmp}
-use Rattle.ps_changes.specs.Source.{key_cmp}
+use Rattle.ps_rows.specs.Source.{key_cmp}
 use Rattle.ps_store.specs.Rows.{in_place}
 use Rattle.ps_store.proofs.Maps.{Takes, tied_rows, equal_rows, read_kept}
 use Rattle.ps_store.proofs.rows.Rows.tidy.Goals as goal

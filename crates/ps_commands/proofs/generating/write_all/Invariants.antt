@@ -1,6 +1,0 @@
-use Rattle.ps_commands.proofs.Summaries.{IsWriting}
-use Rattle.ps_commands.proofs.generating.write_all.Given as goal
-
--- the transactions before those that are left are written
-abbrev pub invariant-made : goal.invariant-made
-invariant-made l = IsWriting l.fn.rules l.fn.made l.transaction-iterator.rest.items l.store

@@ -1,0 +1,7 @@
+pub mod Arrays
+pub mod Counts
+mod DefinitionNames
+pub mod Meetings
+mod Names
+pub mod Spreads
+mod Steps

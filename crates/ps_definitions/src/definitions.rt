@@ -1,0 +1,28 @@
+use crate::Planned;
+use ps_queries::ParameterQuery;
+use ps_values::{Items, Text};
+
+/// A bucket definition.
+#[derive(Debug)]
+pub struct Definition {
+    /// Its name, which no other definition of the rules has.
+    pub name: Text,
+    /// The names of its parameters: those of the outputs of its first parameter query, in order.
+    pub names: Items<Text>,
+    /// Its parameter queries.
+    pub parameters: Items<ParameterQuery>,
+    /// Its data queries.
+    pub queries: Items<Planned>,
+}
+
+// By hand: docs/DECISIONS.md, "Drops".
+impl Drop for Definition {
+    fn drop(self) {
+        let Definition {
+            name: _name,
+            names: _names,
+            parameters: _parameters,
+            queries: _queries,
+        } = self;
+    }
+}

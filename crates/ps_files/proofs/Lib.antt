@@ -1,0 +1,10 @@
+pub mod AllLines
+pub mod Committing
+pub mod CompactedLogs
+pub mod FaultLines
+pub mod MadeLines
+pub mod Pending
+pub mod Reaching
+pub mod RulesReading
+pub mod Telling
+pub mod Writing

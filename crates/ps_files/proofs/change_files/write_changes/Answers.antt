@@ -1,0 +1,24 @@
+use Rattle.std.proofs.Common.{[], sym, ◌∙◌, subst}
+use Rattle.ps_store.specs.Stores.{StoreStandsFor}
+use Rattle.ps_files.proofs.Reaching.{started, line_more, refuses, all_written}
+use Rattle.ps_files.proofs.change_files.write_changes.Goals as goal
+
+pub lines-init : goal.lines-init
+lines-init c =
+    started c.args.rules c.args.changes c.in_ok-store.store (record { are = c.have_numbers.ensures.rules; numbers = c.have_numbers.ensures.numbers })
+    (subst (λ limits. StoreStandsFor (record { rules = c.args.rules; limits = limits }) c.in_ok-store.store []) c.usual.ensures.value c.in_ok-store.ensures)
+
+pub lines-preserved : goal.lines-preserved
+lines-preserved c =
+    let so_far = rw c.in-Some.is at c.lines.invariant in
+    line_more c.args.rules c.args.changes.now c.lines.number c.in-Some.bytes c.split_line.result.0.now c.split_line.result.1 c.lines.store so_far c.split_line.ensures c.write_line.new.store
+    (sym c.is_blank.ensures ∙ c.if-is_blank.false) (c.in-Ok.ensures c.args.rules so_far.done so_far.committed)
+
+pub returns-in-Err : goal.returns-in-Err
+returns-in-Err c =
+    let so_far = rw c.in-Some.is at c.lines.invariant in
+    refuses c.args.rules c.args.changes.now c.lines.number c.in-Some.bytes c.split_line.result.0.now c.split_line.result.1 c.lines.store so_far c.split_line.ensures c.in-Err.fault c.write_line.new.store
+    (sym c.is_blank.ensures ∙ c.if-is_blank.false) (c.in-Err.ensures c.args.rules so_far.done so_far.committed)
+
+pub returns : goal.returns
+returns c = all_written c.args.rules c.args.changes.now c.lines.number c.lines.store (rw c.in_default.is at c.lines.invariant)

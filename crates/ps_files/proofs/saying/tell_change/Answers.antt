@@ -1,0 +1,20 @@
+use Rattle.std.proofs.Common.{subst}
+use Rattle.ps_files.specs.declared.faults.LineFault.TheVariants.{BadJson, BadShape, BadPosition, BadValue}
+use Rattle.ps_files.specs.FaultTexts.{Tells}
+use Rattle.ps_files.proofs.FaultLines.{change_line}
+use Rattle.ps_files.proofs.saying.tell_change.Goals as goal
+
+pub returns-in-BadJson : goal.returns-in-BadJson
+returns-in-BadJson g c = rw c.in-BadJson.is (subst (λ text. Tells (g.E.Sink.taken c.args.err.now) (g.E.Sink.taken c.tell_number.new.err) (g.E.Sink.faults c.args.err.now) (g.E.Sink.faults c.tell_number.new.err) text) (change_line c.args.line BadJson) c.tell_number.ensures)
+
+pub returns-in-BadShape : goal.returns-in-BadShape
+returns-in-BadShape g c = rw c.in-BadShape.is (subst (λ text. Tells (g.E.Sink.taken c.args.err.now) (g.E.Sink.taken c.tell_number-in-BadShape.new.err) (g.E.Sink.faults c.args.err.now) (g.E.Sink.faults c.tell_number-in-BadShape.new.err) text) (change_line c.args.line BadShape) c.tell_number-in-BadShape.ensures)
+
+pub returns-in-BadPosition : goal.returns-in-BadPosition
+returns-in-BadPosition g c = rw c.in-BadPosition.is (subst (λ text. Tells (g.E.Sink.taken c.args.err.now) (g.E.Sink.taken c.tell_number-in-BadPosition.new.err) (g.E.Sink.faults c.args.err.now) (g.E.Sink.faults c.tell_number-in-BadPosition.new.err) text) (change_line c.args.line BadPosition) c.tell_number-in-BadPosition.ensures)
+
+pub returns-in-BadValue : goal.returns-in-BadValue
+returns-in-BadValue g c = rw c.in-BadValue.is (subst (λ text. Tells (g.E.Sink.taken c.args.err.now) (g.E.Sink.taken c.tell_number-in-BadValue.new.err) (g.E.Sink.faults c.args.err.now) (g.E.Sink.faults c.tell_number-in-BadValue.new.err) text) (change_line c.args.line BadValue) c.tell_number-in-BadValue.ensures)
+
+pub returns-in-NotRising : goal.returns-in-NotRising
+returns-in-NotRising g c = rw c.in-NotRising.is c.tell_not_rising.ensures

@@ -1,0 +1,12 @@
+pub mod ChangeFiles
+pub mod Checking
+pub mod Committing
+pub mod Compacting
+pub mod FaultTexts
+pub mod HeldFiles
+pub mod Loading
+pub mod Making
+pub mod ReadingAll
+pub mod ReadingChanges
+pub mod RulesFaults
+pub mod Saying

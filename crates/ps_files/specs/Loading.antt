@@ -1,0 +1,118 @@
+-- Loading what a file means.
+use Rattle.std.specs.Prelude.{◌≡◌, ℕ, ◌<◌, ◌++◌, codes, List, Option, Some, None, Result, Ok, Err, Vec}
+use Rattle.std.specs.declared.alloc.Global.{Global}
+use Rattle.ps_io.specs.Contents.{Contents, HasLength}
+use Rattle.ps_io.specs.Counts.{Rose}
+use Rattle.ps_files.specs.declared.faults.Fault.{Fault}
+use Rattle.ps_files.specs.declared.faults.Fault.TheVariants.{Usage, Rules, Change, PastLimit, TooManyBuckets, Claims, Keys, TooLong, CannotRead, CannotWrite, Script, Memory}
+use Rattle.ps_definitions.specs.RuleSets.{RuleSet}
+use Rattle.ps_sql_eval.specs.declared.askers.Asker.{Asker}
+use Rattle.ps_sql_eval.specs.Evaluated.{asker_of}
+use Rattle.ps_token.specs.KeyLists.{key_of}
+use Rattle.ps_token.specs.Tokens.{signed_token}
+use Rattle.ps_token.specs.declared.key_lists.Key.{Key}
+use Rattle.ps_token.specs.declared.faults.SignFault.{SignFault}
+use Rattle.ps_token.specs.declared.faults.SignFault.TheVariants.{UnknownKey}
+use Rattle.ps_token.specs.declared.faults.SignFault.TheVariants as sign
+use Rattle.ps_claims.specs.Claims.{asker_of_claims}
+use Rattle.ps_files.specs.HeldFiles.{HoldsWithin, key_of_file}
+use Rattle.ps_files.specs.RulesFaults.{rules_of_file}
+
+-- loading a file within a limit: what was found in its bytes, why its bytes are refused, that it is longer, or that the files failed
+abbrev pub Loads : {X : Type 0} → Option Contents → List ℕ → ℕ → ℕ → ℕ → (X → List ℕ → Type 0) → (Fault → List ℕ → Type 0) → Result X Fault → Type 0
+Loads held name limit before now Finds Refuses (Ok x) = (bytes : List ℕ) × HoldsWithin held name limit bytes × Finds x bytes
+Loads held name limit before now Finds Refuses (Err Usage) = ⊥
+Loads held name limit before now Finds Refuses (Err (Rules line column why)) = (bytes : List ℕ) × HoldsWithin held name limit bytes × Refuses (Rules line column why) bytes
+Loads held name limit before now Finds Refuses (Err (Change line why)) = (bytes : List ℕ) × HoldsWithin held name limit bytes × Refuses (Change line why) bytes
+Loads held name limit before now Finds Refuses (Err (PastLimit passed)) = (bytes : List ℕ) × HoldsWithin held name limit bytes × Refuses (PastLimit passed) bytes
+Loads held name limit before now Finds Refuses (Err (TooManyBuckets count)) = (bytes : List ℕ) × HoldsWithin held name limit bytes × Refuses (TooManyBuckets count) bytes
+Loads held name limit before now Finds Refuses (Err Claims) = (bytes : List ℕ) × HoldsWithin held name limit bytes × Refuses Claims bytes
+Loads held name limit before now Finds Refuses (Err Keys) = (bytes : List ℕ) × HoldsWithin held name limit bytes × Refuses Keys bytes
+Loads held name limit before now Finds Refuses (Err (TooLong seen)) = (limit < seen) × HasLength held name seen
+Loads held name limit before now Finds Refuses (Err (CannotRead file)) = (file.now ≡ name) × Rose before now
+Loads held name limit before now Finds Refuses (Err CannotWrite) = ⊥
+Loads held name limit before now Finds Refuses (Err (Script place cause)) = ⊥
+Loads held name limit before now Finds Refuses (Err Memory) = Unit {0}
+
+-- bytes alone
+abbrev pub IsContent : Vec ℕ Global → List ℕ → Type 0
+IsContent read bytes = read.items ≡ bytes
+
+abbrev pub RefusesNothing : Fault → List ℕ → Type 0
+RefusesNothing fault bytes = ⊥
+
+-- the rules of a rules file
+abbrev pub FindsRules : RuleSet → List ℕ → Type 0
+FindsRules rules bytes = rules_of_file bytes ≡ Ok rules
+
+abbrev pub IsRulesFault : Fault → List ℕ → Type 0
+IsRulesFault (Rules line column why) bytes = rules_of_file bytes ≡ Err (Rules line column why)
+IsRulesFault Usage bytes = ⊥
+IsRulesFault (Change line why) bytes = ⊥
+IsRulesFault (PastLimit limit) bytes = ⊥
+IsRulesFault (TooManyBuckets count) bytes = ⊥
+IsRulesFault Claims bytes = ⊥
+IsRulesFault Keys bytes = ⊥
+IsRulesFault (TooLong seen) bytes = ⊥
+IsRulesFault (CannotRead name) bytes = ⊥
+IsRulesFault CannotWrite bytes = ⊥
+IsRulesFault (Script place cause) bytes = ⊥
+IsRulesFault Memory bytes = ⊥
+
+-- keys of a key file, one of which has the kid
+abbrev pub FindsKey : List ℕ → List Key → List ℕ → Type 0
+FindsKey kid keys bytes = (key : Key) × (key_of kid keys ≡ Some key) × (key_of_file kid bytes ≡ Some key)
+
+abbrev pub IsKeysFault : List ℕ → Fault → List ℕ → Type 0
+IsKeysFault kid Keys bytes = key_of_file kid bytes ≡ None
+IsKeysFault kid Usage bytes = ⊥
+IsKeysFault kid (Rules line column why) bytes = ⊥
+IsKeysFault kid (Change line why) bytes = ⊥
+IsKeysFault kid (PastLimit limit) bytes = ⊥
+IsKeysFault kid (TooManyBuckets count) bytes = ⊥
+IsKeysFault kid Claims bytes = ⊥
+IsKeysFault kid (TooLong seen) bytes = ⊥
+IsKeysFault kid (CannotRead name) bytes = ⊥
+IsKeysFault kid CannotWrite bytes = ⊥
+IsKeysFault kid (Script place cause) bytes = ⊥
+IsKeysFault kid Memory bytes = ⊥
+
+-- keys of a key file are found, or refused; of want of memory nothing is said
+abbrev pub ChoosesKey : List ℕ → List ℕ → Result (List Key) Fault → Type 0
+ChoosesKey kid bytes (Ok keys) = FindsKey kid keys bytes
+ChoosesKey kid bytes (Err Memory) = Unit {0}
+ChoosesKey kid bytes (Err Keys) = IsKeysFault kid Keys bytes
+ChoosesKey kid bytes (Err Usage) = ⊥
+ChoosesKey kid bytes (Err (Rules line column why)) = ⊥
+ChoosesKey kid bytes (Err (Change line why)) = ⊥
+ChoosesKey kid bytes (Err (PastLimit limit)) = ⊥
+ChoosesKey kid bytes (Err (TooManyBuckets count)) = ⊥
+ChoosesKey kid bytes (Err Claims) = ⊥
+ChoosesKey kid bytes (Err (TooLong seen)) = ⊥
+ChoosesKey kid bytes (Err (CannotRead name)) = ⊥
+ChoosesKey kid bytes (Err CannotWrite) = ⊥
+ChoosesKey kid bytes (Err (Script place cause)) = ⊥
+
+-- a line with a token is that of the key of the kid; no key has it; want of memory says nothing
+abbrev pub SignsLine : List Key → List ℕ → List ℕ → Result (List ℕ) SignFault → Type 0
+SignsLine keys kid payload (Ok line) = (key : Key) × (key_of kid keys ≡ Some key) × (line ≡ signed_token key kid payload ++ codes "\n")
+SignsLine keys kid payload (Err UnknownKey) = key_of kid keys ≡ None
+SignsLine keys kid payload (Err sign.Memory) = Unit {0}
+
+-- the asker of a claims file
+abbrev pub FindsAsker : Asker → List ℕ → Type 0
+FindsAsker asker bytes = asker_of_claims bytes ≡ Some (asker_of asker)
+
+abbrev pub IsClaimsFault : Fault → List ℕ → Type 0
+IsClaimsFault Claims bytes = asker_of_claims bytes ≡ None
+IsClaimsFault Usage bytes = ⊥
+IsClaimsFault (Rules line column why) bytes = ⊥
+IsClaimsFault (Change line why) bytes = ⊥
+IsClaimsFault (PastLimit limit) bytes = ⊥
+IsClaimsFault (TooManyBuckets count) bytes = ⊥
+IsClaimsFault Keys bytes = ⊥
+IsClaimsFault (TooLong seen) bytes = ⊥
+IsClaimsFault (CannotRead name) bytes = ⊥
+IsClaimsFault CannotWrite bytes = ⊥
+IsClaimsFault (Script place cause) bytes = ⊥
+IsClaimsFault Memory bytes = ⊥

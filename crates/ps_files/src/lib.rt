@@ -1,0 +1,25 @@
+//! The files of the commands: read, written into a store, and checked, printed, signed or compacted from there; and the
+//! faults that a command ends with, with what is said of them.
+#![tactic(auto)]
+
+mod change_files;
+mod checking;
+mod compacting;
+mod faults;
+mod loading;
+mod making;
+mod reading_all;
+mod rules_faults;
+mod saying;
+mod signing;
+
+pub use change_files::{write_changes, write_transactions};
+pub use checking::{print_check, push_number};
+pub use compacting::{Compacted, compact_all, load_reports};
+pub use faults::{Fault, Limit, LineFault, RulesCause, ScriptCause};
+pub use loading::{FILE_LIMIT, RULES_LIMIT, load, load_asker, load_keys, load_rules};
+pub use making::{made_count, print_made};
+pub use reading_all::load_transactions;
+pub use rules_faults::read_rules_file;
+pub use saying::say;
+pub use signing::sign_line;

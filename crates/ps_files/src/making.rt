@@ -1,0 +1,62 @@
+//! Made change lines.
+
+ghost use Rattle.std.specs.Prelude.{◌≡◌, ◌≤◌, ◌++◌, ◌<◌, ◌^◌, List, IfOk, IfSome, OnOk, codes};
+ghost use Rattle.std.specs.List.{All};
+ghost use Rattle.ps_changes.specs.Writing.{IsWritable, line_text};
+ghost use Rattle.ps_gen.specs.Made.{made_input};
+ghost use Rattle.ps_files.specs.Making.{count_of, made_limit};
+ghost use Rattle.ps_files.specs.Making.{lines_text};
+
+use ps_changes::write_line;
+use ps_gen::make_input;
+use ps_rows::Transaction;
+use ps_values::{Memory, Text, read_decimal};
+use std::alloc::Global;
+
+// The most transactions that are made.
+const MOST: u64 = 100000;
+
+/// How many transactions a word asks for: a number from 1 to 100,000.
+pub fn made_count(word: &Text) -> Option<u32>
+    ensures value { result ≡ count_of word.now }
+    ensures within { IfSome result (λ count. count ≤ made_limit) }
+{
+    let count = read_decimal(word)?;
+    if 1 <= count && count <= MOST {
+        Some(count as u32)
+    } else {
+        None
+    }
+}
+
+// Prints the line of a transaction.
+fn push_line(alloc: Global, out: &mut Vec<u8>, transaction: &Transaction) -> Result<(), Memory>
+    requires { IsWritable transaction.now }
+    ensures { OnOk result (out.new.items ≡ out.old.items ++ (line_text transaction.now ++ codes "\n")) }
+{
+    let line = write_line(alloc, transaction)?;
+    out.extend_from_slice(line.as_slice())?;
+    out.push(b'\n')?;
+    Ok(())
+}
+
+// Prints the lines of transactions.
+fn print_lines(alloc: Global, transactions: &[Transaction]) -> Result<Vec<u8>, Memory>
+    requires { All IsWritable transactions.now }
+    ensures { IfOk result (λ text. text.items ≡ lines_text transactions.now) }
+{
+    let mut out = Vec::new(alloc);
+    'transactions: for transaction in transactions {
+        push_line(alloc, &mut out, transaction)?;
+    }
+    Ok(out)
+}
+
+/// The change lines of so many made transactions: docs/FORMATS.md, "Made input".
+pub fn print_made(alloc: Global, count: u32) -> Result<Vec<u8>, Memory>
+    requires { count ≤ made_limit }
+    ensures { IfOk result (λ text. text.items ≡ lines_text (made_input count)) }
+{
+    let transactions = make_input(alloc, count)?;
+    print_lines(alloc, transactions.as_slice())
+}

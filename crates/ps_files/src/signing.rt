@@ -1,0 +1,41 @@
+ghost use Rattle.std.specs.Prelude.{◌≡◌, ◌++◌, codes, string_bytes, IfOk};
+ghost use Rattle.ps_files.specs.Loading.{ChoosesKey, SignsLine};
+
+use crate::faults::Fault;
+use ps_token::{Keys, KeysFault, SignFault, read_keys, sign};
+use ps_values::{Memory, Text};
+use std::alloc::Global;
+
+/// The keys of a key file. Fails with `Keys` where the file is not of its form, or where no key has that kid.
+pub fn choose_key<'a>(alloc: Global, bytes: &[u8], kid: &Text) -> Result<Keys, Fault<'a>>
+    ensures { ChoosesKey kid.now bytes.now result }
+{
+    let keys = match read_keys(alloc, bytes) {
+        Ok(keys) => keys,
+        Err(KeysFault::BadJson | KeysFault::BadShape) => return Err(Fault::Keys),
+        Err(KeysFault::Memory) => return Err(Fault::Memory),
+    };
+    match keys.find(kid) {
+        Some(_) => Ok(keys),
+        None => Err(Fault::Keys),
+    }
+}
+
+// A text and a line feed.
+fn line_of(alloc: Global, text: Text) -> Result<Text, Memory>
+    ensures { IfOk result (λ line. line ≡ text ++ codes "\n") }
+{
+    let mut line = text.into_string(alloc)?;
+    line.push_str("\n")?;
+    Ok(Text::from_string(line))
+}
+
+/// The token of a payload, signed with the key of a kid, and a line feed. Fails with `UnknownKey` exactly where no key has that kid.
+#[tactic(auto, unfolding(ps_token::specs::Tokens::token_of))]
+pub fn sign_line(alloc: Global, keys: &Keys, kid: &Text, payload: &Text) -> Result<Text, SignFault>
+    ensures { SignsLine keys.now kid.now payload.now result }
+{
+    let token = sign(alloc, keys, kid, payload)?;
+    let line = line_of(alloc, token)?;
+    Ok(line)
+}

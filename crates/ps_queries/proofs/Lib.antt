@@ -1,0 +1,2 @@
+pub mod SubjectLaws
+pub mod ValueExamples

@@ -1,5 +1,0 @@
-use Rattle.ps_rules.proofs.Meetings.{null_not_allowed}
-use Rattle.ps_rules.proofs.laws.null_is_not_allowed.Goals as goal
-
-pub returns : goal.returns
-returns c = null_not_allowed

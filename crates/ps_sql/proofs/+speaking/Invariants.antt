@@ -1,7 +1,0 @@
-use Rattle.std.proofs.Common.{◌≡◌, drop, map}
-use Rattle.ps_sql.specs.Subjects.{any_true, speaks}
-use Rattle.ps_sql.proofs.+speaking.Given as goal
-
--- those that were passed do not speak of it
-abbrev pub invariant-subjects::any_speaks_of-all : goal.invariant-subjects::any_speaks_of-all
-invariant-subjects::any_speaks_of-all l = any_true (map (speaks l.subject) l.all) ≡ any_true (map (speaks l.subject) (drop l.one-index l.all))

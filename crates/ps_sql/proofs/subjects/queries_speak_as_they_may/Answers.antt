@@ -1,5 +1,0 @@
-use Rattle.ps_sql.proofs.Asking.{data_asks_nobody, parameter_names_no_bucket}
-use Rattle.ps_sql.proofs.subjects.queries_speak_as_they_may.Goals as goal
-
-pub returns : goal.returns
-returns c = record { «data» = data_asks_nobody; parameter = parameter_names_no_bucket }

@@ -1,5 +1,0 @@
-use Rattle.ps_sql.proofs.SubjectLaws.{whatever_the_row}
-use Rattle.ps_sql.proofs.subjects.same_on_every_row.Goals as goal
-
-pub returns : goal.returns
-returns c = whatever_the_row
