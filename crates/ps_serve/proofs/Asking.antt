@@ -33,4 +33,4 @@ module _ (may_give : ℕ → Type 0) (keys : List Key) (moment : ℕ) (head : He
   asked_whole (Err LengthRequired) it = is_read (Err LengthRequired) it
   asked_whole (Err TooLarge) it = inr (is_read (Err TooLarge) it)
   asked_whole (Err TooManyBuckets) it = it
-  asked_whole (Err Memory) it = tt
+  asked_whole (Err Memory) it = inr (head, between, has_head, it)

@@ -1,8 +1,10 @@
 -- What a head and what was read behind it ask for.
 use Rattle.std.proofs.Common.{◌≡◌, ℕ, ◌⊎◌, inl, inr, List, [], Option, Some, None, Ok, Err, Bool, true, false, refl, sym, ap, subst, ◌∙◌}
-use Rattle.std.specs.Prelude.{Result, bytes_eq, codes}
+use Rattle.std.specs.Prelude.{Result, bytes_eq, codes, length}
 use Rattle.std.proofs.lemmas.List.{append-nil}
 use Rattle.ps_io.specs.Sources.{Input, Gives}
+use Rattle.ps_lines.specs.declared.bodies.StreamBody.{StreamBody}
+use Rattle.ps_lines.specs.Bodies as lines
 use Rattle.ps_http.specs.declared.heads.Head.{Head}
 use Rattle.ps_token.specs.declared.claim_sets.Claims.{Claims}
 use Rattle.ps_token.specs.declared.key_lists.Key.{Key}
@@ -16,13 +18,13 @@ use Rattle.ps_serve.specs.declared.refusals.Refusal.{Refusal}
 use Rattle.ps_serve.specs.declared.refusals.Refusal.TheVariants.{Cut, BadRequest, Unauthorized, NotFound, NotAllowed, Conflict, LengthRequired, TooLarge, TooManyBuckets, Memory}
 use Rattle.ps_serve.specs.declared.ways.Way.{Way}
 use Rattle.ps_serve.specs.declared.ways.Way.TheVariants.{Number}
-use Rattle.ps_serve.specs.Refusals.{◌>>=◌, or_refusal, holds, or_bad, Reads}
-use Rattle.ps_serve.specs.Requests.{way_of, method_of, token_in, admitted, verified, stated, length_for, length_of, asked_number, asked_for, asked_of}
+use Rattle.ps_serve.specs.Refusals.{◌>>=◌, or_refusal, holds, or_bad, Reads, ReadsOr}
+use Rattle.ps_serve.specs.Requests.{HasToken, IsOpen, way_of, method_of, token_in, admitted, verified, stated, length_for, length_of, stream_for, asked_stream, asked_number, asked_for, asked_of}
 use Rattle.ps_serve.specs.Reading.{HasBody, IsBehind, AsksBehind, count_of}
 
 -- ---- refusals that a request's own bytes have
 
-abbrev IsOwn : Refusal → Type 0
+abbrev pub IsOwn : Refusal → Type 0
 IsOwn Cut = ⊥
 IsOwn BadRequest = Unit {0}
 IsOwn Unauthorized = Unit {0}
@@ -38,7 +40,7 @@ IsOwn Memory = ⊥
 abbrev pass_of : Way → Claims → Pass
 pass_of way claims = record { way = way; claims = claims }
 
-abbrev AreOwn : {A : Type 0} → Result A Refusal → Type 0
+abbrev pub AreOwn : {A : Type 0} → Result A Refusal → Type 0
 AreOwn (Ok x) = Unit {0}
 AreOwn (Err refusal) = IsOwn refusal
 
@@ -77,21 +79,28 @@ own_number claims query = by_client (query_value_of query (codes "client_id"))
     by_client None = tt
     by_client (Some client) = tt
 
+own_read : {A B E : Type 0} (x : Result A E) (f : A → B) → AreOwn (or_bad BadRequest x >>= λ r. Ok (f r))
+own_read (Ok x) f = tt
+own_read (Err fault) f = tt
+
+pub own_stream : (claims : Claims) (body : List ℕ) → AreOwn (asked_stream claims body)
+own_stream claims body = own_read (lines.body_of body) (λ (read : StreamBody). stream_for claims read)
+
 own_of : {A : Type 0} (x : Result A Refusal) (refusal : Refusal) → AreOwn x → x ≡ Err refusal → IsOwn refusal
 own_of x refusal own is = subst (λ r. AreOwn r) is own
 
 -- a refusal is that which is meant, or want of memory
-told : {A : Type 0} (refusal : Refusal) (meant : Result A Refusal) → Reads (Err refusal) meant → (refusal ≡ Memory) ⊎ (meant ≡ Err refusal)
-told Cut meant is = inr is
-told BadRequest meant is = inr is
-told Unauthorized meant is = inr is
-told NotFound meant is = inr is
-told NotAllowed meant is = inr is
-told Conflict meant is = inr is
-told LengthRequired meant is = inr is
-told TooLarge meant is = inr is
-told TooManyBuckets meant is = inr is
-told Memory meant is = inl refl
+told : {A : Type 0} (wanting : Type 0) (refusal : Refusal) (meant : Result A Refusal) → ReadsOr wanting (Err refusal) meant → ((refusal ≡ Memory) × wanting) ⊎ (meant ≡ Err refusal)
+told wanting Cut meant is = inr is
+told wanting BadRequest meant is = inr is
+told wanting Unauthorized meant is = inr is
+told wanting NotFound meant is = inr is
+told wanting NotAllowed meant is = inr is
+told wanting Conflict meant is = inr is
+told wanting LengthRequired meant is = inr is
+told wanting TooLarge meant is = inr is
+told wanting TooManyBuckets meant is = inr is
+told wanting Memory meant is = inl (refl, is)
 
 -- ---- steps
 
@@ -100,6 +109,42 @@ bind_ok x f a is = subst (λ r. (r >>= f) ≡ f a) (sym is) refl
 
 bind_err : {A B : Type 0} (x : Result A Refusal) (f : A → Result B Refusal) (refusal : Refusal) → x ≡ Err refusal → (x >>= f) ≡ Err refusal
 bind_err x f refusal is = subst (λ r. (r >>= f) ≡ Err refusal) (sym is) refl
+
+-- ---- what is admitted is refused by nothing that needs no memory
+
+abbrev IsErr : {A : Type 0} → Result A Refusal → Type 0
+IsErr (Ok x) = ⊥
+IsErr (Err refusal) = Unit {0}
+
+token_of : (keys : List Key) (moment : ℕ) (authorization : Option (List ℕ)) (claims : Claims) → verified keys moment authorization ≡ Ok claims → HasToken authorization
+token_of keys moment None claims is = absurd (subst IsErr is tt)
+token_of keys moment (Some value) claims is = by_token (token_in value) refl is
+  where
+    by_token : (token : Option (List ℕ)) → token_in value ≡ token → (or_refusal Unauthorized token >>= λ t. or_bad Unauthorized (accepts keys t moment)) ≡ Ok claims → HasToken (Some value)
+    by_token None token_is is = absurd (subst IsErr is tt)
+    by_token (Some token) token_is is = record { value = value; value_is = refl; token = token; token_is = token_is }
+
+pub open_of : (keys : List Key) (moment : ℕ) (head : Head) (pass : Pass) → admitted keys moment head ≡ Ok pass → IsOpen head
+open_of keys moment head pass is = by_way (way_of head.path) refl is
+  where
+    by_claims : (way : Way) (claims : Result Claims Refusal) → verified keys moment head.authorization ≡ claims → (claims >>= λ c. Ok (pass_of way c)) ≡ Ok pass → HasToken head.authorization
+    by_claims way (Ok claims) claims_is is = token_of keys moment head.authorization claims claims_is
+    by_claims way (Err refusal) claims_is is = absurd (subst IsErr is tt)
+
+    by_method : (way : Way) → way_of head.path ≡ Some way → (same : Bool) → bytes_eq head.method (method_of way) ≡ same
+        → (holds NotAllowed same >>= λ _. (verified keys moment head.authorization >>= λ c. Ok (pass_of way c))) ≡ Ok pass → IsOpen head
+    by_method way way_is true same_is is = record {
+      way = way;
+      path_is = way_is;
+      method_is = same_is;
+      has_token = by_claims way (verified keys moment head.authorization) refl is;
+    }
+    by_method way way_is false same_is is = absurd (subst IsErr is tt)
+
+    by_way : (way : Option Way) → way_of head.path ≡ way → (or_refusal NotFound way >>= λ w. (holds NotAllowed (bytes_eq head.method (method_of w)) >>= λ _.
+        (verified keys moment head.authorization >>= λ c. Ok (pass_of w c)))) ≡ Ok pass → IsOpen head
+    by_way None way_is is = absurd (subst IsErr is tt)
+    by_way (Some way) way_is is = by_method way way_is (bytes_eq head.method (method_of way)) refl is
 
 -- a source that is as it was handed out nothing
 Gives-none : (all : Option Input) → Gives all all []
@@ -125,10 +170,10 @@ module _ (keys : List Key) (moment : ℕ) (head : Head) where
 
   -- ---- a head that is not admitted
 
-  pub not_admitted : (all : Option Input) (before now : ℕ) (refusal : Refusal) → Reads (Err refusal) (admitted keys moment head)
+  pub not_admitted : (all : Option Input) (before now : ℕ) (refusal : Refusal) → ReadsOr (IsOpen head) (Err refusal) (admitted keys moment head)
       → AsksBehind keys moment head all all before now (Err refusal)
-  not_admitted all before now refusal reads = elim (told refusal (admitted keys moment head) reads) [
-    | inl memory ↦ subst (λ r. AsksBehind keys moment head all all before now (Err r)) (sym memory) tt
+  not_admitted all before now refusal reads = elim (told (IsOpen head) refusal (admitted keys moment head) reads) [
+    | inl memory ↦ subst (λ r. AsksBehind keys moment head all all before now (Err r)) (sym memory.0) memory.1
     | inr is ↦ asks_own all all before now refusal (own_of (admitted keys moment head) refusal (own_admitted keys moment head) is) (record {
       body = [];
       given = Gives-none all;
@@ -140,6 +185,9 @@ module _ (keys : List Key) (moment : ℕ) (head : Head) where
   -- ---- one that is
 
   module _ (pass : Pass) (is_admitted : admitted keys moment head ≡ Ok pass) where
+    is_open : IsOpen head
+    is_open = open_of keys moment head pass is_admitted
+
     length_is : length_of keys moment head ≡ length_for pass.way head
     length_is = bind_ok (admitted keys moment head) (λ p. length_for p.way head) pass is_admitted
 
@@ -165,8 +213,8 @@ module _ (keys : List Key) (moment : ℕ) (head : Head) where
           whole = sym (ap count_of (length_is ∙ none_is));
           asked_is = asked_when [] 0 none_is ∙ ap (λ (w : Way). asked_for w pass.claims head []) way ∙ is;
         }
-    number_asks all before now (Err refusal) way reads = elim (told refusal (asked_number pass.claims head.query) reads) [
-      | inl memory ↦ subst (λ r. AsksBehind keys moment head all all before now (Err r)) (sym memory) tt
+    number_asks all before now (Err refusal) way reads = elim (told (Unit {0}) refusal (asked_number pass.claims head.query) reads) [
+      | inl memory ↦ subst (λ r. AsksBehind keys moment head all all before now (Err r)) (sym memory.0) is_open
       | inr is ↦ asks_own all all before now refusal (own_of (asked_number pass.claims head.query) refusal (own_number pass.claims head.query) is) (record {
         body = [];
         given = Gives-none all;
@@ -200,4 +248,25 @@ module _ (keys : List Key) (moment : ℕ) (head : Head) where
       asked_is = asked_unless [] TooLarge (by ∙ has.0);
     }
     body_refused old new before now TooManyBuckets by has = absurd has
-    body_refused old new before now Memory by has = tt
+    body_refused old new before now Memory by has = is_open
+
+    -- where it was
+    pub body_asks : (body read : List ℕ) (meant : List ℕ → Result Asked Refusal) (old new : Option Input) (before now : ℕ) (result : Result Asked Refusal)
+        → length_for pass.way head ≡ stated head → ((bytes : List ℕ) → asked_for pass.way pass.claims head bytes ≡ meant bytes) → ((bytes : List ℕ) → AreOwn (meant bytes))
+        → (stated head ≡ Ok (length body)) × Gives old new body → read ≡ body → Reads result (meant read) → AsksBehind keys moment head old new before now result
+    body_asks body read meant old new before now result by for_is own has read_is reads = asks result (subst (λ (bytes : List ℕ). Reads result (meant bytes)) read_is reads)
+      where
+        behind : (result : Result Asked Refusal) → meant body ≡ result → IsBehind keys moment head old new result
+        behind result is = record {
+          body = body;
+          given = has.1;
+          whole = sym (ap count_of (length_is ∙ by ∙ has.0));
+          asked_is = asked_when body (length body) (by ∙ has.0) ∙ for_is body ∙ is;
+        }
+
+        asks : (result : Result Asked Refusal) → Reads result (meant body) → AsksBehind keys moment head old new before now result
+        asks (Ok asked) is = behind (Ok asked) is
+        asks (Err refusal) is = elim (told (Unit {0}) refusal (meant body) is) [
+          | inl memory ↦ subst (λ r. AsksBehind keys moment head old new before now (Err r)) (sym memory.0) is_open
+          | inr same ↦ asks_own old new before now refusal (own_of (meant body) refusal (own body) same) (behind (Err refusal) same)
+        ]

@@ -1,6 +1,7 @@
 -- What the store reads at the end of a history makes the session's turn there.
-use Rattle.std.proofs.Common.{◌≡◌, ◌≢◌, ℕ, ◌⊎◌, Option, Some, None, Ok, IfSome, List, [], refl, sym, ap, subst, ◌∙◌, length, arith}
+use Rattle.std.proofs.Common.{◌≡◌, ◌≢◌, ℕ, ◌≤◌, ◌⊎◌, Option, Some, None, Ok, IfSome, List, [], refl, sym, ap, subst, ◌∙◌, length, arith}
 use Rattle.std.specs.Prelude.{option_map}
+use Rattle.std.proofs.lemmas.List.{length-map}
 use Rattle.ps_values.specs.declared.ids.OpId.{OpId}
 use Rattle.ps_bucket_log.specs.declared.batches.Batch.{Batch}
 use Rattle.ps_lines.specs.declared.lines.Line.{Line}
@@ -14,7 +15,7 @@ use Rattle.ps_store.specs.declared.fixed.Fixed.{Fixed}
 use Rattle.ps_store.specs.declared.stores.Store.{Store}
 use Rattle.ps_bucket_log.specs.declared.takes.Taken.{Taken}
 use Rattle.ps_store.specs.Ledgers.{Ledger, ledger_of}
-use Rattle.ps_store.specs.Readings.{IsTaken, take_of, taken_names, batch_of}
+use Rattle.ps_store.specs.Readings.{IsTaken, take_of, taken_names, names_of, bucket_upto, batch_of}
 use Rattle.ps_store.specs.Courses.{Course, course_of}
 use Rattle.ps_store.specs.CourseLaws.{IsLawful, CoursesAreLawful, EndsAreWhole}
 use Rattle.ps_session.specs.declared.actions.Action.{Action}
@@ -26,7 +27,7 @@ use Rattle.ps_session.specs.Sessions.{SessionState, Turned, IsTaking, IsReading,
 use Rattle.ps_core.specs.Runs.{IsToldAt, turn}
 use Rattle.ps_core.specs.Calls.{TakesAreTurns, ReadsAreTurns, ReadsGiveSomething, LinesAreWritable}
 use Rattle.ps_core.specs.Ties.{HasTaken}
-use Rattle.ps_serve.specs.Runs.{Serves, Takes}
+use Rattle.ps_serve.specs.Runs.{Serves, AreFew, Takes}
 
 -- ---- actions
 
@@ -56,6 +57,13 @@ take_turn takes whole fixed history asker session taken taking is =
     let at_end : course.take (length history) ≡ take_of (ledger_of fixed.rules history) asker = ap (λ (l : Ledger). take_of l asker) (whole fixed.rules history) in
     (takes course (length history) (length history) session taking).0 ∙ ap (took session) (at_end ∙ sym is)
 
+few_names : (fixed : Fixed) (history : List Event) (asker : Asker) (taken : Taken) → IsTaken fixed.limits (ledger_of fixed.rules history) asker taken → AreFew fixed history asker
+few_names fixed history asker taken it =
+    let l : Ledger = ledger_of fixed.rules history in
+    let length_is : length taken.buckets ≡ length (names_of l asker) =
+    ap (λ (t : Taken). length t.buckets) it.value ∙ length-map (names_of l asker) (λ (name : List ℕ). bucket_upto l.op name (l.log name)) in
+    subst (λ (count : ℕ). count ≤ fixed.limits.buckets) length_is it.few
+
 pub takes_so : TakesAreTurns → EndsAreWhole → (fixed : Fixed) (history : List Event) (given own : OwnAsker) (session now : SessionState) (taken : Taken) (line : Option Line) → given ≡ own
     → IsTaking (next_action session) → IsTaken fixed.limits (ledger_of fixed.rules history) (asker_of given) taken → now ≡ (took session taken).session → line ≡ (took session taken).line
     → Takes fixed history (asker_of own) (turn (course_of fixed.rules history (asker_of own)) (length history) session) now (Ok line)
@@ -66,6 +74,7 @@ takes_so takes whole fixed history given own session now taken line same taking 
       now_is ∙ ap (λ (t : Turned). t.session) (sym turn_is),
       line_is ∙ ap (λ (t : Turned). t.line) (sym turn_is),
       subst (λ (t : Taken). AreTold (taken_names t)) own_it.value own_it.told,
+      few_names fixed history (asker_of own) taken own_it,
     )
 
 -- what is taken there is told

@@ -2,6 +2,7 @@
 use Rattle.std.proofs.Common.{◌≡◌, ℕ, ◌≤◌, List, [], ◌∷◌, ◌++◌, Option, Some, None, Ok, Err, refl, sym, ap, subst, ◌∙◌, append_assoc, arith, length}
 use Rattle.std.specs.Prelude.{map, Result}
 use Rattle.std.proofs.lemmas.List.{map-append}
+use Rattle.std.proofs.lemmas.List.Elements.{All-nil, All-cons, All-append}
 use Rattle.ps_io.specs.Contents.{Gains, GainsFront}
 use Rattle.ps_io.specs.Counts.{Rose}
 use Rattle.ps_lines.specs.declared.bodies.Known.{Known}
@@ -11,16 +12,19 @@ use Rattle.ps_queries.specs.Meaning.{Asker}
 use Rattle.ps_store.specs.declared.events.Event.{Event}
 use Rattle.ps_store.specs.declared.fixed.Fixed.{Fixed}
 use Rattle.ps_store.specs.Courses.{Course, course_of}
+use Rattle.ps_bucket_log.specs.declared.takes.TakenBucket.{TakenBucket}
+use Rattle.ps_session.specs.declared.actions.Action.{Action}
+use Rattle.ps_session.specs.declared.actions.Action.TheVariants.{Take}
 use Rattle.ps_session.specs.declared.phases.Phase.{Phase}
 use Rattle.ps_session.specs.declared.phases.Phase.TheVariants.{Start, Download, Void, Done}
-use Rattle.ps_session.specs.Sessions.{SessionState, begin, requested_in}
+use Rattle.ps_session.specs.Sessions.{SessionState, IsTaking, action_in, behind, begin, download_action, next_action, requested_in}
 use Rattle.ps_core.specs.Runs.{Made, Turn, IsToldIn, AreToldIn, turn, made_by, all_made, reached, at_after, at_reached}
 use Rattle.ps_core.specs.Headline.{RunsGoOn, RunsClimbOn}
 use Rattle.ps_core.specs.Calls.{TurnsKeepTaken}
 use Rattle.ps_core.specs.Ties.{HasTaken}
 use Rattle.ps_serve.specs.declared.ends.End.{End}
 use Rattle.ps_serve.specs.declared.ends.End.TheVariants.{Answered, Refused, Drained, Expired, PeerGone, CutRequest, TooMany, Memory}
-use Rattle.ps_serve.specs.Runs.{IsRun, HasStreamed, HasStreamedFront, Ends, Sends, SendsSo, StreamsOn, list_of, lines_text, line_of}
+use Rattle.ps_serve.specs.Runs.{IsQuiet, IsRun, HasStreamed, HasStreamedFront, IsSending, TakesOnce, Ends, Sends, SendsInTime, SendsSo, StreamsOn, list_of, lines_text, line_of}
 use Rattle.ps_serve.proofs.Sinks.{Gains-none, Gains-append, GainsFront-append}
 
 -- ---- runs
@@ -44,7 +48,7 @@ made_lines at None = refl
 made_lines at (Some line) = refl
 
 pub run_begins : (course : Course) (place : ℕ) (positions : List Known) → IsRun course place positions (begin (requested_in positions)) []
-run_begins course place positions = record { turns = []; climbs = omega arith; told = tt; session_is = refl; lines_are = refl }
+run_begins course place positions = record { turns = []; climbs = omega arith; told = tt; quiet = All-nil IsQuiet; session_is = refl; lines_are = refl }
 
 abbrev here : ℕ → Turn
 here place = record { place = place; expires = None }
@@ -64,6 +68,7 @@ run_on on climb course place positions s lines told run =
       turns = run.turns ++ here place ∷ [];
       climbs = climb place place place run.turns (here place ∷ []) run.climbs (omega arith, omega arith);
       told = told_on course first run.turns (here place ∷ []) run.told (subst (λ (x : SessionState). IsToldIn x.phase course place) run.session_is told, tt);
+      quiet = All-append IsQuiet run.turns (here place ∷ []) run.quiet (All-cons IsQuiet (here place) [] refl (All-nil IsQuiet));
       session_is = ap (λ (x : SessionState). (turn course place x).session) run.session_is ∙ sym (reached_on course first run.turns (here place ∷ []));
       lines_are = sym (ap (λ (ms : List Made). map line_of ms) made_is ∙ map-append line_of before now
           ∙ ap (λ (ls : List Line). ls ++ map line_of now) (sym run.lines_are) ∙ ap (λ (ls : List Line). lines ++ ls) line_is);
@@ -133,41 +138,82 @@ module _ (on : RunsGoOn) (climb : RunsClimbOn) (course : Course) (place : ℕ) (
 rose_later : (first before now : ℕ) → first ≤ before → Rose before now → Rose first now
 rose_later first before now less rose = omega (arith, less, rose)
 
+-- while a checkpoint is sent none is taken
+no_take : (s : SessionState) (o : Option TakenBucket) → download_action o s ≡ Take → ⊥
+no_take s None is = subst IsTaking (sym is) tt
+no_take s (Some bucket) is = subst IsTaking (sym is) tt
+
+not_taking : (s : SessionState) (action : Action) → s.phase ≡ Download → next_action s ≡ action → action ≡ Take → ⊥
+not_taking s action phase action_is taking = no_take s (behind s) (sym (ap (λ (p : Phase). action_in p s) phase) ∙ action_is ∙ taking)
+
+given_up : (s : SessionState) (action : Action) → s.phase ≡ Download → next_action s ≡ action → action ≡ Take → s.phase ≡ Void
+given_up s action phase action_is taking = absurd (not_taking s action phase action_is taking)
+
+-- a turn of a checkpoint that is sent ends no stream by what a take finds
+pub takes_once : (may_give : ℕ → Type 0) (exp : ℕ) (fixed : Fixed) (history : List Event) (asker : Asker) (line : Option Line) (old new : Option (List ℕ)) (before now : ℕ) (s : SessionState) (action : Action) (end : End)
+    → s.phase ≡ Download → next_action s ≡ action → SendsSo action may_give exp fixed history asker line old new before now (Err end) → TakesOnce end
+takes_once may_give exp fixed history asker line old new before now s action Answered phase action_is sends = absurd sends
+takes_once may_give exp fixed history asker line old new before now s action Refused phase action_is sends = absurd sends
+takes_once may_give exp fixed history asker line old new before now s action Drained phase action_is sends = absurd sends
+takes_once may_give exp fixed history asker line old new before now s action (Expired moment) phase action_is sends = absurd (not_taking s action phase action_is sends.0)
+takes_once may_give exp fixed history asker line old new before now s action PeerGone phase action_is sends = tt
+takes_once may_give exp fixed history asker line old new before now s action CutRequest phase action_is sends = absurd sends
+takes_once may_give exp fixed history asker line old new before now s action (TooMany count) phase action_is sends = absurd (not_taking s action phase action_is sends.0)
+takes_once may_give exp fixed history asker line old new before now s action Memory phase action_is sends = tt
+
 module _ (may_give : ℕ → Type 0) (exp : ℕ) (fixed : Fixed) (history : List Event) (asker : Asker) (positions : List Known) (front : List ℕ) (done : List Line) where
   abbrev course : Course
   course = course_of fixed.rules history asker
 
-  pub ends : RunsGoOn → RunsClimbOn → (old between new : Option (List ℕ)) (first before now : ℕ) (s : SessionState) (end : End) → first ≤ before → IsToldIn s.phase course (length history)
+  pub ends : RunsGoOn → RunsClimbOn → (old between new : Option (List ℕ)) (first before now : ℕ) (s : SessionState) (action : Action) (end : End) → first ≤ before
+      → s.phase ≡ Download → next_action s ≡ action → IsSending (turn course (length history) s).session.phase → IsToldIn s.phase course (length history)
       → HasStreamed course (length history) positions front done old between s
-      → SendsSo may_give exp fixed history asker (turn course (length history) s).line between new before now (Err end)
+      → SendsSo action may_give exp fixed history asker (turn course (length history) s).line between new before now (Err end)
       → StreamsOn may_give exp fixed history asker positions front done old new first now end
-  ends on climb old between new first before now s Answered less told so_far sends = absurd sends
-  ends on climb old between new first before now s Refused less told so_far sends = absurd sends
-  ends on climb old between new first before now s Drained less told so_far sends = absurd sends
-  ends on climb old between new first before now s (Expired moment) less told so_far sends =
-      ((s, streamed_same on climb course (length history) positions front done old between new s sends.2 so_far), sends.0, sends.1)
-  ends on climb old between new first before now s PeerGone less told so_far sends = (
-    ((turn course (length history) s).session, streamed_front on climb course (length history) positions front done old between s told so_far new sends.0),
+  ends on climb old between new first before now s action Answered less phase action_is sending told so_far sends = absurd sends
+  ends on climb old between new first before now s action Refused less phase action_is sending told so_far sends = absurd sends
+  ends on climb old between new first before now s action Drained less phase action_is sending told so_far sends = absurd sends
+  ends on climb old between new first before now s action (Expired moment) less phase action_is sending told so_far sends =
+      ((s, streamed_same on climb course (length history) positions front done old between new s sends.3 so_far, given_up s action phase action_is sends.0), sends.1, sends.2)
+  ends on climb old between new first before now s action PeerGone less phase action_is sending told so_far sends = (
+    (
+      (turn course (length history) s).session,
+      streamed_front on climb course (length history) positions front done old between s told so_far new sends.0,
+      sending,
+    ),
     rose_later first before now less sends.1,
   )
-  ends on climb old between new first before now s CutRequest less told so_far sends = absurd sends
-  ends on climb old between new first before now s (TooMany count) less told so_far sends =
-      ((s, streamed_same on climb course (length history) positions front done old between new s sends.1 so_far), sends.0)
-  ends on climb old between new first before now s Memory less told so_far sends =
-      (s, streamed_same on climb course (length history) positions front done old between new s sends so_far)
+  ends on climb old between new first before now s action CutRequest less phase action_is sending told so_far sends = absurd sends
+  ends on climb old between new first before now s action (TooMany count) less phase action_is sending told so_far sends =
+      ((s, streamed_same on climb course (length history) positions front done old between new s sends.3 so_far, given_up s action phase action_is sends.0), sends.1, sends.2)
+  ends on climb old between new first before now s action Memory less phase action_is sending told so_far sends =
+      (s, streamed_same on climb course (length history) positions front done old between new s sends so_far, phase)
 
 -- a line of a turn that looked at no clock
-pub sends_so : (may_give : ℕ → Type 0) (exp : ℕ) (fixed : Fixed) (history : List Event) (asker : Asker) (line : Option Line) (old new : Option (List ℕ)) (before now : ℕ) (result : Result (Unit {0}) End)
-    → Sends line old new before now result → SendsSo may_give exp fixed history asker line old new before now result
-sends_so may_give exp fixed history asker line old new before now (Ok done) sends = sends
-sends_so may_give exp fixed history asker line old new before now (Err Answered) sends = sends
-sends_so may_give exp fixed history asker line old new before now (Err Refused) sends = sends
-sends_so may_give exp fixed history asker line old new before now (Err Drained) sends = sends
-sends_so may_give exp fixed history asker line old new before now (Err (Expired moment)) sends = absurd sends
-sends_so may_give exp fixed history asker line old new before now (Err PeerGone) sends = sends
-sends_so may_give exp fixed history asker line old new before now (Err CutRequest) sends = sends
-sends_so may_give exp fixed history asker line old new before now (Err (TooMany count)) sends = absurd sends
-sends_so may_give exp fixed history asker line old new before now (Err Memory) sends = sends
+pub sends_so : (action : Action) (may_give : ℕ → Type 0) (exp : ℕ) (fixed : Fixed) (history : List Event) (asker : Asker) (line : Option Line) (old new : Option (List ℕ)) (before now : ℕ) (result : Result (Unit {0}) End)
+    → Sends line old new before now result → SendsSo action may_give exp fixed history asker line old new before now result
+sends_so action may_give exp fixed history asker line old new before now (Ok done) sends = sends
+sends_so action may_give exp fixed history asker line old new before now (Err Answered) sends = sends
+sends_so action may_give exp fixed history asker line old new before now (Err Refused) sends = sends
+sends_so action may_give exp fixed history asker line old new before now (Err Drained) sends = sends
+sends_so action may_give exp fixed history asker line old new before now (Err (Expired moment)) sends = absurd sends
+sends_so action may_give exp fixed history asker line old new before now (Err PeerGone) sends = sends
+sends_so action may_give exp fixed history asker line old new before now (Err CutRequest) sends = sends
+sends_so action may_give exp fixed history asker line old new before now (Err (TooMany count)) sends = absurd sends
+sends_so action may_give exp fixed history asker line old new before now (Err Memory) sends = sends
+
+-- a line of a turn that takes
+pub sends_taking : (action : Action) (may_give : ℕ → Type 0) (exp : ℕ) (fixed : Fixed) (history : List Event) (asker : Asker) (line : Option Line) (old new : Option (List ℕ)) (before now : ℕ)
+    (result : Result (Unit {0}) End) → action ≡ Take → SendsInTime may_give exp fixed history asker line old new before now result → SendsSo action may_give exp fixed history asker line old new before now result
+sends_taking action may_give exp fixed history asker line old new before now (Ok done) taking sends = sends.1
+sends_taking action may_give exp fixed history asker line old new before now (Err Answered) taking sends = sends
+sends_taking action may_give exp fixed history asker line old new before now (Err Refused) taking sends = sends
+sends_taking action may_give exp fixed history asker line old new before now (Err Drained) taking sends = sends
+sends_taking action may_give exp fixed history asker line old new before now (Err (Expired moment)) taking sends = (taking, sends.0, sends.1, sends.2)
+sends_taking action may_give exp fixed history asker line old new before now (Err PeerGone) taking sends = (sends.1, sends.2)
+sends_taking action may_give exp fixed history asker line old new before now (Err CutRequest) taking sends = sends
+sends_taking action may_give exp fixed history asker line old new before now (Err (TooMany count)) taking sends = (taking, sends.0, sends.1, sends.2)
+sends_taking action may_give exp fixed history asker line old new before now (Err Memory) taking sends = sends
 
 -- a stream that has nothing more to do
 pub completes : (may_give : ℕ → Type 0) (exp : ℕ) (fixed : Fixed) (history : List Event) (asker : Asker) (positions : List Known) (front : List ℕ) (done : List Line) (old new : Option (List ℕ)) (before now : ℕ)
@@ -216,9 +262,10 @@ module _ (may_give : ℕ → Type 0) (exp : ℕ) (fixed : Fixed) (history : List
   ends_behind Answered on = (on.0, streamed_behind behind_course (length history) positions front done old between new on.0 gains on.1, on.2, on.3)
   ends_behind Refused on = absurd on
   ends_behind Drained on = (on.0, streamed_behind behind_course (length history) positions front done old between new on.0 gains on.1, on.2)
-  ends_behind (Expired moment) on = ((on.0.0, streamed_behind behind_course (length history) positions front done old between new on.0.0 gains on.0.1), on.1, on.2)
+  ends_behind (Expired moment) on = ((on.0.0, streamed_behind behind_course (length history) positions front done old between new on.0.0 gains on.0.1, on.0.2), on.1, on.2)
   ends_behind PeerGone on =
-      ((on.0.0, front_behind behind_course (length history) positions front done old between new on.0.0 gains on.0.1), rose_later first before now less on.1)
+      ((on.0.0, front_behind behind_course (length history) positions front done old between new on.0.0 gains on.0.1, on.0.2), rose_later first before now less on.1)
   ends_behind CutRequest on = absurd on
-  ends_behind (TooMany count) on = ((on.0.0, streamed_behind behind_course (length history) positions front done old between new on.0.0 gains on.0.1), on.1)
-  ends_behind Memory on = (on.0, streamed_behind behind_course (length history) positions front done old between new on.0 gains on.1)
+  ends_behind (TooMany count) on =
+      ((on.0.0, streamed_behind behind_course (length history) positions front done old between new on.0.0 gains on.0.1, on.0.2), on.1, on.2)
+  ends_behind Memory on = (on.0, streamed_behind behind_course (length history) positions front done old between new on.0 gains on.1, on.2)

@@ -13,17 +13,18 @@ use Rattle.ps_store.specs.Courses.{Course, course_of}
 use Rattle.ps_store.specs.CourseLaws.{CoursesAreLawful, EndsAreWhole}
 use Rattle.ps_store.specs.Ledgers.{ledger_of}
 use Rattle.ps_store.specs.Readings.{take_of, taken_names}
+use Rattle.ps_session.specs.declared.actions.Action.{Action}
 use Rattle.ps_session.specs.declared.phases.Phase.{Phase}
 use Rattle.ps_session.specs.declared.phases.Phase.TheVariants.{Start, Download}
 use Rattle.ps_core.specs.Calls.{TurnsKeepTaken}
 use Rattle.ps_core.specs.Downloads.{ReadsSendOn}
 use Rattle.ps_core.specs.Headline.{RunsGoOn, RunsClimbOn}
 use Rattle.ps_session.specs.Kept.{Kept, state_of}
-use Rattle.ps_core.specs.Runs.{IsToldIn, turn}
-use Rattle.ps_session.specs.Sessions.{SessionState, Turned, begin, requested_in}
+use Rattle.ps_core.specs.Runs.{IsToldIn, turn, turn_in}
+use Rattle.ps_session.specs.Sessions.{SessionState, Turned, begin, next_action, requested_in}
 use Rattle.ps_core.specs.Ties.{HasTaken}
 use Rattle.ps_serve.specs.declared.ends.End.{End}
-use Rattle.ps_serve.specs.Runs.{Serves, IsRun, IsStreaming, HasStreamed, HasStreamedFront, SendsSo, StreamsOn, list_of, lines_text}
+use Rattle.ps_serve.specs.Runs.{Serves, IsSending, IsRun, IsStreaming, HasStreamed, HasStreamedFront, SendsSo, StreamsOn, list_of, lines_text}
 use Rattle.ps_serve.specs.Turning.{course_for, turn_for, IsHere, IsStreamingFor}
 use Rattle.ps_serve.proofs.Falling.{GoesOn, turn_goes_on}
 use Rattle.ps_serve.proofs.Readings.{lawful_of, told_at_end, untaken}
@@ -61,14 +62,17 @@ module _ (fixed : Fixed) (history : List Event) (session : Kept) (own : Asker) (
         streamed_on on climb own_course (length history) positions [] done old between (state_of session) (subst (λ (p : Phase). IsToldIn p own_course (length history)) (sym phase) tt) so_far
         new (state_of now) own_is (subst (λ (t : Turned). Gains between new (lines_text (list_of t.line))) own_turn gains)
 
-  pub ends_next : RunsGoOn → RunsClimbOn → (may_give : ℕ → Type 0) (exp : ℕ) (positions : List Known) (done : List Line) (old between new : Option (List ℕ)) (first before now : ℕ) (end : End)
-      → first ≤ before → (state_of session).phase ≡ Download → HasStreamed own_course (length history) positions [] done old between (state_of session)
-      → SendsSo may_give exp fixed history (asker_of session.asker) (turn_for fixed history session).line between new before now (Err end)
+  pub ends_next : RunsGoOn → RunsClimbOn → ReadsSendOn → CoursesAreLawful → (may_give : ℕ → Type 0) (exp : ℕ) (positions : List Known) (done : List Line) (old between new : Option (List ℕ)) (first before now : ℕ)
+      (store : Store) (action : Action) (end : End)
+      → first ≤ before → Serves fixed store history → HasTaken own_course (length history) (state_of session)
+      → (state_of session).phase ≡ Download → next_action (state_of session) ≡ action → HasStreamed own_course (length history) positions [] done old between (state_of session)
+      → SendsSo action may_give exp fixed history (asker_of session.asker) (turn_for fixed history session).line between new before now (Err end)
       → StreamsOn may_give exp fixed history (asker_of own) positions [] done old new first now end
-  ends_next on climb may_give exp positions done old between new first before now end less phase so_far sends =
-      ends may_give exp fixed history (asker_of own) positions [] done on climb old between new first before now (state_of session) end less
+  ends_next on climb falls lawful may_give exp positions done old between new first before now store action end less serves taken phase action_is so_far sends =
+      ends may_give exp fixed history (asker_of own) positions [] done on climb old between new first before now (state_of session) action end less phase action_is
+      (turn_goes_on falls own_course (length history) (state_of session) (lawful_of lawful fixed store history (asker_of own) serves) taken phase).sending
       (subst (λ (p : Phase). IsToldIn p own_course (length history)) (sym phase) tt) so_far
-      (subst (λ (asker : Asker). SendsSo may_give exp fixed history (asker_of asker) (turn (course_of fixed.rules history (asker_of asker)) (length history) (state_of session)).line
+      (subst (λ (asker : Asker). SendsSo action may_give exp fixed history (asker_of asker) (turn (course_of fixed.rules history (asker_of asker)) (length history) (state_of session)).line
       between new before now (Err end)) same sends)
 
 -- ---- the first turn
@@ -77,6 +81,9 @@ module _ (on : RunsGoOn) (climb : RunsClimbOn) (whole : EndsAreWhole) (fixed : F
     (session_is : state_of session ≡ begin (requested_in positions)) (told : AreTold (taken_names (take_of (ledger_of fixed.rules history) (asker_of session.asker)))) where
   started : (state_of session).phase ≡ Start
   started = ap (λ (s : SessionState). s.phase) session_is
+
+  pub first_sends : IsSending (turn_for fixed history session).session.phase
+  first_sends = subst (λ (p : Phase). IsSending (turn_in p (course_for fixed history session) (length history) (state_of session)).session.phase) (sym started) tt
 
   pub first_run : IsRun (course_for fixed history session) (length history) positions (turn_for fixed history session).session (list_of (turn_for fixed history session).line)
   first_run =

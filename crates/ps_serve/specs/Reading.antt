@@ -9,7 +9,7 @@ use Rattle.ps_token.specs.declared.key_lists.Key.{Key}
 use Rattle.ps_serve.specs.declared.asked.Asked.{Asked}
 use Rattle.ps_serve.specs.declared.refusals.Refusal.{Refusal}
 use Rattle.ps_serve.specs.declared.refusals.Refusal.TheVariants.{Cut, BadRequest, Unauthorized, NotFound, NotAllowed, Conflict, LengthRequired, TooLarge, TooManyBuckets, Memory}
-use Rattle.ps_serve.specs.Requests.{stated, length_of, asked_of}
+use Rattle.ps_serve.specs.Requests.{IsOpen, stated, length_of, asked_of}
 
 -- ---- the head
 
@@ -24,6 +24,10 @@ HasBadHead old new = (bytes : List ℕ) × Took old new bytes × (length bytes �
 -- no head ended within the limit
 abbrev pub HasLongHead : Option Input → Option Input → Type 0
 HasLongHead old new = (bytes : List ℕ) × Gives old new bytes × (length bytes ≡ head_limit) × IsUnfinished bytes
+
+-- it handed out what may be a head, or a first part of one
+abbrev pub IsInHead : Option Input → Option Input → Type 0
+IsInHead old new = (bytes : List ℕ) × Gives old new bytes × (length bytes ≤ head_limit)
 
 -- ---- the end, or a fault
 
@@ -84,7 +88,7 @@ AsksBehind keys moment head old new before now (Err Conflict) = ⊥
 AsksBehind keys moment head old new before now (Err LengthRequired) = IsBehind keys moment head old new (Err LengthRequired)
 AsksBehind keys moment head old new before now (Err TooLarge) = IsBehind keys moment head old new (Err TooLarge)
 AsksBehind keys moment head old new before now (Err TooManyBuckets) = ⊥
-AsksBehind keys moment head old new before now (Err Memory) = Unit {0}
+AsksBehind keys moment head old new before now (Err Memory) = IsOpen head
 
 -- ---- the whole request
 
@@ -106,7 +110,12 @@ pub record IsCutInBody (may_give : ℕ → Type 0) (keys : List Key) (old new : 
   pub given : may_give moment
   pub ends : EndsInBody keys moment head between new before now
 
--- what was asked for, or the cause of each refusal
+-- a head was read, and no refusal applies that needs no memory
+abbrev pub IsPastHead : Option Input → Option Input → Type 0
+IsPastHead old new = (head : Head) × (between : Option Input) × HasHead old between head × IsOpen head
+
+-- what was asked for, or the cause of each refusal. Memory may be wanting while the head is read; behind it only where the path, the method
+-- and that a token is named are as they should be
 abbrev pub Asks : (ℕ → Type 0) → List Key → Option Input → Option Input → ℕ → ℕ → Result Asked Refusal → Type 0
 Asks may_give keys old new before now (Ok asked) = IsRead may_give keys old new (Ok asked)
 Asks may_give keys old new before now (Err Cut) = EndsInHead old new before now ⊎ IsCutInBody may_give keys old new before now
@@ -118,4 +127,4 @@ Asks may_give keys old new before now (Err Conflict) = ⊥
 Asks may_give keys old new before now (Err LengthRequired) = IsRead may_give keys old new (Err LengthRequired)
 Asks may_give keys old new before now (Err TooLarge) = HasLongHead old new ⊎ IsRead may_give keys old new (Err TooLarge)
 Asks may_give keys old new before now (Err TooManyBuckets) = ⊥
-Asks may_give keys old new before now (Err Memory) = Unit {0}
+Asks may_give keys old new before now (Err Memory) = IsInHead old new ⊎ IsPastHead old new

@@ -86,16 +86,20 @@ abbrev pub or_bad : {A E : Type 0} → Refusal → Result A E → Result A Refus
 or_bad refusal (Ok x) = Ok x
 or_bad refusal (Err fault) = Err refusal
 
--- what was answered is what is meant; want of memory says nothing
+-- what was answered is what is meant; of want of memory something is said
+abbrev pub ReadsOr : {X : Type 0} → Type 0 → Result X Refusal → Result X Refusal → Type 0
+ReadsOr wanting (Ok x) meant = meant ≡ Ok x
+ReadsOr wanting (Err Cut) meant = meant ≡ Err Cut
+ReadsOr wanting (Err BadRequest) meant = meant ≡ Err BadRequest
+ReadsOr wanting (Err Unauthorized) meant = meant ≡ Err Unauthorized
+ReadsOr wanting (Err NotFound) meant = meant ≡ Err NotFound
+ReadsOr wanting (Err NotAllowed) meant = meant ≡ Err NotAllowed
+ReadsOr wanting (Err Conflict) meant = meant ≡ Err Conflict
+ReadsOr wanting (Err LengthRequired) meant = meant ≡ Err LengthRequired
+ReadsOr wanting (Err TooLarge) meant = meant ≡ Err TooLarge
+ReadsOr wanting (Err TooManyBuckets) meant = meant ≡ Err TooManyBuckets
+ReadsOr wanting (Err Memory) meant = wanting
+
+-- the same, where want of memory says nothing
 abbrev pub Reads : {X : Type 0} → Result X Refusal → Result X Refusal → Type 0
-Reads (Ok x) meant = meant ≡ Ok x
-Reads (Err Cut) meant = meant ≡ Err Cut
-Reads (Err BadRequest) meant = meant ≡ Err BadRequest
-Reads (Err Unauthorized) meant = meant ≡ Err Unauthorized
-Reads (Err NotFound) meant = meant ≡ Err NotFound
-Reads (Err NotAllowed) meant = meant ≡ Err NotAllowed
-Reads (Err Conflict) meant = meant ≡ Err Conflict
-Reads (Err LengthRequired) meant = meant ≡ Err LengthRequired
-Reads (Err TooLarge) meant = meant ≡ Err TooLarge
-Reads (Err TooManyBuckets) meant = meant ≡ Err TooManyBuckets
-Reads (Err Memory) meant = Unit {0}
+Reads result meant = ReadsOr (Unit {0}) result meant

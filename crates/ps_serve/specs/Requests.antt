@@ -1,5 +1,5 @@
 -- What a request asks for, or the first refusal: a function of its head, its body and the moment at which its token is verified.
-use Rattle.std.specs.Prelude.{ℕ, nat_eq, nat_lt, List, codes, bytes_eq, drop, Option, Some, None, Result, Ok, Err, if◌then◌else◌, ◌<◌, length, All}
+use Rattle.std.specs.Prelude.{◌≡◌, ℕ, true, nat_eq, nat_lt, List, codes, bytes_eq, drop, Option, Some, None, Result, Ok, Err, if◌then◌else◌, ◌<◌, length, All}
 use Rattle.std.specs.List.{starts_with}
 use Rattle.ps_rows.specs.declared.changes.Change.{Change}
 use Rattle.ps_changes.specs.Lines as changes
@@ -57,6 +57,22 @@ admitted keys now head = do
   _ ← holds NotAllowed (bytes_eq head.method (method_of way))
   claims ← verified keys now head.authorization
   Ok (record { way = way; claims = claims })
+
+-- ---- what needs no memory
+
+-- a token is named
+pub record HasToken (authorization : Option (List ℕ)) : Type 0 where
+  pub value : List ℕ
+  pub value_is : authorization ≡ Some value
+  pub token : List ℕ
+  pub token_is : token_in value ≡ Some token
+
+-- no refusal applies that needs no memory: the path is one of the service's, the method is the path's, and a token is named
+pub record IsOpen (head : Head) : Type 0 where
+  pub way : Way
+  pub path_is : way_of head.path ≡ Some way
+  pub method_is : bytes_eq head.method (method_of way) ≡ true
+  pub has_token : HasToken head.authorization
 
 -- ---- the length of the body
 

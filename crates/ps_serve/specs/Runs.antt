@@ -1,5 +1,5 @@
 -- A stream over a store that stands still: the run of its session, turn by turn, and what is written of its lines.
-use Rattle.std.specs.Prelude.{◌≡◌, ◌⊎◌, ℕ, ◌<◌, ◌≤◌, List, [], ◌∷◌, ◌++◌, length, map, Option, Some, None, Result, Ok, Err, Vec}
+use Rattle.std.specs.Prelude.{◌≡◌, ◌⊎◌, ℕ, ◌<◌, ◌≤◌, List, [], ◌∷◌, ◌++◌, All, length, map, Option, Some, None, Result, Ok, Err, Vec}
 use Rattle.std.specs.declared.alloc.Global.{Global}
 use Rattle.ps_io.specs.Contents.{Gains, GainsFront}
 use Rattle.ps_io.specs.Counts.{Rose}
@@ -17,8 +17,10 @@ use Rattle.ps_store.specs.declared.stores.Store.{Store}
 use Rattle.ps_store.specs.Courses.{Course, course_of}
 use Rattle.ps_store.specs.Laws.{HaveNumbers}
 use Rattle.ps_store.specs.Ledgers.{ledger_of}
-use Rattle.ps_store.specs.Readings.{AreTooMany, take_of, taken_names}
+use Rattle.ps_store.specs.Readings.{AreTooMany, names_of, take_of, taken_names}
 use Rattle.ps_store.specs.Stores.{StoreStandsFor}
+use Rattle.ps_session.specs.declared.actions.Action.{Action}
+use Rattle.ps_session.specs.declared.actions.Action.TheVariants.{Take}
 use Rattle.ps_session.specs.declared.phases.Phase.{Phase}
 use Rattle.ps_session.specs.declared.phases.Phase.TheVariants.{Start, Download, Void, Done}
 use Rattle.ps_session.specs.Sessions.{SessionState, Turned, IsDrained, begin, requested_in}
@@ -53,11 +55,17 @@ line_of made = made.line
 
 -- ---- runs
 
--- a run of the session of a request over the readings at a place: where it has come, and the lines that it made
+-- a turn in which no line but its own is written
+abbrev pub IsQuiet : Turn → Type 0
+IsQuiet turn = turn.expires ≡ None
+
+-- a run of the session of a request over the readings at a place: where it has come, and the lines that it made. No turn of it tells
+-- when the token expires
 pub record IsRun (course : Course) (place : ℕ) (positions : List Known) (session : SessionState) (lines : List Line) : Type 0 where
   pub turns : List Turn
   pub climbs : Climbs place turns place
   pub told : AreToldIn course (begin (requested_in positions)) turns
+  pub quiet : All IsQuiet turns
   pub session_is : session ≡ reached course (begin (requested_in positions)) turns
   pub lines_are : lines ≡ map line_of (all_made course place (begin (requested_in positions)) turns)
 
@@ -101,21 +109,27 @@ SendsInTime may_give exp fixed history asker line old new before now (Err (TooMa
     ((moment : ℕ) × may_give moment × (moment < exp)) × AreTooMany fixed.limits (ledger_of fixed.rules history) asker count × (new ≡ old)
 SendsInTime may_give exp fixed history asker line old new before now (Err Memory) = new ≡ old
 
--- the same of any turn
-abbrev pub SendsSo : (ℕ → Type 0) → ℕ → Fixed → List Event → Asker → Option Line → Option (List ℕ) → Option (List ℕ) → ℕ → ℕ → Result (Unit {0}) End → Type 0
-SendsSo may_give exp fixed history asker line old new before now (Ok done) = Gains old new (lines_text (list_of line))
-SendsSo may_give exp fixed history asker line old new before now (Err Answered) = ⊥
-SendsSo may_give exp fixed history asker line old new before now (Err Refused) = ⊥
-SendsSo may_give exp fixed history asker line old new before now (Err Drained) = ⊥
-SendsSo may_give exp fixed history asker line old new before now (Err (Expired moment)) = may_give moment × (exp ≤ moment) × (new ≡ old)
-SendsSo may_give exp fixed history asker line old new before now (Err PeerGone) = GainsFront old new (lines_text (list_of line)) × Rose before now
-SendsSo may_give exp fixed history asker line old new before now (Err CutRequest) = ⊥
-SendsSo may_give exp fixed history asker line old new before now (Err (TooMany count)) = AreTooMany fixed.limits (ledger_of fixed.rules history) asker count × (new ≡ old)
-SendsSo may_give exp fixed history asker line old new before now (Err Memory) = new ≡ old
+-- the same of the turn of an action: the clock is looked at, and a take refused, only where a checkpoint is taken
+abbrev pub SendsSo : Action → (ℕ → Type 0) → ℕ → Fixed → List Event → Asker → Option Line → Option (List ℕ) → Option (List ℕ) → ℕ → ℕ → Result (Unit {0}) End → Type 0
+SendsSo action may_give exp fixed history asker line old new before now (Ok done) = Gains old new (lines_text (list_of line))
+SendsSo action may_give exp fixed history asker line old new before now (Err Answered) = ⊥
+SendsSo action may_give exp fixed history asker line old new before now (Err Refused) = ⊥
+SendsSo action may_give exp fixed history asker line old new before now (Err Drained) = ⊥
+SendsSo action may_give exp fixed history asker line old new before now (Err (Expired moment)) = (action ≡ Take) × may_give moment × (exp ≤ moment) × (new ≡ old)
+SendsSo action may_give exp fixed history asker line old new before now (Err PeerGone) = GainsFront old new (lines_text (list_of line)) × Rose before now
+SendsSo action may_give exp fixed history asker line old new before now (Err CutRequest) = ⊥
+SendsSo action may_give exp fixed history asker line old new before now (Err (TooMany count)) =
+    (action ≡ Take) × ((moment : ℕ) × may_give moment × (moment < exp)) × AreTooMany fixed.limits (ledger_of fixed.rules history) asker count × (new ≡ old)
+SendsSo action may_give exp fixed history asker line old new before now (Err Memory) = new ≡ old
+
+-- the asker has at most as many buckets as the limit
+abbrev pub AreFew : Fixed → List Event → Asker → Type 0
+AreFew fixed history asker = length (names_of (ledger_of fixed.rules history) asker) ≤ fixed.limits.buckets
 
 -- a checkpoint was taken and this is its line; or why not
 abbrev pub Takes : Fixed → List Event → Asker → Turned → SessionState → Result (Option Line) TakeFault → Type 0
-Takes fixed history asker turned session (Ok line) = (session ≡ turned.session) × (line ≡ turned.line) × AreTold (taken_names (take_of (ledger_of fixed.rules history) asker))
+Takes fixed history asker turned session (Ok line) =
+    (session ≡ turned.session) × (line ≡ turned.line) × AreTold (taken_names (take_of (ledger_of fixed.rules history) asker)) × AreFew fixed history asker
 Takes fixed history asker turned session (Err (takes.TooManyBuckets count)) = AreTooMany fixed.limits (ledger_of fixed.rules history) asker count
 Takes fixed history asker turned session (Err takes.Memory) = Unit {0}
 
@@ -133,7 +147,9 @@ pub record HasStreamedFront (course : Course) (place : ℕ) (positions : List Kn
   pub run : IsRun course place positions session (done ++ more)
   pub written : GainsFront old new (front ++ lines_text more)
 
--- how the stream ended
+-- How the stream ended. Each of these phases comes behind the first take. `Answered`, `Drained`: the checkpoint is completed. `Expired`: it was
+-- given up, so that another was to be taken, and the clock gave a moment that is not before `exp`; `TooMany`: it gave one before it, and there
+-- were too many buckets then. `PeerGone`: the last of the lines was not written whole. `Memory`: the checkpoint was still being sent
 abbrev pub StreamsOn : (ℕ → Type 0) → ℕ → Fixed → List Event → Asker → List Known → List ℕ → List Line → Option (List ℕ) → Option (List ℕ) → ℕ → ℕ → End → Type 0
 StreamsOn may_give exp fixed history asker positions front done old new before now Answered = (session : SessionState)
     × HasStreamed (course_of fixed.rules history asker) (length history) positions front done old new session × (session.phase ≡ Done) × (¬ IsDrained session)
@@ -141,14 +157,26 @@ StreamsOn may_give exp fixed history asker positions front done old new before n
 StreamsOn may_give exp fixed history asker positions front done old new before now Drained = (session : SessionState)
     × HasStreamed (course_of fixed.rules history asker) (length history) positions front done old new session × IsDrained session
 StreamsOn may_give exp fixed history asker positions front done old new before now (Expired moment) = ((session : SessionState)
-    × HasStreamed (course_of fixed.rules history asker) (length history) positions front done old new session) × may_give moment × (exp ≤ moment)
+    × HasStreamed (course_of fixed.rules history asker) (length history) positions front done old new session × (session.phase ≡ Void)) × may_give moment × (exp ≤ moment)
 StreamsOn may_give exp fixed history asker positions front done old new before now PeerGone = ((session : SessionState)
-    × HasStreamedFront (course_of fixed.rules history asker) (length history) positions front done old new session) × Rose before now
+    × HasStreamedFront (course_of fixed.rules history asker) (length history) positions front done old new session × IsSending session.phase) × Rose before now
 StreamsOn may_give exp fixed history asker positions front done old new before now CutRequest = ⊥
 StreamsOn may_give exp fixed history asker positions front done old new before now (TooMany count) = ((session : SessionState)
-    × HasStreamed (course_of fixed.rules history asker) (length history) positions front done old new session) × AreTooMany fixed.limits (ledger_of fixed.rules history) asker count
+    × HasStreamed (course_of fixed.rules history asker) (length history) positions front done old new session × (session.phase ≡ Void))
+    × ((moment : ℕ) × may_give moment × (moment < exp)) × AreTooMany fixed.limits (ledger_of fixed.rules history) asker count
 StreamsOn may_give exp fixed history asker positions front done old new before now Memory = (session : SessionState)
-    × HasStreamed (course_of fixed.rules history asker) (length history) positions front done old new session
+    × HasStreamed (course_of fixed.rules history asker) (length history) positions front done old new session × (session.phase ≡ Download)
+
+-- no take but the stream's first was looked at
+abbrev pub TakesOnce : End → Type 0
+TakesOnce Answered = Unit {0}
+TakesOnce Refused = Unit {0}
+TakesOnce Drained = Unit {0}
+TakesOnce (Expired moment) = ⊥
+TakesOnce PeerGone = Unit {0}
+TakesOnce CutRequest = Unit {0}
+TakesOnce (TooMany count) = ⊥
+TakesOnce Memory = Unit {0}
 
 -- whether all that will ever be is shown
 abbrev pub Ends : SessionState → End → Type 0
@@ -165,6 +193,7 @@ Ends session Memory = ⊥
 abbrev pub Begins : Fixed → List Event → Asker → Turned → SessionState → Result (Vec ℕ Global) Refusal → Type 0
 Begins fixed history asker turned session (Ok bytes) =
     (session ≡ turned.session) × (bytes.items ≡ lines_text (list_of turned.line)) × AreTold (taken_names (take_of (ledger_of fixed.rules history) asker))
+    × AreFew fixed history asker
 Begins fixed history asker turned session (Err refusals.Cut) = ⊥
 Begins fixed history asker turned session (Err refusals.BadRequest) = ⊥
 Begins fixed history asker turned session (Err refusals.Unauthorized) = ⊥
@@ -176,9 +205,10 @@ Begins fixed history asker turned session (Err refusals.TooLarge) = ⊥
 Begins fixed history asker turned session (Err refusals.TooManyBuckets) = (count : ℕ) × AreTooMany fixed.limits (ledger_of fixed.rules history) asker count
 Begins fixed history asker turned session (Err refusals.Memory) = Unit {0}
 
--- the first take was refused, and so the request; or the head and the first lines of a stream were written
+-- the first take was refused, and so the request; or it was not, and the head and the first lines of a stream were written. The store stands
+-- still, so that nothing is taken again: neither the token's end nor too many buckets end it
 abbrev pub Streams : (ℕ → Type 0) → ℕ → Fixed → List Event → Asker → List Known → Option (List ℕ) → Option (List ℕ) → ℕ → ℕ → ℕ → End → Type 0
 Streams may_give exp fixed history asker positions old new before now status end =
     (((count : ℕ) × AreTooMany fixed.limits (ledger_of fixed.rules history) asker count) × Refuses refusals.TooManyBuckets old new before now status end)
     ⊎ (Refuses refusals.Memory old new before now status end
-    ⊎ ((status ≡ 200) × StreamsOn may_give exp fixed history asker positions (head_text 200 None) [] old new before now end))
+    ⊎ ((status ≡ 200) × AreFew fixed history asker × TakesOnce end × StreamsOn may_give exp fixed history asker positions (head_text 200 None) [] old new before now end))

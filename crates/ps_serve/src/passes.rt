@@ -2,8 +2,8 @@
 
 ghost use Rattle.std.specs.Prelude.{◌≡◌};
 ghost use Rattle.std.specs.Option.{option_copied};
-ghost use Rattle.ps_serve.specs.Refusals.{Reads, refusal_of_token};
-ghost use Rattle.ps_serve.specs.Requests.{token_in as token_named, verified as verified_in, admitted};
+ghost use Rattle.ps_serve.specs.Refusals.{ReadsOr, refusal_of_token};
+ghost use Rattle.ps_serve.specs.Requests.{HasToken, IsOpen, token_in as token_named, verified as verified_in, admitted};
 
 use crate::refusals::Refusal;
 use crate::ways::{Way, way_of};
@@ -55,7 +55,7 @@ fn verified(
     authorization: &Option<Text>,
     now: u64,
 ) -> Result<Claims, Refusal>
-    ensures { Reads result (verified_in keys.now now authorization.now) }
+    ensures { ReadsOr (HasToken authorization.now) result (verified_in keys.now now authorization.now) }
 {
     let Some(value) = authorization else {
         return Err(Refusal::Unauthorized);
@@ -69,9 +69,10 @@ fn verified(
     }
 }
 
-/// Who asks for what. The first that applies of `NotFound`, `NotAllowed`, `Unauthorized`.
+/// Who asks for what. The first that applies of `NotFound`, `NotAllowed`, `Unauthorized`; want of memory only where the path and the
+/// method are right and a token is named.
 pub fn admit(alloc: Global, keys: &Keys, head: &Head, now: u64) -> Result<Pass, Refusal>
-    ensures { Reads result (admitted keys.now now head.now) }
+    ensures { ReadsOr (IsOpen head.now) result (admitted keys.now now head.now) }
 {
     let Some(way) = way_of(&head.path) else {
         return Err(Refusal::NotFound);

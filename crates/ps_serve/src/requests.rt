@@ -134,6 +134,7 @@ fn asked_upload(alloc: Global, body: &[u8]) -> Result<Asked, Refusal>
 }
 
 // What is asked for by a head and what is read behind it.
+#[tactic(auto, using(crate::proofs::Behind::open_of))]
 fn asked_behind<S: Source>(
     alloc: Global,
     keys: &Keys,

@@ -13,7 +13,7 @@ ghost use Rattle.ps_session.specs.declared.phases.Phase.TheVariants.{Start};
 ghost use Rattle.ps_session.specs.Kept.{state_of};
 ghost use Rattle.ps_session.specs.Sessions.{IsTaking, next_action, begin, requested_in};
 ghost use Rattle.ps_serve.specs.Answers.{head_text};
-ghost use Rattle.ps_serve.specs.Runs.{Serves, IsSending, Sends, SendsInTime, SendsSo, Takes, Begins, Ends, StreamsOn, Streams};
+ghost use Rattle.ps_serve.specs.Runs.{Serves, IsSending, Sends, SendsInTime, SendsSo, Takes, Begins, TakesOnce, Ends, StreamsOn, Streams};
 ghost use Rattle.ps_serve.specs.Turning.{IsHere, IsStreamingFor, turn_for};
 
 use crate::ends::End;
@@ -162,7 +162,7 @@ fn make_turn<K: Sink, C: Clock>(
     requires goes { action ≢ actions.Wait }
     requires here { (fixed : FixedSeen) × (history : List EventSeen) × Serves fixed store.now history × IsHere fixed history session.old }
     ensures sends { (fixed : FixedSeen) (history : List EventSeen) → Serves fixed store.now history → IsHere fixed history session.old
-        → SendsSo (C.may_give clock.now) exp fixed history (asker_of session.old.asker) (turn_for fixed history session.old).line
+        → SendsSo action (C.may_give clock.now) exp fixed history (asker_of session.old.asker) (turn_for fixed history session.old).line
         (K.taken to.old) (K.taken to.new) (K.faults to.old) (K.faults to.new) result }
     ensures state { OnOk result ((fixed : FixedSeen) (history : List EventSeen) → Serves fixed store.now history → IsHere fixed history session.old
         → state_of session.new ≡ (turn_for fixed history session.old).session) }
@@ -182,7 +182,8 @@ fn make_turn<K: Sink, C: Clock>(
 
 // How a stream ends that has completed a checkpoint.
 fn ending(session: &Session) -> End
-    ensures { Ends (state_of session.now) result }
+    ensures ends { Ends (state_of session.now) result }
+    ensures once { TakesOnce result }
 {
     if session.drained() {
         End::Drained
@@ -205,6 +206,7 @@ fn go_on<K: Sink, C: Clock>(
     ensures streams { (fixed : FixedSeen) (history : List EventSeen) (positions : List KnownSeen) (done : List LineSeen) → Serves fixed store.now history
         → IsStreamingFor fixed history positions session.old done
         → StreamsOn (C.may_give clock.now) exp fixed history (asker_of session.old.asker) positions [] done (K.taken to.old) (K.taken to.new) (K.faults to.old) (K.faults to.new) result }
+    ensures once { TakesOnce result }
     ensures faults { K.faults to.old ≤ K.faults to.new }
     ensures number { K.number to.new ≡ K.number to.old }
 {

@@ -8,7 +8,7 @@ use Rattle.ps_serve.specs.Runs.{StreamsOn, list_of, lines_text}
 use Rattle.ps_serve.specs.Turning.{course_for, turn_for}
 use Rattle.ps_serve.proofs.Readings.{untaken}
 use Rattle.ps_serve.proofs.Running.{ends_behind}
-use Rattle.ps_serve.proofs.Streaming.{here_for, taken_next, streams_first, gone_first}
+use Rattle.ps_serve.proofs.Streaming.{here_for, taken_next, streams_first, first_sends, gone_first}
 use Rattle.ps_serve.proofs.streams.stream_from.Goals as goal
 
 pub go_on-requires-clause-here : goal.go_on-requires-clause-here
@@ -41,6 +41,8 @@ returns-in-Ok-write-clause-streams g c = λ fixed history positions serves begin
     c.first_line.ensures.asker (c.go_on.ensures.streams fixed history positions done serves streaming) in
     inr (inr (
       refl,
+      begun.3,
+      c.go_on.ensures.once,
       ends_behind (g.C.Clock.may_give c.args.clock.now) c.args.exp fixed history (asker_of session.asker) positions (head_text 200 None) done old between new
           (g.K.Sink.faults c.args.to.now) (g.K.Sink.faults c.write.new.self) (g.K.Sink.faults c.go_on.new.to) c.write.ensures.faults gains c.go_on.result goes,
     ))
@@ -57,10 +59,13 @@ returns-clause-streams g c = λ fixed history positions serves begins_is.
     let gains : GainsFront old new (head_text 200 None ++ lines_text done) = subst (λ (bytes : List ℕ). GainsFront old new bytes) bytes_is c.in-Err-write.ensures.err in
     inr (inr (
       refl,
+      begun.3,
+      tt,
       (
         (
           (turn_for fixed history session).session,
           gone_first c.runs_go_on.ensures.on c.runs_go_on.ensures.climb c.places_are_fronts.ensures.whole fixed history positions session begins_is begun.2 (head_text 200 None) old new gains,
+          first_sends c.runs_go_on.ensures.on c.runs_go_on.ensures.climb c.places_are_fronts.ensures.whole fixed history positions session begins_is begun.2,
         ),
         c.in-Err-write.ensures.failed,
       ),
