@@ -1,5 +1,5 @@
 -- Why a command ends as it does.
-use Rattle.std.proofs.Common.{inl, inr, ◌≡◌, ℕ, ◌≤◌, true, false, List, [], ◌∷◌, Option, Some, None, Ok, Err, refl, sym, ap, ◌∙◌, subst, arith, codes, bytes_eq, Vec, Bool, ◌&&◌}
+use Rattle.std.proofs.Common.{inl, inr, ◌≡◌, ℕ, ◌≤◌, true, false, List, [], ◌∷◌, Option, Some, None, Ok, Err, refl, sym, ap, subst, arith, codes, bytes_eq, Vec, Bool, ◌&&◌}
 use Rattle.std.specs.Prelude.{option_map, if◌then◌else◌}
 use Rattle.std.specs.declared.alloc.Global.{Global}
 use Rattle.ps_io.specs.Contents.{Contents, HasLength}
@@ -7,19 +7,18 @@ use Rattle.ps_io.specs.Counts.{Rose}
 use Rattle.ps_definitions.specs.RuleSets.{RuleSet}
 use Rattle.ps_sql_eval.specs.declared.askers.Asker.{Asker}
 use Rattle.ps_sql_eval.specs.Evaluated.{asker_of}
-use Rattle.ps_token.specs.KeyLists.{key_of}
 use Rattle.ps_token.specs.declared.key_lists.Key.{Key}
 use Rattle.ps_files.specs.declared.faults.Fault.{Fault}
 use Rattle.ps_files.specs.declared.faults.Fault.TheVariants.{Usage, Rules, Change, PastLimit, TooManyBuckets, Claims, Keys, TooLong, CannotRead, CannotWrite, Script, Memory}
 use Rattle.ps_files.specs.HeldFiles.{file_limit, rules_limit, HoldsWithin}
 use Rattle.ps_files.specs.Making.{count_of}
-use Rattle.ps_commands.specs.Commands.{Names, Inputs, Signing, check, rows, compact, token, generate, generate_lines, command_of, ReadsRules, ReadsAsker, ReadsKey, Role, for_rules, for_keys, for_claims, for_changes, limit_of, ReadsRulesAndClaims, Reaches, MeansRows, MeansCompact, Outside, Kept, Caused}
+use Rattle.ps_commands.specs.Commands.{Names, Inputs, check, rows, compact, token, generate, generate_lines, command_of, ReadsRules, ReadsAsker, ReadsKeyFile, Role, for_rules, for_keys, for_claims, for_changes, limit_of, ReadsRulesAndClaims, Reaches, MeansRows, MeansCompact, Outside, Kept, Caused}
 use Rattle.ps_rows.specs.declared.changes.Transaction.{Transaction}
 use Rattle.ps_files.specs.ChangeFiles.{transactions_of}
 use Rattle.ps_commands.specs.Dues.{Answers}
 use Rattle.ps_files.specs.Compacting.{FindsReports, RefusesReports}
 use Rattle.ps_commands.specs.Generating.{generated, Summarizes}
-use Rattle.ps_files.specs.Loading.{Loads, FindsRules, IsRulesFault, FindsKey, IsKeysFault, FindsAsker, IsClaimsFault}
+use Rattle.ps_files.specs.Loading.{Loads, FindsRules, IsRulesFault, FindsKeys, IsKeysFault, FindsAsker, IsClaimsFault}
 use Rattle.ps_commands.specs.Loading.{Prepares, FindsRows, RefusesRows}
 
 rose_later : (before mid now : ℕ) → before ≤ mid → Rose mid now → Rose before now
@@ -123,6 +122,20 @@ module _ (o : Outside) (words : List (List ℕ)) (name : List ℕ) (kept : Kept 
   claims_refused reached (Script place cause) bytes file h = absurd h
   claims_refused reached Memory bytes file h = absurd h
 
+  pub keys_refused : Reaches o.held words for_keys name → (fault : Fault) (bytes : List ℕ) → HoldsWithin o.held name file_limit bytes → IsKeysFault fault bytes → Caused o words fault
+  keys_refused reached Usage bytes file h = absurd h
+  keys_refused reached (Rules line column why) bytes file h = absurd h
+  keys_refused reached (Change line why) bytes file h = absurd h
+  keys_refused reached (PastLimit limit) bytes file h = absurd h
+  keys_refused reached (TooManyBuckets count) bytes file h = absurd h
+  keys_refused reached Claims bytes file h = absurd h
+  keys_refused reached Keys bytes file h = (kept, inl (record { name = name; reached = reached; bytes = bytes; file = file; why = h.0; refused = h.1 }))
+  keys_refused reached (TooLong seen) bytes file h = absurd h
+  keys_refused reached (CannotRead other) bytes file h = absurd h
+  keys_refused reached CannotWrite bytes file h = absurd h
+  keys_refused reached (Script place cause) bytes file h = absurd h
+  keys_refused reached Memory bytes file h = absurd h
+
 module _ (o : Outside) (words : List (List ℕ)) (names : Names) (kept : Kept o) (is : command_of words ≡ Some (rows names)) (rules : RuleSet) (asker : Asker)
     (rules_read : ReadsRules o.held names.rules rules) (claims_read : ReadsAsker o.held names.claims (asker_of asker)) where
   abbrev files_before : ReadsRulesAndClaims o.held names
@@ -183,21 +196,6 @@ made_refused o words count kept is CannotWrite h = absurd h
 made_refused o words count kept is (Script place cause) h = absurd h
 made_refused o words count kept is Memory h = inl (kept, (generate count, is))
 
-pub keys_refused : (o : Outside) (words : List (List ℕ)) (names : Signing) → Kept o → command_of words ≡ Some (token names)
-    → (fault : Fault) (bytes : List ℕ) → HoldsWithin o.held names.keys file_limit bytes → IsKeysFault names.kid fault bytes → Caused o words fault
-keys_refused o words names kept is Usage bytes file h = absurd h
-keys_refused o words names kept is (Rules line column why) bytes file h = absurd h
-keys_refused o words names kept is (Change line why) bytes file h = absurd h
-keys_refused o words names kept is (PastLimit limit) bytes file h = absurd h
-keys_refused o words names kept is (TooManyBuckets count) bytes file h = absurd h
-keys_refused o words names kept is Claims bytes file h = absurd h
-keys_refused o words names kept is Keys bytes file h = (kept, record { names = names; is = is; bytes = bytes; file = file; refused = h })
-keys_refused o words names kept is (TooLong seen) bytes file h = absurd h
-keys_refused o words names kept is (CannotRead other) bytes file h = absurd h
-keys_refused o words names kept is CannotWrite bytes file h = absurd h
-keys_refused o words names kept is (Script place cause) bytes file h = absurd h
-keys_refused o words names kept is Memory bytes file h = absurd h
-
 -- ---- what was loaded
 
 pub rules_read : (held : Option Contents) (name : List ℕ) (before now : ℕ) (rules : RuleSet) → Loads held name rules_limit before now FindsRules IsRulesFault (Ok rules) → ReadsRules held name rules
@@ -207,17 +205,8 @@ pub asker_read : (held mid_held : Option Contents) (name : List ℕ) (before now
     → Loads mid_held name file_limit before now FindsAsker IsClaimsFault (Ok asker) → ReadsAsker held name (asker_of asker)
 asker_read held mid_held name before now asker same h = record { bytes = h.0; file = subst (λ x. HoldsWithin x name file_limit h.0) same h.1; read = h.2 }
 
--- the key that a line is signed with is the one that was found
-pub key_read : (held : Option Contents) (name kid : List ℕ) (before now : ℕ) (keys : List Key) (key : Key) → Loads held name file_limit before now (FindsKey kid) (IsKeysFault kid) (Ok keys)
-    → key_of kid keys ≡ Some key → ReadsKey held name kid key
-key_read held name kid before now keys key h is =
-    let same : Some h.2.0 ≡ Some key = sym h.2.1 ∙ is in
-    record { bytes = h.0; file = h.1; read = h.2.2 ∙ same }
-
--- a key was found
-pub key_found : (held : Option Contents) (name kid : List ℕ) (before now : ℕ) (keys : List Key) → Loads held name file_limit before now (FindsKey kid) (IsKeysFault kid) (Ok keys)
-    → (key : Key) × ReadsKey held name kid key
-key_found held name kid before now keys h = (h.2.0, record { bytes = h.0; file = h.1; read = h.2.2 })
+pub keys_read : (held : Option Contents) (name : List ℕ) (before now : ℕ) (keys : List Key) → Loads held name file_limit before now FindsKeys IsKeysFault (Ok keys) → ReadsKeyFile held name keys
+keys_read held name before now keys h = record { bytes = h.0; file = h.1; read = h.2 }
 
 -- ---- why a command ends where a file is not loaded
 
@@ -226,11 +215,10 @@ pub cause_of_rules : (o : Outside) (words : List (List ℕ)) (name : List ℕ) (
 cause_of_rules o words name fault kept reached h =
     cause_of o o.held o.read_before words for_rules name refl (omega arith) kept reached FindsRules IsRulesFault (rules_refused o words name kept reached) fault h
 
-pub cause_of_keys : (o : Outside) (words : List (List ℕ)) (names : Signing) (fault : Fault) → Kept o → command_of words ≡ Some (token names)
-    → Loads {X = List Key} o.held names.keys file_limit o.read_before o.read_now (FindsKey names.kid) (IsKeysFault names.kid) (Err fault) → Caused o words fault
-cause_of_keys o words names fault kept is h =
-    let reached : Reaches o.held words for_keys names.keys = record { command = token names; is = is; comes = refl } in
-    cause_of o o.held o.read_before words for_keys names.keys refl (omega arith) kept reached (FindsKey names.kid) (IsKeysFault names.kid) (keys_refused o words names kept is) fault h
+pub cause_of_keys : (o : Outside) (words : List (List ℕ)) (name : List ℕ) (fault : Fault) → Kept o → Reaches o.held words for_keys name
+    → Loads {X = List Key} o.held name file_limit o.read_before o.read_now FindsKeys IsKeysFault (Err fault) → Caused o words fault
+cause_of_keys o words name fault kept reached h =
+    cause_of o o.held o.read_before words for_keys name refl (omega arith) kept reached FindsKeys IsKeysFault (keys_refused o words name kept reached) fault h
 
 pub cause_of_asker : (o : Outside) (mid_held : Option Contents) (mid : ℕ) (words : List (List ℕ)) (name : List ℕ) (fault : Fault) → mid_held ≡ o.held → o.read_before ≤ mid → Kept o → Reaches o.held words for_claims name
     → Loads {X = Asker} mid_held name file_limit mid o.read_now FindsAsker IsClaimsFault (Err fault) → Caused o words fault

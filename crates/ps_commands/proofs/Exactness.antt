@@ -8,6 +8,8 @@ use Rattle.ps_rows.specs.declared.changes.Transaction.{Transaction}
 use Rattle.ps_rows.specs.declared.shown.Shown.{Shown}
 use Rattle.ps_definitions.specs.RuleSets.{RuleSet}
 use Rattle.ps_queries.specs.Meaning.{Asker}
+use Rattle.ps_token.specs.KeyFiles.{keys_of_file}
+use Rattle.ps_token.specs.KeyLists.{key_of}
 use Rattle.ps_token.specs.declared.key_lists.Key.{Key}
 use Rattle.ps_files.specs.declared.faults.Fault.{Fault}
 use Rattle.ps_files.specs.declared.faults.Fault.TheVariants.{Usage, Rules, Change, PastLimit, TooManyBuckets, Claims, Keys, TooLong, CannotRead, CannotWrite, Script, Memory}
@@ -20,8 +22,8 @@ use Rattle.ps_store.specs.Limits.{usual_limits}
 use Rattle.ps_files.specs.Checking.{check_text}
 use Rattle.ps_claims.specs.Claims.{asker_of_claims}
 use Rattle.ps_files.specs.FaultTexts.{status_of}
-use Rattle.ps_files.specs.HeldFiles.{rules_limit, file_limit, HoldsWithin, key_of_file}
-use Rattle.ps_commands.specs.Commands.{Names, Inputs, Scripting, Signing, Command, check, rows, replay, compact, token, generate, generate_lines, command_of, ReadsRules, ReadsAsker, ReadsChanges, ReadsTransactions, ReadsGame, ReadsKey, token_text, Means, Prints, Role, for_rules, for_keys, for_claims, for_changes, for_script, limit_of, Reaches, ComesTo, RefusesRules, RefusesKeys, RefusesClaims, RefusesChanges, RefusesCompaction, RefusesFed, RefusesScript, RefusesMade, RefusesLines, PassesLimit, ExceedsBuckets, HasTooManyBuckets, ExceedsFile, ExceedsLimit, IsNext, IsCommand, PrintsFront, PrintsSome, Kept, Outside, Caused, Refusal, exceeds, refused, refusal_status, within_limit, or_refused, or_none, rules_meant, key_meant, asker_meant, transactions_meant, rows_meant, all_meant, script_meant, Meant, prints, plays, printing, meaning, IsPlayed, IsAnswer, IsAnswerAlone, IsExact, ◌>>=◌}
+use Rattle.ps_files.specs.HeldFiles.{rules_limit, file_limit, HoldsWithin}
+use Rattle.ps_commands.specs.Commands.{Names, Inputs, Scripting, Signing, Command, check, rows, replay, compact, token, generate, generate_lines, command_of, ReadsRules, ReadsAsker, ReadsChanges, ReadsTransactions, ReadsGame, ReadsKeyFile, token_text, Means, Prints, Role, for_rules, for_keys, for_claims, for_changes, for_script, limit_of, Reaches, ComesTo, RefusesRules, RefusesKeyFile, HasUnknownKid, RefusesKeys, RefusesClaims, RefusesChanges, RefusesCompaction, RefusesFed, RefusesScript, RefusesMade, RefusesLines, PassesLimit, ExceedsBuckets, HasTooManyBuckets, ExceedsFile, ExceedsLimit, IsNext, IsCommand, PrintsFront, PrintsSome, Kept, Outside, Caused, Refusal, exceeds, refused, refusal_status, within_limit, or_refused, or_refused_as, or_none, rules_meant, keys_meant, asker_meant, transactions_meant, rows_meant, all_meant, script_meant, Meant, prints, plays, printing, meaning, IsPlayed, IsAnswer, IsAnswerAlone, IsExact, ◌>>=◌}
 use Rattle.ps_commands.specs.Dues.{due, own_buckets}
 use Rattle.ps_files.specs.Compacting.{compact_text}
 use Rattle.ps_commands.specs.Generating.{generated}
@@ -50,8 +52,8 @@ module _ (held : Contents) (name : List ℕ) where
   rules_from : (bytes : List ℕ) → HoldsWithin (Some held) name rules_limit bytes → rules_meant held name ≡ or_refused (rules_of_file bytes)
   rules_from bytes file = ap (λ x. x >>= λ bytes. or_refused (rules_of_file bytes)) (fits held name rules_limit bytes file)
 
-  key_from : (kid bytes : List ℕ) → HoldsWithin (Some held) name file_limit bytes → key_meant held name kid ≡ or_none Keys (key_of_file kid bytes)
-  key_from kid bytes file = ap (λ x. x >>= λ bytes. or_none Keys (key_of_file kid bytes)) (fits held name file_limit bytes file)
+  keys_from : (bytes : List ℕ) → HoldsWithin (Some held) name file_limit bytes → keys_meant held name ≡ or_refused_as Keys (keys_of_file bytes)
+  keys_from bytes file = ap (λ x. x >>= λ bytes. or_refused_as Keys (keys_of_file bytes)) (fits held name file_limit bytes file)
 
   asker_from : (bytes : List ℕ) → HoldsWithin (Some held) name file_limit bytes → asker_meant held name ≡ or_none Claims (asker_of_claims bytes)
   asker_from bytes file = ap (λ x. x >>= λ bytes. or_none Claims (asker_of_claims bytes)) (fits held name file_limit bytes file)
@@ -68,8 +70,8 @@ module _ (held : Contents) (name : List ℕ) where
   rules_are : (rules : RuleSet) → ReadsRules (Some held) name rules → rules_meant held name ≡ Ok rules
   rules_are rules r = rules_from r.bytes r.file ∙ ap or_refused r.read
 
-  key_is : (kid : List ℕ) (key : Key) → ReadsKey (Some held) name kid key → key_meant held name kid ≡ Ok key
-  key_is kid key r = key_from kid r.bytes r.file ∙ ap (or_none Keys) r.read
+  keys_are : (keys : List Key) → ReadsKeyFile (Some held) name keys → keys_meant held name ≡ Ok keys
+  keys_are keys r = keys_from r.bytes r.file ∙ ap (or_refused_as Keys) r.read
 
   asker_is : (asker : Asker) → ReadsAsker (Some held) name asker → asker_meant held name ≡ Ok asker
   asker_is asker r = asker_from r.bytes r.file ∙ ap (or_none Claims) r.read
@@ -80,14 +82,14 @@ module _ (held : Contents) (name : List ℕ) where
   -- a file in its role, refused
   abbrev pub IsRefusedIn : Role → Refusal → Type 0
   IsRefusedIn for_rules refusal = rules_meant held name ≡ Err refusal
-  IsRefusedIn for_keys refusal = (kid : List ℕ) → key_meant held name kid ≡ Err refusal
+  IsRefusedIn for_keys refusal = keys_meant held name ≡ Err refusal
   IsRefusedIn for_claims refusal = asker_meant held name ≡ Err refusal
   IsRefusedIn for_changes refusal = ((rules : RuleSet) → transactions_meant held rules name ≡ Err refusal) × (all_meant held name ≡ Err refusal)
   IsRefusedIn for_script refusal = script_meant held name ≡ Err refusal
 
   too_long : (role : Role) (seen : ℕ) → limit_of role < seen → HasLength (Some held) name seen → IsRefusedIn role exceeds
   too_long for_rules seen more file = ap (λ x. x >>= λ bytes. or_refused (rules_of_file bytes)) (exceeds_by held name rules_limit seen more file)
-  too_long for_keys seen more file = λ kid. ap (λ x. x >>= λ bytes. or_none Keys (key_of_file kid bytes)) (exceeds_by held name file_limit seen more file)
+  too_long for_keys seen more file = ap (λ x. x >>= λ bytes. or_refused_as Keys (keys_of_file bytes)) (exceeds_by held name file_limit seen more file)
   too_long for_claims seen more file = ap (λ x. x >>= λ bytes. or_none Claims (asker_of_claims bytes)) (exceeds_by held name file_limit seen more file)
   too_long for_changes seen more file = (
     λ rules. ap (λ x. x >>= λ bytes. or_refused (transactions_of rules bytes)) (exceeds_by held name file_limit seen more file),
@@ -143,11 +145,14 @@ module _ (held : Contents) where
   abbrev compact_rules : Inputs → Result RuleSet Refusal → Result Meant Refusal
   compact_rules names r = r >>= λ rules. compact_left rules (transactions_meant held rules names.changes)
 
-  abbrev token_left : Key → Signing → Result Asker Refusal → Result Meant Refusal
-  token_left key names r = r >>= λ asker. Ok (prints (token_text key names.kid asker))
+  abbrev key_left : Signing → Asker → Result Key Refusal → Result Meant Refusal
+  key_left names asker r = r >>= λ key. Ok (prints (token_text key names.kid asker))
 
-  abbrev key_left : Signing → Result Key Refusal → Result Meant Refusal
-  key_left names r = r >>= λ key. token_left key names (asker_meant held names.claims)
+  abbrev signing_left : Signing → List Key → Result Asker Refusal → Result Meant Refusal
+  signing_left names keys r = r >>= λ asker. key_left names asker (or_none Keys (key_of names.kid keys))
+
+  abbrev keys_left : Signing → Result (List Key) Refusal → Result Meant Refusal
+  keys_left names r = r >>= λ keys. signing_left names keys (asker_meant held names.claims)
 
   past_rules : (names : Names) (rules : RuleSet) → ReadsRules (Some held) names.rules rules → meaning held (rows names) ≡ claims_left rules names (asker_meant held names.claims)
   past_rules names rules r = ap (rules_left names) (rules_are held names.rules rules r)
@@ -174,8 +179,12 @@ module _ (held : Contents) where
   past_inputs : (names : Inputs) (rules : RuleSet) → ReadsRules (Some held) names.rules rules → meaning held (compact names) ≡ compact_left rules (transactions_meant held rules names.changes)
   past_inputs names rules r = ap (compact_rules names) (rules_are held names.rules rules r)
 
-  past_key : (names : Signing) (key : Key) → ReadsKey (Some held) names.keys names.kid key → meaning held (token names) ≡ token_left key names (asker_meant held names.claims)
-  past_key names key r = ap (key_left names) (key_is held names.keys names.kid key r)
+  past_keys : (names : Signing) (keys : List Key) → ReadsKeyFile (Some held) names.keys keys → meaning held (token names) ≡ signing_left names keys (asker_meant held names.claims)
+  past_keys names keys r = ap (keys_left names) (keys_are held names.keys keys r)
+
+  past_signing : (names : Signing) (keys : List Key) (asker : Asker) → ReadsKeyFile (Some held) names.keys keys → ReadsAsker (Some held) names.claims asker
+      → meaning held (token names) ≡ key_left names asker (or_none Keys (key_of names.kid keys))
+  past_signing names keys asker r a = past_keys names keys r ∙ ap (signing_left names keys) (asker_is held names.claims asker a)
 
   -- what a command prints is what its files mean
   abbrev IsMeant : Command → List ℕ → Type 0
@@ -197,7 +206,7 @@ module _ (held : Contents) where
       ∙ ap (compact_left m.rules) (transactions_are held names.changes m.rules m.transactions m.changes_read)
       ∙ ap said (sym m.is))
   means_that (token names) text m =
-      a_text (token names) text (past_key names m.key m.key_read ∙ ap (token_left m.key names) (asker_is held names.claims m.asker m.claims_read) ∙ ap said (sym m.is))
+      a_text (token names) text (past_signing names m.keys m.asker m.keys_read m.claims_read ∙ ap (λ k. key_left names m.asker (or_none Keys k)) m.found ∙ ap said (sym m.is))
   means_that (generate count) text m = a_text (generate count) text (ap (λ r. printing (or_refused r)) m)
   means_that (generate_lines count) text m = a_text (generate_lines count) text (ap said (sym m))
 
@@ -230,8 +239,8 @@ module _ (held : Contents) where
       past_inputs names h.1 h.2 ∙ ap (compact_left h.1) (subst (λ n. transactions_meant held h.1 n ≡ Err refusal) h.0 (r.0 h.1))
   refused_at (compact names) for_script name refusal h r = absurd h
   refused_at (token names) for_rules name refusal h r = absurd h
-  refused_at (token names) for_keys name refusal h r = ap (key_left names) (subst (λ n. key_meant held n names.kid ≡ Err refusal) h (r names.kid))
-  refused_at (token names) for_claims name refusal h r = past_key names h.1 h.2 ∙ ap (token_left h.1 names) (subst (λ n. asker_meant held n ≡ Err refusal) h.0 r)
+  refused_at (token names) for_keys name refusal h r = ap (keys_left names) (subst (λ n. keys_meant held n ≡ Err refusal) h r)
+  refused_at (token names) for_claims name refusal h r = past_keys names h.1 h.2 ∙ ap (signing_left names h.1) (subst (λ n. asker_meant held n ≡ Err refusal) h.0 r)
   refused_at (token names) for_changes name refusal h r = absurd h
   refused_at (token names) for_script name refusal h r = absurd h
   refused_at (generate count) role name refusal h r = absurd h
@@ -340,10 +349,17 @@ module _ (held : Contents) (words : List (List ℕ)) (command : Command) (is : c
   many_answer count (inl r) h = buckets_answer count r h
   many_answer count (inr r) h = made_answer (TooManyBuckets count) r h
 
-  keys_answer : RefusesKeys (Some held) words → (status ≡ 4) × (new ≡ old) → IsAnswer (meaning held command) old new status
-  keys_answer r h =
+  key_file_answer : RefusesKeyFile (Some held) words → (status ≡ 4) × (new ≡ old) → IsAnswer (meaning held command) old new status
+  key_file_answer r h = refused_answer for_keys r.name (refused Keys) r.reached (keys_from held r.name r.bytes r.file ∙ ap (or_refused_as Keys) r.refused) h
+
+  unknown_answer : HasUnknownKid (Some held) words → (status ≡ 4) × (new ≡ old) → IsAnswer (meaning held command) old new status
+  unknown_answer r h =
       at_command held words command (token r.names) (Err (refused Keys)) old new status is r.is
-      (ap (key_left held r.names) (key_from held r.names.keys r.names.kid r.bytes r.file ∙ ap (or_none Keys) r.refused)) (inl h)
+      (past_signing held r.names r.keys r.asker r.keys_read r.claims_read ∙ ap (λ k. key_left held r.names r.asker (or_none Keys k)) r.unknown) (inl h)
+
+  keys_answer : RefusesKeys (Some held) words → (status ≡ 4) × (new ≡ old) → IsAnswer (meaning held command) old new status
+  keys_answer (inl r) h = key_file_answer r h
+  keys_answer (inr r) h = unknown_answer r h
 
   limit_answer : (seen : ℕ) → ExceedsFile (Some held) words seen → (status ≡ 5) × (new ≡ old) → IsAnswer (meaning held command) old new status
   limit_answer seen r h = refused_answer r.role r.name exceeds r.reached (too_long held r.name r.role seen r.more r.file) h
@@ -422,6 +438,10 @@ module _ (words : List (List ℕ)) (old new : Option (List ℕ)) (status : ℕ) 
     of_rules fault (inl r) s kept = of_reached for_rules r.name r.reached
     of_rules fault (inr r) s kept = of_made fault r s kept
 
+    of_keys : RefusesKeys None words → Answer
+    of_keys (inl r) = of_reached for_keys r.name r.reached
+    of_keys (inr r) = of_other (token r.names) r.is (λ none. none)
+
     of_want : status ≡ 8 → new ≡ old → Answer
     of_want s kept = by command where
       by : (c : Command) → IsAnswerAlone c old new status
@@ -442,7 +462,7 @@ module _ (words : List (List ℕ)) (old new : Option (List ℕ)) (status : ℕ) 
     alone_answer read_before read_now write_before write_now read written (PastLimit limit) c s = of_passed limit c.1 s c.0
     alone_answer read_before read_now write_before write_now read written (TooManyBuckets n) c s = of_buckets n c.1 s c.0
     alone_answer read_before read_now write_before write_now read written Claims c s = of_reached for_claims c.1.name c.1.reached
-    alone_answer read_before read_now write_before write_now read written Keys c s = of_other (token c.1.names) c.1.is (λ none. none)
+    alone_answer read_before read_now write_before write_now read written Keys c s = of_keys c.1
     alone_answer read_before read_now write_before write_now read written (TooLong seen) c s = of_reached c.1.role c.1.name c.1.reached
     alone_answer read_before read_now write_before write_now read written (CannotRead name) c s = absurd (read c.2)
     alone_answer read_before read_now write_before write_now read written CannotWrite c s = absurd (written c.1)
@@ -606,6 +626,10 @@ module _ (held : Option Contents) (words : List (List ℕ)) (none : command_of w
   not_rules fault (inl r) = not_any r.reached.command r.reached.is
   not_rules fault (inr r) = not_any (generate r.count) r.is
 
+  not_keys : RefusesKeys held words → ⊥
+  not_keys (inl r) = not_any r.reached.command r.reached.is
+  not_keys (inr r) = not_any (token r.names) r.is
+
   not_past : (limit : Limit) → PassesLimit held words limit → ⊥
   not_past limit (inl r) = not_lines (PastLimit limit) r
   not_past limit (inr r) = not_any (generate r.count) r.is
@@ -621,7 +645,7 @@ no_command o words status (Change line why) c s none = absurd (not_lines o.held 
 no_command o words status (PastLimit limit) c s none = absurd (not_past o.held words none limit c.1)
 no_command o words status (TooManyBuckets count) c s none = absurd (not_many o.held words none count c.1)
 no_command o words status Claims c s none = absurd (not_any o.held words none c.1.reached.command c.1.reached.is)
-no_command o words status Keys c s none = absurd (not_any o.held words none (token c.1.names) c.1.is)
+no_command o words status Keys c s none = absurd (not_keys o.held words none c.1)
 no_command o words status (TooLong seen) c s none = absurd (not_any o.held words none c.1.reached.command c.1.reached.is)
 no_command o words status (CannotRead name) c s none = absurd (not_any o.held words none c.1.reached.command c.1.reached.is)
 no_command o words status CannotWrite c s none = absurd (not_any o.held words none c.0.command c.0.is)

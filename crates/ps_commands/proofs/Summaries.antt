@@ -1,5 +1,5 @@
 -- Made transactions, written one after another, and their summary.
-use Rattle.std.proofs.Common.{◌≡◌, ℕ, zero, suc, ◌+◌, ◌<◌, ◌≤◌, Bool, true, false, cond, List, [], ◌∷◌, ◌++◌, Option, Some, None, Result, Ok, Err, Vec, length, refl, sym, ap, ◌∙◌, subst, arith}
+use Rattle.std.proofs.Common.{◌≡◌, ℕ, zero, suc, ◌+◌, ◌<◌, ◌≤◌, Bool, true, false, cond, List, [], ◌∷◌, ◌++◌, Option, Some, None, Result, Ok, Err, Vec, length, sym, ap, ◌∙◌, subst, arith}
 use Rattle.std.specs.Prelude.{nat_lt}
 use Rattle.std.specs.declared.alloc.Global.{Global}
 use Rattle.std.proofs.lemmas.Bool.Decides.{nat_tests}
@@ -17,9 +17,8 @@ use Rattle.ps_store.specs.Histories.{LedgersTellHistories}
 use Rattle.ps_store.specs.Laws.{last_position}
 use Rattle.ps_store.specs.Ledgers.{Ledger, timed_of, ledger_of}
 use Rattle.ps_store.specs.Originals.{timed}
-use Rattle.ps_store.specs.Limits.{greatest, usual_limits}
+use Rattle.ps_store.specs.Limits.{usual_limits}
 use Rattle.ps_store.specs.Readings.{names_of, AreTooMany}
-use Rattle.ps_store.specs.Stores.{StoreStandsFor}
 use Rattle.ps_store.specs.Totals.{totals_of}
 use Rattle.ps_commands.specs.Syncing.{AreSynced}
 use Rattle.ps_files.specs.declared.compacting.Compacted.{Compacted}
@@ -27,14 +26,14 @@ use Rattle.ps_files.specs.declared.faults.Fault.{Fault}
 use Rattle.ps_files.specs.declared.faults.Fault.TheVariants.{Usage, Rules, Change, PastLimit, TooManyBuckets, Claims, Keys, TooLong, CannotRead, CannotWrite, Script, Memory}
 use Rattle.ps_files.specs.declared.faults.Limit.{Limit}
 use Rattle.ps_files.specs.declared.faults.LineFault.{LineFault}
-use Rattle.ps_files.specs.ChangeFiles.{first_passed, unless_passed, within_limits, ◌>>=◌}
+use Rattle.ps_files.specs.ChangeFiles.{first_passed, unless_passed, ◌>>=◌}
 use Rattle.ps_files.specs.Making.{made_limit}
 use Rattle.ps_files.specs.Committing.{committed_ledger}
 use Rattle.ps_files.specs.Compacting.{reports_of}
 use Rattle.ps_commands.specs.Dues.{due, own_buckets, rows_after}
 use Rattle.ps_files.specs.ChangeFiles.{CanBeFed, admitted}
 use Rattle.ps_commands.specs.Generating.{made_asker, summary_line, summary_by, summary_after, summary_under, summary_of, generated, CountsRows, Summarizes}
-use Rattle.ps_files.specs.ReadingChanges.{AreValid, usual, HasCommitted, TakesLine, Writes}
+use Rattle.ps_files.specs.ReadingChanges.{usual, HasCommitted, Writes}
 use Rattle.ps_files.specs.RulesFaults.{rules_of_file, ReadsRules}
 
 -- ---- made positions

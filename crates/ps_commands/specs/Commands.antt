@@ -1,13 +1,16 @@
 -- The commands `check`, `rows`, `replay`, `compact`, `token` and `generate`: their words, what their files mean, and the cause of each answer.
-use Rattle.std.specs.Prelude.{◌≡◌, ◌⊎◌, ℕ, ◌<◌, ◌≤◌, nat_le, ◌&&◌, List, [], ◌∷◌, ◌++◌, length, codes, bytes_eq, decimal, Option, Some, None, option_map, option_and_then, Result, Ok, Err, if◌then◌else◌}
-use Rattle.ps_io.specs.Contents.{Contents, Holds, HasLength, Gains, GainsFront}
+use Rattle.std.specs.Prelude.{◌≡◌, ◌⊎◌, ℕ, ◌<◌, ◌≤◌, nat_le, ◌&&◌, List, [], ◌∷◌, ◌++◌, length, codes, bytes_eq, Option, Some, None, option_map, Result, Ok, Err, if◌then◌else◌}
+use Rattle.ps_io.specs.Contents.{Contents, HasLength, Gains, GainsFront}
 use Rattle.ps_io.specs.Counts.{Rose}
 use Rattle.ps_rows.specs.declared.changes.Transaction.{Transaction}
 use Rattle.ps_rows.specs.declared.shown.Shown.{Shown}
 use Rattle.ps_gen.specs.Made.{made_input}
 use Rattle.ps_definitions.specs.RuleSets.{RuleSet}
 use Rattle.ps_queries.specs.Meaning.{Asker}
+use Rattle.ps_token.specs.KeyFiles.{keys_of_file}
+use Rattle.ps_token.specs.KeyLists.{key_of}
 use Rattle.ps_token.specs.Tokens.{signed_token}
+use Rattle.ps_token.specs.declared.faults.KeysFault.{KeysFault}
 use Rattle.ps_token.specs.declared.key_lists.Key.{Key}
 use Rattle.ps_files.specs.declared.faults.Fault.{Fault}
 use Rattle.ps_files.specs.declared.faults.Fault.TheVariants.{Usage, Rules, Change, PastLimit, TooManyBuckets, Claims, Keys, TooLong, CannotRead, CannotWrite, Script, Memory}
@@ -15,7 +18,7 @@ use Rattle.ps_files.specs.declared.faults.Limit.{Limit}
 use Rattle.ps_files.specs.declared.faults.ScriptCause.{ScriptCause}
 use Rattle.ps_files.specs.ChangeFiles.{transactions_of, all_transactions_of}
 use Rattle.ps_files.specs.FaultTexts.{status_of}
-use Rattle.ps_files.specs.HeldFiles.{rules_limit, file_limit, HoldsWithin, key_of_file}
+use Rattle.ps_files.specs.HeldFiles.{rules_limit, file_limit, HoldsWithin}
 use Rattle.ps_files.specs.Making.{count_of}
 use Rattle.ps_store.specs.Laws.{last_position}
 use Rattle.ps_store.specs.Limits.{usual_limits}
@@ -117,11 +120,11 @@ pub record ReadsGame (held : Option Contents) (names : Scripting) (game : Game) 
   pub changes_read : ReadsTransactions held names.changes game.transactions
   pub script_read : HoldsWithin held names.script file_limit game.script
 
--- a key file is read, and that is its key of that kid
-pub record ReadsKey (held : Option Contents) (name kid : List ℕ) (key : Key) : Type 0 where
+-- a key file is read as those keys
+pub record ReadsKeyFile (held : Option Contents) (name : List ℕ) (keys : List Key) : Type 0 where
   pub bytes : List ℕ
   pub file : HoldsWithin held name file_limit bytes
-  pub read : key_of_file kid bytes ≡ Some key
+  pub read : keys_of_file bytes ≡ Ok keys
 
 -- ---- what a command prints
 
@@ -167,12 +170,14 @@ pub record MeansCompact (held : Option Contents) (names : Inputs) (text : List �
 abbrev pub token_text : Key → List ℕ → Asker → List ℕ
 token_text key kid asker = signed_token key kid asker.payload ++ codes "\n"
 
--- `token`: the signed token of the claims' payload and a line feed
+-- `token`: the token of the claims' payload, signed with the key of the kid, and a line feed
 pub record MeansToken (held : Option Contents) (names : Signing) (text : List ℕ) : Type 0 where
-  pub key : Key
+  pub keys : List Key
   pub asker : Asker
-  pub key_read : ReadsKey held names.keys names.kid key
+  pub key : Key
+  pub keys_read : ReadsKeyFile held names.keys keys
   pub claims_read : ReadsAsker held names.claims asker
+  pub found : key_of names.kid keys ≡ Some key
   pub is : text ≡ token_text key names.kid asker
 
 -- the files of a command are read, and it prints that text
@@ -274,7 +279,7 @@ ComesTo held (compact names) for_changes name = (name ≡ names.changes) × (rul
 ComesTo held (compact names) for_script name = ⊥
 ComesTo held (token names) for_rules name = ⊥
 ComesTo held (token names) for_keys name = name ≡ names.keys
-ComesTo held (token names) for_claims name = (name ≡ names.claims) × (key : Key) × ReadsKey held names.keys names.kid key
+ComesTo held (token names) for_claims name = (name ≡ names.claims) × (keys : List Key) × ReadsKeyFile held names.keys keys
 ComesTo held (token names) for_changes name = ⊥
 ComesTo held (token names) for_script name = ⊥
 ComesTo held (generate count) role name = ⊥
@@ -296,13 +301,28 @@ pub record RefusesRules (held : Option Contents) (words : List (List ℕ)) (faul
   pub file : HoldsWithin held name rules_limit bytes
   pub refused : rules_of_file bytes ≡ Err fault
 
--- the key file, as read, is not of its form or has no key of the kid
-pub record RefusesKeys (held : Option Contents) (words : List (List ℕ)) : Type 0 where
+-- the key file, as read, is refused
+pub record RefusesKeyFile (held : Option Contents) (words : List (List ℕ)) : Type 0 where
+  pub name : List ℕ
+  pub reached : Reaches held words for_keys name
+  pub bytes : List ℕ
+  pub file : HoldsWithin held name file_limit bytes
+  pub why : KeysFault
+  pub refused : keys_of_file bytes ≡ Err why
+
+-- keys and claims of `token` are read, and no key has the kid
+pub record HasUnknownKid (held : Option Contents) (words : List (List ℕ)) : Type 0 where
   pub names : Signing
   pub is : command_of words ≡ Some (token names)
-  pub bytes : List ℕ
-  pub file : HoldsWithin held names.keys file_limit bytes
-  pub refused : key_of_file names.kid bytes ≡ None
+  pub keys : List Key
+  pub asker : Asker
+  pub keys_read : ReadsKeyFile held names.keys keys
+  pub claims_read : ReadsAsker held names.claims asker
+  pub unknown : key_of names.kid keys ≡ None
+
+-- the key file is refused, or no key of it has the kid
+abbrev pub RefusesKeys : Option Contents → List (List ℕ) → Type 0
+RefusesKeys held words = RefusesKeyFile held words ⊎ HasUnknownKid held words
 
 -- the file before is read, and the claims file, as read, is refused
 pub record RefusesClaims (held : Option Contents) (words : List (List ℕ)) : Type 0 where
@@ -453,17 +473,22 @@ abbrev pub or_refused : {A : Type 0} → Result A Fault → Result A Refusal
 or_refused (Ok x) = Ok x
 or_refused (Err fault) = Err (refused fault)
 
--- what is there, or else the file is refused with that fault
+-- what is there, or else the files are refused with that fault
 abbrev pub or_none : {A : Type 0} → Fault → Option A → Result A Refusal
 or_none fault (Some x) = Ok x
 or_none fault None = Err (refused fault)
+
+-- what was read, or else the file is refused with that fault
+abbrev pub or_refused_as : {A E : Type 0} → Fault → Result A E → Result A Refusal
+or_refused_as fault (Ok x) = Ok x
+or_refused_as fault (Err why) = Err (refused fault)
 
 -- the rules of a file
 abbrev pub rules_meant : Contents → List ℕ → Result RuleSet Refusal
 rules_meant held name = within_limit rules_limit (held name) >>= λ bytes. or_refused (rules_of_file bytes)
 
-abbrev pub key_meant : Contents → List ℕ → List ℕ → Result Key Refusal
-key_meant held name kid = within_limit file_limit (held name) >>= λ bytes. or_none Keys (key_of_file kid bytes)
+abbrev pub keys_meant : Contents → List ℕ → Result (List Key) Refusal
+keys_meant held name = within_limit file_limit (held name) >>= λ bytes. or_refused_as Keys (keys_of_file bytes)
 
 abbrev pub asker_meant : Contents → List ℕ → Result Asker Refusal
 asker_meant held name = within_limit file_limit (held name) >>= λ bytes. or_none Claims (asker_of_claims bytes)
@@ -488,7 +513,8 @@ pub data Meant : Type 0 where
 abbrev pub printing : Result (List ℕ) Refusal → Result Meant Refusal
 printing r = r >>= λ text. Ok (prints text)
 
--- what a command prints over its files, or the first refusal: rules before claims before changes before the script, and keys before claims
+-- what a command prints over its files, or the first refusal: rules before claims before changes before the script; for
+-- `token` keys before claims before the kid
 abbrev pub meaning : Contents → Command → Result Meant Refusal
 meaning held (check name) = do
   rules ← rules_meant held name
@@ -509,8 +535,9 @@ meaning held (compact names) = do
   transactions ← transactions_meant held rules names.changes
   Ok (prints (compact_text rules transactions))
 meaning held (token names) = do
-  key ← key_meant held names.keys names.kid
+  keys ← keys_meant held names.keys
   asker ← asker_meant held names.claims
+  key ← or_none Keys (key_of names.kid keys)
   Ok (prints (token_text key names.kid asker))
 meaning held (generate count) = printing (or_refused (generated count))
 meaning held (generate_lines count) = Ok (prints (lines_text (made_input count)))

@@ -309,7 +309,7 @@ fn token<'a, F: Files, K: Sink>(
     })
         (word ∷ keys.now ∷ kid.now ∷ claims.now ∷ []) result }
 {
-    let keys = match load_keys(alloc, files, keys, kid) {
+    let keys = match load_keys(alloc, files, keys) {
         Ok(keys) => keys,
         Err(fault) => return Err(fault),
     };

@@ -1,5 +1,5 @@
 -- Transactions, written one after another.
-use Rattle.std.proofs.Common.{◌≡◌, ℕ, ◌<◌, ◌≤◌, List, [], ◌∷◌, ◌++◌, Option, Some, None, Result, Ok, Err, refl, sym, ap, ◌∙◌, subst}
+use Rattle.std.proofs.Common.{◌≡◌, ◌<◌, ◌≤◌, List, [], ◌∷◌, ◌++◌, Option, Some, None, Result, Ok, Err, refl, sym, ap, ◌∙◌, subst}
 use Rattle.ps_rows.specs.declared.changes.Transaction.{Transaction}
 use Rattle.ps_definitions.specs.RuleSets.{RuleSet}
 use Rattle.ps_store.specs.declared.stores.Store.{Store}

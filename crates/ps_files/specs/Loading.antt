@@ -8,14 +8,16 @@ use Rattle.ps_files.specs.declared.faults.Fault.TheVariants.{Usage, Rules, Chang
 use Rattle.ps_definitions.specs.RuleSets.{RuleSet}
 use Rattle.ps_sql_eval.specs.declared.askers.Asker.{Asker}
 use Rattle.ps_sql_eval.specs.Evaluated.{asker_of}
+use Rattle.ps_token.specs.KeyFiles.{keys_of_file}
 use Rattle.ps_token.specs.KeyLists.{key_of}
 use Rattle.ps_token.specs.Tokens.{signed_token}
 use Rattle.ps_token.specs.declared.key_lists.Key.{Key}
+use Rattle.ps_token.specs.declared.faults.KeysFault.{KeysFault}
 use Rattle.ps_token.specs.declared.faults.SignFault.{SignFault}
 use Rattle.ps_token.specs.declared.faults.SignFault.TheVariants.{UnknownKey}
 use Rattle.ps_token.specs.declared.faults.SignFault.TheVariants as sign
 use Rattle.ps_claims.specs.Claims.{asker_of_claims}
-use Rattle.ps_files.specs.HeldFiles.{HoldsWithin, key_of_file}
+use Rattle.ps_files.specs.HeldFiles.{HoldsWithin}
 use Rattle.ps_files.specs.RulesFaults.{rules_of_file}
 
 -- loading a file within a limit: what was found in its bytes, why its bytes are refused, that it is longer, or that the files failed
@@ -59,39 +61,23 @@ IsRulesFault CannotWrite bytes = ⊥
 IsRulesFault (Script place cause) bytes = ⊥
 IsRulesFault Memory bytes = ⊥
 
--- keys of a key file, one of which has the kid
-abbrev pub FindsKey : List ℕ → List Key → List ℕ → Type 0
-FindsKey kid keys bytes = (key : Key) × (key_of kid keys ≡ Some key) × (key_of_file kid bytes ≡ Some key)
+-- the keys of a key file
+abbrev pub FindsKeys : List Key → List ℕ → Type 0
+FindsKeys keys bytes = keys_of_file bytes ≡ Ok keys
 
-abbrev pub IsKeysFault : List ℕ → Fault → List ℕ → Type 0
-IsKeysFault kid Keys bytes = key_of_file kid bytes ≡ None
-IsKeysFault kid Usage bytes = ⊥
-IsKeysFault kid (Rules line column why) bytes = ⊥
-IsKeysFault kid (Change line why) bytes = ⊥
-IsKeysFault kid (PastLimit limit) bytes = ⊥
-IsKeysFault kid (TooManyBuckets count) bytes = ⊥
-IsKeysFault kid Claims bytes = ⊥
-IsKeysFault kid (TooLong seen) bytes = ⊥
-IsKeysFault kid (CannotRead name) bytes = ⊥
-IsKeysFault kid CannotWrite bytes = ⊥
-IsKeysFault kid (Script place cause) bytes = ⊥
-IsKeysFault kid Memory bytes = ⊥
-
--- keys of a key file are found, or refused; of want of memory nothing is said
-abbrev pub ChoosesKey : List ℕ → List ℕ → Result (List Key) Fault → Type 0
-ChoosesKey kid bytes (Ok keys) = FindsKey kid keys bytes
-ChoosesKey kid bytes (Err Memory) = Unit {0}
-ChoosesKey kid bytes (Err Keys) = IsKeysFault kid Keys bytes
-ChoosesKey kid bytes (Err Usage) = ⊥
-ChoosesKey kid bytes (Err (Rules line column why)) = ⊥
-ChoosesKey kid bytes (Err (Change line why)) = ⊥
-ChoosesKey kid bytes (Err (PastLimit limit)) = ⊥
-ChoosesKey kid bytes (Err (TooManyBuckets count)) = ⊥
-ChoosesKey kid bytes (Err Claims) = ⊥
-ChoosesKey kid bytes (Err (TooLong seen)) = ⊥
-ChoosesKey kid bytes (Err (CannotRead name)) = ⊥
-ChoosesKey kid bytes (Err CannotWrite) = ⊥
-ChoosesKey kid bytes (Err (Script place cause)) = ⊥
+abbrev pub IsKeysFault : Fault → List ℕ → Type 0
+IsKeysFault Keys bytes = (why : KeysFault) × (keys_of_file bytes ≡ Err why)
+IsKeysFault Usage bytes = ⊥
+IsKeysFault (Rules line column why) bytes = ⊥
+IsKeysFault (Change line why) bytes = ⊥
+IsKeysFault (PastLimit limit) bytes = ⊥
+IsKeysFault (TooManyBuckets count) bytes = ⊥
+IsKeysFault Claims bytes = ⊥
+IsKeysFault (TooLong seen) bytes = ⊥
+IsKeysFault (CannotRead name) bytes = ⊥
+IsKeysFault CannotWrite bytes = ⊥
+IsKeysFault (Script place cause) bytes = ⊥
+IsKeysFault Memory bytes = ⊥
 
 -- a line with a token is that of the key of the kid; no key has it; want of memory says nothing
 abbrev pub SignsLine : List Key → List ℕ → List ℕ → Result (List ℕ) SignFault → Type 0

@@ -1,14 +1,13 @@
 ghost use Rattle.std.specs.Prelude.{◌≡◌, ◌≤◌};
-ghost use Rattle.ps_files.specs.Loading.{Loads, IsContent, RefusesNothing, FindsRules, IsRulesFault, FindsKey, IsKeysFault, FindsAsker, IsClaimsFault};
+ghost use Rattle.ps_files.specs.Loading.{Loads, IsContent, RefusesNothing, FindsRules, IsRulesFault, FindsKeys, IsKeysFault, FindsAsker, IsClaimsFault};
 
 use crate::faults::Fault;
 use crate::rules_faults::read_rules_file;
-use crate::signing::choose_key;
 use ps_claims::read_claims;
 use ps_definitions::Rules;
 use ps_io::{FileFault, Files};
 use ps_sql_eval::Asker;
-use ps_token::Keys;
+use ps_token::{Keys, KeysFault, read_keys};
 use ps_values::Text;
 use std::alloc::Global;
 
@@ -51,19 +50,22 @@ pub fn load_rules<'a, F: Files>(
     read_rules_file(alloc, bytes.as_slice())
 }
 
-/// Loads the keys of a key file, one of which has that kid.
+/// Loads the keys of a key file.
 pub fn load_keys<'a, F: Files>(
     alloc: Global,
     files: &mut F,
     name: &'a Text,
-    kid: &Text,
 ) -> Result<Keys, Fault<'a>>
-    ensures loads { Loads (F.held files.old) name.now FILE_LIMIT (F.faults files.old) (F.faults files.new) (FindsKey kid.now) (IsKeysFault kid.now) result }
+    ensures loads { Loads (F.held files.old) name.now FILE_LIMIT (F.faults files.old) (F.faults files.new) FindsKeys IsKeysFault result }
     ensures held { F.held files.new ≡ F.held files.old }
     ensures faults { F.faults files.old ≤ F.faults files.new }
 {
     let bytes = load(alloc, files, name, FILE_LIMIT)?;
-    choose_key(alloc, bytes.as_slice(), kid)
+    match read_keys(alloc, bytes.as_slice()) {
+        Ok(keys) => Ok(keys),
+        Err(KeysFault::BadJson | KeysFault::BadShape) => Err(Fault::Keys),
+        Err(KeysFault::Memory) => Err(Fault::Memory),
+    }
 }
 
 /// Loads the asker of a claims file.

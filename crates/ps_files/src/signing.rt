@@ -1,25 +1,9 @@
 ghost use Rattle.std.specs.Prelude.{◌≡◌, ◌++◌, codes, string_bytes, IfOk};
-ghost use Rattle.ps_files.specs.Loading.{ChoosesKey, SignsLine};
+ghost use Rattle.ps_files.specs.Loading.{SignsLine};
 
-use crate::faults::Fault;
-use ps_token::{Keys, KeysFault, SignFault, read_keys, sign};
+use ps_token::{Keys, SignFault, sign};
 use ps_values::{Memory, Text};
 use std::alloc::Global;
-
-/// The keys of a key file. Fails with `Keys` where the file is not of its form, or where no key has that kid.
-pub fn choose_key<'a>(alloc: Global, bytes: &[u8], kid: &Text) -> Result<Keys, Fault<'a>>
-    ensures { ChoosesKey kid.now bytes.now result }
-{
-    let keys = match read_keys(alloc, bytes) {
-        Ok(keys) => keys,
-        Err(KeysFault::BadJson | KeysFault::BadShape) => return Err(Fault::Keys),
-        Err(KeysFault::Memory) => return Err(Fault::Memory),
-    };
-    match keys.find(kid) {
-        Some(_) => Ok(keys),
-        None => Err(Fault::Keys),
-    }
-}
 
 // A text and a line feed.
 fn line_of(alloc: Global, text: Text) -> Result<Text, Memory>
