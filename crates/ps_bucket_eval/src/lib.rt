@@ -14,3 +14,4 @@ pub use faults::PlaceFault;
 pub use laws::entries_stand_where_conditions_hold;
 pub use placed::Placed;
 pub use placing::entries_of_row;
+pub use ps_definitions::bucket_name;

@@ -20,28 +20,41 @@ pub struct Key {
 pub enum Op {
     /// The key has this content.
     Put {
+        /// Its id.
         id: OpId,
+        /// What it speaks of.
         key: Key,
+        /// The key's content: the row's data at the client.
         content: Text,
+        /// Its checksum, modulo 2^32.
         sum: Sum,
     },
     /// The key has no content any more.
     Remove {
+        /// Its id.
         id: OpId,
+        /// What it speaks of.
         key: Key,
+        /// Its checksum, modulo 2^32.
         sum: Sum,
     },
     /// A PUT or REMOVE stood here whose key has a newer one, with the id `target`.
     Move {
+        /// Its id.
         id: OpId,
+        /// Its checksum, modulo 2^32: that of what stood here.
         sum: Sum,
+        /// The id of the newer one.
         target: OpId,
     },
     /// All operations up to this id stood here: a reader begins anew, with this sum. What they left of a
     /// key is put right by an operation up to `target`, where there is one.
     Clear {
+        /// Its id.
         id: OpId,
+        /// Its checksum, modulo 2^32: the sum of all that stood here.
         sum: Sum,
+        /// The id up to which what they left is put right, None where nothing is to be.
         target: Option<OpId>,
     },
 }

@@ -65,7 +65,7 @@ pub fn read_line(alloc: Global, bytes: &[u8]) -> Result<Transaction, ChangeFault
     LineReader::new(alloc).read_line(alloc, bytes)
 }
 
-/// Reads the body of an upload, an object with the list `changes`: docs/FORMATS.md, "Change lines".
+/// Reads the body of an upload, an object with the list `changes`: docs/FORMATS.md, "Uploads and written changes".
 /// Fails as `read_line` does, but never with `BadPosition`.
 #[tactic(auto, using(crate::proofs::Spelling::found_body, crate::proofs::Spelling::only_body))]
 pub fn read_changes(alloc: Global, bytes: &[u8]) -> Result<Items<Change>, ChangeFault>
@@ -81,7 +81,7 @@ pub fn read_changes(alloc: Global, bytes: &[u8]) -> Result<Items<Change>, Change
     body(alloc, bytes)
 }
 
-/// Reads one change object by itself: docs/FORMATS.md, "Change lines".
+/// Reads one change object by itself: docs/FORMATS.md, "Uploads and written changes".
 /// Fails as `read_line` does, but never with `BadPosition`.
 #[tactic(auto, using(crate::proofs::Spelling::found_change, crate::proofs::Spelling::only_change))]
 pub fn read_change(alloc: Global, bytes: &[u8]) -> Result<Change, ChangeFault>

@@ -12,8 +12,9 @@ use ps_values::{Memory, Value, decimals_read_back, json_of_value};
 use serde_json::{Map, Value as Json, put};
 use std::alloc::Global;
 
-/// The bytes of a change line, compact, without a line feed: docs/FORMATS.md, "Change lines". `read_line` gives the transaction again,
-/// where they are no more than a line may have.
+/// The bytes of a change line, compact, without a line feed: docs/FORMATS.md, "Uploads and written changes".
+/// No table is empty, and the position is one that a line may have, from 1 to 9223372036854775807. `read_line` gives
+/// the transaction again, where they are no more than a line may have.
 pub fn write_line(alloc: Global, transaction: &Transaction) -> Result<Vec<u8>, Memory>
     requires { IsWritable transaction.now }
     ensures value { IfOk result (λ bytes. bytes.items ≡ line_text transaction.now) }
@@ -24,8 +25,8 @@ pub fn write_line(alloc: Global, transaction: &Transaction) -> Result<Vec<u8>, M
     Ok(json.to_vec(alloc)?)
 }
 
-/// The bytes of one change object by itself, compact: docs/FORMATS.md, "Change lines". `read_change` gives the change again, where
-/// they are no more than a line may have.
+/// The bytes of one change object by itself, compact: docs/FORMATS.md, "Uploads and written changes". Its table is not
+/// empty. `read_change` gives the change again, where they are no more than a line may have.
 pub fn write_change(alloc: Global, change: &Change) -> Result<Vec<u8>, Memory>
     requires { change.now.table ≢ [] }
     ensures value { IfOk result (λ bytes. bytes.items ≡ change_text change.now) }

@@ -58,7 +58,8 @@ fn read(alloc: Global, bytes: &[u8]) -> Result<Line, ClientFault>
 }
 
 impl<K: Keeper> Client<K> {
-    /// A client that keeps what its keeper keeps, with no stream begun, and has an id. After a refusal the keeper is given back.
+    /// A client that keeps what its keeper keeps, with no stream begun, and has an id. Fails with `Failed` where the
+    /// keeper failed, which its count of faults shows, and with `Memory`. After a refusal the keeper is given back.
     pub fn open(alloc: Global, keeper: K, client: Text) -> Result<Client<K>, (K, KeepFault)>
         ensures opened { IfOk result (λ opened. IsOpened (state opened)) }
         ensures kept { IfOk result (λ opened. Tells (K.held keeper) (state opened).kept) }
@@ -169,8 +170,10 @@ impl<K: Keeper> Client<K> {
         rows_in_order(alloc, self.log.shown())
     }
 
-    /// Keeps a local write until it is uploaded, and shows its row: a PUT's data is the compact JSON object of its columns and `id`,
-    /// and a DELETE takes the row away. No checkpoint is applied until it covers the write. After a fault nothing has changed.
+    /// Keeps a local write until it is uploaded, and shows its row: a PUT's data is the compact JSON object of its
+    /// columns and `id`, and a DELETE takes the row away. No checkpoint is applied until it covers the write. The
+    /// change's table is not empty. Fails with `KeeperFault` where the keeper failed, and for want of memory, and with
+    /// nothing else. After a fault nothing has changed.
     pub fn write_local(&mut self, alloc: Global, change: Change) -> Result<(), ClientFault>
         requires { change.table ≢ [] }
         ensures ok { OnOk result (state self.new ≡ keeping (written change (state self.old).kept) (state self.old)) }
@@ -197,8 +200,8 @@ impl<K: Keeper> Client<K> {
         }
     }
 
-    /// The body that uploads the oldest local write that waits: docs/FORMATS.md, "Change lines". `read_changes` gives that write
-    /// alone, where the body is no more than a line may have. None where none waits.
+    /// The body that uploads the oldest local write that waits: docs/FORMATS.md, "Uploads and written changes".
+    /// `read_changes` gives that write alone, where the body is no more than a line may have. None where none waits.
     pub fn upload_next(&self, alloc: Global) -> Result<Option<Vec<u8>>, Memory>
         ensures value { IfOk result (λ body. option_map (λ bytes. bytes.items) body ≡ next_upload (state self.now).kept.queue) }
         ensures read_again { IfOk result (λ body. IfSome body (λ bytes. IsReadAgain (state self.now).kept.queue bytes.items)) }
@@ -206,8 +209,8 @@ impl<K: Keeper> Client<K> {
         next_body(alloc, &self.log)
     }
 
-    /// The oldest local write was uploaded, and waits no more. Fails with `QueueEmpty` exactly where none waits. After a fault
-    /// nothing has changed.
+    /// The oldest local write was uploaded, and waits no more. Fails with `QueueEmpty` exactly where none waits, with
+    /// `KeeperFault` where the keeper failed, and for want of memory. After a fault nothing has changed.
     pub fn uploaded(&mut self, alloc: Global) -> Result<(), ClientFault>
         ensures ok { OnOk result (state self.new ≡ keeping (popped (state self.old).kept) (state self.old)) }
         ensures err { OnErr result (state self.new ≡ state self.old) }
@@ -226,8 +229,9 @@ impl<K: Keeper> Client<K> {
         Ok(())
     }
 
-    /// A checkpoint must have reached this write checkpoint's number before it is applied. Fails with `QueueWaiting` exactly where
-    /// local writes still wait for their upload. After a fault nothing has changed.
+    /// A checkpoint must have reached this write checkpoint's number before it is applied. The number is at most
+    /// 9223372036854775807. Fails with `QueueWaiting` exactly where local writes still wait for their upload, with
+    /// `KeeperFault` where the keeper failed, and for want of memory. After a fault nothing has changed.
     pub fn set_write_checkpoint(&mut self, alloc: Global, number: u64) -> Result<(), ClientFault>
         requires { number ≤ greatest }
         ensures ok { OnOk result (state self.new ≡ keeping (aimed number (state self.old).kept) (state self.old)) }

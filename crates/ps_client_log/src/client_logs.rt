@@ -48,7 +48,8 @@ impl<K: Keeper> Model for ClientLog<K> {
 }
 
 impl<K: Keeper> ClientLog<K> {
-    /// Holds the state that a keeper keeps. After a refusal the keeper is given back.
+    /// Holds the state that a keeper keeps. Fails with `Failed` where the keeper failed, which its count of faults
+    /// shows, and with `Memory`. After a refusal the keeper is given back.
     pub fn open(alloc: Global, keeper: K) -> Result<ClientLog<K>, (K, KeepFault)>
         ensures kept { IfOk result (λ log. Tells (K.held keeper) (kept log)) }
         ensures held { IfOk result (λ log. K.held (keeper_of log) ≡ K.held keeper) }
@@ -92,7 +93,9 @@ impl<K: Keeper> ClientLog<K> {
         keeper
     }
 
-    /// Makes the edits, one after another, in one commit of the keeper: what it tells is then edited too. After a refusal nothing has changed.
+    /// Makes the edits, one after another, in one commit of the keeper: what it tells is then edited too. Each edit can
+    /// be made in its turn. Fails with `Failed` where the keeper failed, which its count of faults shows, and with
+    /// `Memory`. After a refusal nothing has changed.
     #[tactic(auto, using(crate::proofs::Sound::tells_can, crate::proofs::Sound::tells_after))]
     pub fn apply(&mut self, alloc: Global, edits: Vec<Edit>) -> Result<(), KeepFault>
         requires { CanMakeAll (kept self.old) edits.items }
@@ -119,8 +122,10 @@ impl<K: Keeper> ClientLog<K> {
         }
     }
 
-    /// The bucket takes operations, one after another: what its state is the image of goes on with them, and all else stays.
-    /// No operations make no bucket. After a refusal nothing has changed.
+    /// The bucket takes operations, one after another: what its state is the image of goes on with them, and all else
+    /// stays. No operations make no bucket. The ids rise from past the bucket's position, up to 9223372036854775807.
+    /// Fails with `Failed` where the keeper failed, which its count of faults shows, and with `Memory`. After a refusal
+    /// nothing has changed.
     #[tactic(auto, using(crate::proofs::Sound::taking))]
     pub fn take_ops(&mut self, alloc: Global, bucket: &Text, ops: Vec<Op>) -> Result<(), KeepFault>
         requires { CanTake (bucket_at (kept self.old) bucket.now).position ops.items }
@@ -141,7 +146,8 @@ impl<K: Keeper> ClientLog<K> {
         self.apply(alloc, edits)
     }
 
-    /// The bucket goes, with all that it holds, and all else stays. After a refusal nothing has changed.
+    /// The bucket goes, with all that it holds, and all else stays. Fails with `Failed` where the keeper failed, which
+    /// its count of faults shows, and with `Memory`. After a refusal nothing has changed.
     #[tactic(auto, using(crate::proofs::Sound::leaving))]
     pub fn delete_bucket(&mut self, alloc: Global, bucket: &Text) -> Result<(), KeepFault>
         ensures ok { OnOk result (kept self.new ≡ with_bucket bucket.now None (kept self.old)) }

@@ -21,6 +21,7 @@ mod writing;
 pub use effects::Effect;
 pub use play_laws::{plays_begin_led, plays_stay_led, plays_stay_legal, scripts_are_right};
 pub use printing::print_rows;
+pub use ps_script::{ScriptEvent, ScriptFault, read_event};
 pub use stream_laws::{
     calls_make_turns, clients_answer_right, clients_are_led, lives_are_fine, runs_go_on,
     sessions_keep_clients_right, voids_are_taken_again,

@@ -119,6 +119,7 @@ fn counted(alloc: Global, totals: Totals) -> Result<Vec<u8>, Memory>
 }
 
 /// What is printed of an effect, with a line feed at the end of each line: docs/FORMATS.md, "Effects of scripts".
+/// A line in it is one that may be written.
 pub fn effect_text(alloc: Global, effect: &Effect) -> Result<Vec<u8>, Memory>
     requires { IsPrintable effect.now }
     ensures { IfOk result (λ text. text.items ≡ text_of_effect effect.now) }

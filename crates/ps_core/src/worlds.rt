@@ -219,7 +219,7 @@ impl World {
     pub fn step(&mut self, alloc: Global, event: &ScriptEvent) -> Result<Effect, ScriptFault>
         requires { IsWorld self.old }
         ensures world { IsWorld self.new }
-        ensures failed { self.old.failed ≡ true → result ≡ Err faults.Memory }
+        ensures failed { self.old.failed ≡ true → (result ≡ Err faults.Memory) × (self.new.failed ≡ true) }
         ensures plays { (fixed : FixedSeen) (play : Play) → WorldStandsFor fixed self.old play → Steps fixed play event.now self.new result }
     {
         plays_stay_led();

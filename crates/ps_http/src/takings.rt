@@ -93,7 +93,8 @@ fn refusal(bytes: &[u8], otherwise: HeadFault) -> HeadFault
 /// Reads the head of a request, and takes exactly its bytes from the source, one at a time.
 ///
 /// After every answer, want of memory among them, the source has handed out a first part of what was left, of at most
-/// 16,384 bytes. A head that is cut, too long or broken off by a fault is `BadHead` where what was taken can be no head.
+/// 16,384 bytes. Fails with `BadHead` where what was taken can be no head, and else with `CutShort` where the input
+/// ended, `ReadFault` where the source failed, `HeadTooLong` where no head ended within 16,384 bytes, and `Memory`.
 /// Empty lines before the first line are skipped (RFC 9112, section 2.2).
 pub fn read_head<S: Source>(alloc: Global, from: &mut S) -> Result<Head, HeadFault>
     ensures answer { Reads (S.input from.old) (S.input from.new) (S.faults from.old) (S.faults from.new) result }

@@ -11,6 +11,7 @@ use serde_json::Value as Json;
 use std::alloc::Global;
 
 /// The bytes of a request's body, compact: docs/FORMATS.md, "Stream requests". `read_body` gives the body again.
+/// The body is one that `read_body` gives.
 pub fn write_body(alloc: Global, body: &StreamBody) -> Result<Vec<u8>, Memory>
     requires { IsBody body.now }
     ensures value { IfOk result (λ bytes. bytes.items ≡ body_text body.now) }

@@ -17,6 +17,7 @@ use std::alloc::Global;
 
 /// The bytes of a line, compact, with its closing line feed: docs/FORMATS.md, "Stream lines". Targets are
 /// not written; but for them `read_line` gives the line again.
+/// The line is not `Unknown`, and but for targets it is one that `read_line` could give.
 pub fn write_line(alloc: Global, line: &Line) -> Result<Vec<u8>, Memory>
     requires { IsWritable line.now }
     ensures value { IfOk result (λ bytes. bytes.items ≡ text_of line.now) }

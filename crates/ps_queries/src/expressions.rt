@@ -60,10 +60,12 @@ pub enum Expr {
     Text(Text),
     /// A column, by its own name alone.
     Column {
+        /// The column's name.
         name: Text,
     },
     /// `bucket.name`: a parameter of the bucket.
     Bucket {
+        /// The parameter's name.
         name: Text,
     },
     /// `request.user_id()` and `token_parameters.user_id`: the asker's user.
@@ -74,26 +76,35 @@ pub enum Expr {
     Parameters,
     /// A function of its arguments.
     Call {
+        /// Which function.
         function: Function,
+        /// Its arguments, in order.
         arguments: Items<Expr>,
     },
     /// `CAST(of AS TEXT)`
     CastText {
+        /// What becomes a text.
         of: Boxed<Expr>,
     },
     /// `NOT of`
     Not {
+        /// What is negated.
         of: Boxed<Expr>,
     },
     /// `of IS NULL`, or `of IS NOT NULL` where negated.
     IsNull {
+        /// What may be Null.
         of: Boxed<Expr>,
+        /// Whether it is `IS NOT NULL`.
         negated: bool,
     },
     /// An operator between two sides.
     Two {
+        /// Which operator.
         operator: Operator,
+        /// The side before it.
         left: Boxed<Expr>,
+        /// The side behind it.
         right: Boxed<Expr>,
     },
 }

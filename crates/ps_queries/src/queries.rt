@@ -7,7 +7,9 @@ use std::alloc::Global;
 /// An output of a query: an expression, and the name that it is given.
 #[derive(Debug)]
 pub struct Output {
+    /// The name that it has.
     pub name: Text,
+    /// What it gives.
     pub expr: Expr,
 }
 
@@ -24,8 +26,11 @@ impl Drop for Output {
 /// `SELECT outputs FROM table WHERE condition`, where FROM and WHERE may be missing.
 #[derive(Debug)]
 pub struct ParameterQuery {
+    /// In the order of the text.
     pub outputs: Items<Output>,
+    /// The table of FROM. None without FROM.
     pub table: Option<Text>,
+    /// The expression of WHERE. None without WHERE.
     pub condition: Option<Expr>,
 }
 
@@ -45,10 +50,13 @@ impl Drop for ParameterQuery {
 pub struct DataQuery {
     /// Whether `*` stands among the outputs.
     pub star: bool,
+    /// In the order of the text, without `*`.
     pub outputs: Items<Output>,
+    /// The table of FROM.
     pub table: Text,
     /// The alias, or the table where there is none.
     pub kind: Text,
+    /// The expression of WHERE. None without WHERE.
     pub condition: Option<Expr>,
 }
 

@@ -13,43 +13,60 @@ pub enum RulesFault {
     Yaml(YamlFault),
     /// A name or a kind of node does not belong here, or a map lacks a name.
     Shape {
+        /// From 1.
         line: u32,
+        /// From 1, in bytes.
         column: u32,
     },
     /// The query here is not read; the fault counts bytes from 0 in the query's text.
     Sql {
+        /// Why the query is not read.
         fault: SqlFault,
+        /// From 1.
         line: u32,
+        /// From 1, in bytes.
         column: u32,
     },
     /// Two written outputs of the query here have one name.
     DuplicateName {
+        /// From 1.
         line: u32,
+        /// From 1, in bytes.
         column: u32,
     },
     /// The parameter query here has another set of names than the first one.
     MixedOutput {
+        /// From 1.
         line: u32,
+        /// From 1, in bytes.
         column: u32,
     },
     /// The data query here has no `*` and no output `id`.
     NoId {
+        /// From 1.
         line: u32,
+        /// From 1, in bytes.
         column: u32,
     },
     /// The data query here has a `bucket.q` where q is no parameter's name.
     UnknownParameter {
+        /// From 1.
         line: u32,
+        /// From 1, in bytes.
         column: u32,
     },
     /// The condition of the data query here has more than 64 branches.
     TooManyBranches {
+        /// From 1.
         line: u32,
+        /// From 1, in bytes.
         column: u32,
     },
     /// A parameter stands in the data query here where it is not matched, or is not matched in some branch.
     UnmatchedParameter {
+        /// From 1.
         line: u32,
+        /// From 1, in bytes.
         column: u32,
     },
     /// Want of memory.

@@ -97,7 +97,7 @@ fn rules_in_document(alloc: Global, node: Node) -> Result<Rules, RulesFault>
     check_all(alloc, drafts)
 }
 
-/// Reads the rules of docs/FORMATS.md, "Rules".
+/// Reads the rules of docs/FORMATS.md, "The rules language". The text has fewer than 4,294,967,295 bytes.
 ///
 /// The faults of the YAML come first (`Yaml`), then the first place in reading order that has not the shape of rules
 /// (`Shape`), then the faults of the checks, definition after definition: `Sql`, `DuplicateName`, `MixedOutput`, `NoId`,

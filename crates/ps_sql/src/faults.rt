@@ -7,13 +7,22 @@ use thiserror::Error;
 pub enum SqlFault {
     /// A token would have to begin here, and none does.
     #[error("no token at {at}")]
-    BadToken { at: u32 },
+    BadToken {
+        /// The byte of the query, from 0.
+        at: u32,
+    },
     /// The token here, or the text's end, fits no rule of the grammar.
     #[error("unexpected at {at}")]
-    Unexpected { at: u32 },
+    Unexpected {
+        /// The byte of the query, from 0.
+        at: u32,
+    },
     /// What begins here is SQL, and not of this profile.
     #[error("unsupported at {at}")]
-    Unsupported { at: u32 },
+    Unsupported {
+        /// The byte of the query, from 0.
+        at: u32,
+    },
     /// Want of memory.
     #[error("out of memory")]
     Memory,

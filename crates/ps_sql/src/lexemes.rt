@@ -60,7 +60,7 @@ fn scan(alloc: Global, text: &Text) -> Result<Items<Token>, SqlFault>
 }
 
 /// The tokens of a text: identifiers, quoted identifiers, texts, whole numbers and marks, with spaces, tabs, line
-/// feeds and carriage returns between them. Each goes on as far as it can.
+/// feeds and carriage returns between them. Each goes on as far as it can. The text has fewer than 4,294,967,295 bytes.
 ///
 /// `BadToken` stands at the first place where no token begins: a byte that begins none, a quote that is not closed,
 /// a number above 9223372036854775807, or one that is followed by a letter, by `_`, or by `.` and a digit.

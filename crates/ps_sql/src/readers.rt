@@ -397,7 +397,8 @@ fn scan_data_query(alloc: Global, text: &Text) -> Result<DataQuery, SqlFault>
 ///
 /// `SELECT [output {, output}] [FROM table] [WHERE expr] [;]`
 ///
-/// where an output is `expr [AS name]`. All tokens are read before the grammar: `BadToken` is that of `tokens`.
+/// where an output is `expr [AS name]`. The text has fewer than 4,294,967,295 bytes.
+/// All tokens are read before the grammar: `BadToken` is that of `tokens`.
 /// `Unexpected` and `Unsupported` stand at the first token that fits no rule, or that is SQL and not of this profile;
 /// docs/FORMATS.md has the grammar and each cause.
 #[tactic(auto, using(crate::proofs::QueryLaws::found, crate::proofs::Readings::parameter_whole))]
@@ -425,7 +426,8 @@ pub fn read_parameter_query(alloc: Global, text: &Text) -> Result<ParameterQuery
 ///
 /// `SELECT item {, item} FROM table [[AS] name] [WHERE expr] [;]`
 ///
-/// where an item is `*`, at most once, or an output. Faults are those of `read_parameter_query`.
+/// where an item is `*`, at most once, or an output. The text has fewer than 4,294,967,295 bytes.
+/// Faults are those of `read_parameter_query`.
 #[tactic(auto, using(crate::proofs::QueryLaws::found, crate::proofs::Readings::data_whole))]
 pub fn read_data_query(alloc: Global, text: &Text) -> Result<DataQuery, SqlFault>
     requires { length text.now < 4294967295 }

@@ -18,8 +18,11 @@ pub enum TokenKind {
 /// A token: its text is the source from the byte `from` up to the byte `upto`, `upto` excluded.
 #[derive(Clone, Copy, Debug, PartialEq, Eq)]
 pub struct Token {
+    /// What it is.
     pub kind: TokenKind,
+    /// The byte of the text that it begins at, from 0.
     pub from: u32,
+    /// The byte right behind it.
     pub upto: u32,
 }
 
@@ -144,8 +147,11 @@ pub enum Word {
 /// A word, from the byte `from` of the source up to the byte `upto`.
 #[derive(Debug, Drop)]
 pub struct Lexeme {
+    /// What it says.
     pub word: Word,
+    /// The byte of the text that it begins at, from 0.
     pub from: u32,
+    /// The byte right behind it.
     pub upto: u32,
 }
 

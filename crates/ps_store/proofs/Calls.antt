@@ -144,7 +144,7 @@ module _ (fixed : Fixed) (old : Store) (history : List Event) (h : StoreStandsFo
   upload_refused changes new position is low at feeding.FeedClosed said = said
   upload_refused changes new position is low at (feeding.NotRising last given) said = let next : position.0 ≡ head_of l.fed + 1 = omega (arith, at, h.stands.head) in absurd (omega (arith, said.1, next))
   upload_refused changes new position is low at (feeding.PositionFull head) said = absurd said
-  upload_refused changes new position is low at feeding.Memory said = (sym h.stands.closed ∙ is, below low, said)
+  upload_refused changes new position is low at feeding.Memory said = (sym h.stands.closed ∙ is, below low, said.2)
 
   -- handed on by `?`
   pub upload_fails : (changes : List Change) (new : Store) (position : Position) → old.closed ≡ false → old.head.0 < old.fixed.limits.positions → position.0 ≡ old.head.0 + 1

@@ -17,6 +17,7 @@ pub mod Growing
 pub mod Keys
 pub mod Lanes
 pub mod Lawful
+pub mod LongestRuns
 pub mod LogsStanding
 pub mod Maps
 pub mod Members

@@ -23,6 +23,9 @@ not_less a b h = grind (arith, nat_tests)
 same_first : (a b : Timed) (xs ys : List Timed) → (a ∷ xs) ≡ (b ∷ ys) → a ≡ b
 same_first a b xs ys h = cc
 
+first_there : (a : Timed) (xs : List Timed) → (a ∷ xs) ≡ [] → ⊥
+first_there a xs h = absurd (cc)
+
 same_count : (a b : ℕ) → TooWide a ≡ TooWide b → a ≡ b
 same_count a b h = cc
 
@@ -32,7 +35,7 @@ module _ (limits : Limits) (l : Ledger) (store : Store) (held : store.tail.chang
 
   wide : (fault : WriteFault) (t : Timed) (ts : List Timed) → unwritten l ≡ t ∷ ts → limits.entries < length (entries_after l t) → IsTooWide store (limits.entries + 1) fault → IsRefused limits l fault
   wide fault t ts next more named = elim named as (λ n. IsRefused limits l fault) [
-    | inl is ↦ subst (IsRefused limits l) (sym is) tt
+    | inl is ↦ subst (IsRefused limits l) (sym is) (λ empty. first_there t ts (sym next ∙ empty))
     | inr found ↦
         let same : t ≡ found.0 = same_first t found.0 ts found.1 (sym next ∙ sym held ∙ found.2) in
         subst (IsRefused limits l) (sym found.3) (found.0, found.1, sym held ∙ found.2, subst (λ (u : Timed). limits.entries < length (entries_after l u)) same more, refl, refl, refl)

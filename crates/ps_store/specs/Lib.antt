@@ -11,6 +11,7 @@ pub mod StepLaws
 pub mod Reach
 pub mod Ledgers
 pub mod Runs
+pub mod LongestRuns
 pub mod StoreLogs
 pub mod Rows
 pub mod Tails

@@ -160,7 +160,8 @@ Feeds fixed history t new (Err (feeding.NotRising last given)) =
     ((ledger_of fixed.rules history).closed ≡ false) × (t.position.0 ≤ head_of (ledger_of fixed.rules history).fed)
     × (last.0 ≡ head_of (ledger_of fixed.rules history).fed) × (given ≡ t.position) × StoreStandsFor fixed new history
 Feeds fixed history t new (Err (feeding.PositionFull head)) = ⊥
-Feeds fixed history t new (Err feeding.Memory) = StoreStandsFor fixed new history
+Feeds fixed history t new (Err feeding.Memory) =
+    ((ledger_of fixed.rules history).closed ≡ false) × (head_of (ledger_of fixed.rules history).fed < t.position.0) × StoreStandsFor fixed new history
 
 -- changes were fed at the position after the head, or why they were not
 abbrev pub Uploads : Fixed → List Event → List Change → Store → Result Position FeedFault → Type 0
@@ -184,7 +185,7 @@ IsRefused limits l (writing.TooWide table id count) =
 IsRefused limits l (writing.OpsFull last) =
     (t : Timed) × (ts : List Timed) × (unwritten l ≡ t ∷ ts) × (length (entries_after l t) ≤ limits.entries)
     × (limits.ops < l.last + length (next_ops l t)) × (last.0 ≡ l.last)
-IsRefused limits l writing.Memory = Unit {0}
+IsRefused limits l writing.Memory = unwritten l ≢ []
 
 -- the longest run of next changes that can be written, at most so many
 abbrev pub next_run : Fixed → List Event → ℕ → Run

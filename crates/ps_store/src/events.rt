@@ -5,11 +5,17 @@ use ps_values::Text;
 #[derive(Debug, Drop)]
 pub enum Event {
     /// A transaction is fed.
-    Feed(Transaction),
+    Feed {
+        /// The transaction.
+        transaction: Transaction,
+    },
     /// Nothing more is fed.
     Close,
-    /// So many of the next unwritten changes are written, at least one.
-    Write(u32),
+    /// The next unwritten changes are written.
+    Write {
+        /// How many, at least one.
+        changes: u64,
+    },
     /// What is reached becomes the checkpoint.
     Commit,
     /// The log of a bucket is compacted, at the checkpoint's op.

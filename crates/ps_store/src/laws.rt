@@ -7,6 +7,7 @@ ghost use Rattle.ps_store.specs.CourseLaws.{CoursesAreLawful, PlacesStay, EndsAr
 ghost use Rattle.ps_store.specs.LedgerLaws.{LedgersTellFeeds, CheckpointsBegin, CheckpointsAreReached, LedgersTellOps, ReadersHoldCommitted, CommittedRowsAreDue};
 ghost use Rattle.ps_store.specs.TotalsLaws.{TotalsTell, BucketNamesTell, CompactionKeepsTotals};
 ghost use Rattle.ps_store.specs.LogLaws.{LogsStand};
+ghost use Rattle.ps_store.specs.LongestRuns.{RunsAreLongest};
 
 use ps_bucket_eval::entries_stand_where_conditions_hold;
 use ps_bucket_log::{
@@ -70,6 +71,12 @@ pub fn ledgers_tell_events()
     ensures feeds { LedgersTellFeeds }
     ensures begin { CheckpointsBegin }
     ensures reached { CheckpointsAreReached }
+{}
+
+/// A law: the run of next changes that a batch writes is the longest none of whose changes is refused in its turn: so many first
+/// changes can be written one after another, and no more.
+pub fn runs_are_the_longest()
+    ensures { RunsAreLongest }
 {}
 
 /// A law: the written changes are the first of all fed ones, so many as the Writes say; their original operations are what was

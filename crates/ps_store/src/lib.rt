@@ -28,10 +28,11 @@ pub use laws::{
     committed_rows_are_due, courses_are_lawful, latest_rows_are_due, latest_rows_are_granted,
     ledgers_tell_events, ledgers_tell_histories, ledgers_tell_ops, logs_stand_for_originals,
     places_are_fronts, readers_hold_what_is_committed, readers_hold_what_stands,
-    readers_hold_what_steps_leave, steps_lead_to_sources, totals_tell_histories,
-    uploads_are_covered,
+    readers_hold_what_steps_leave, runs_are_the_longest, steps_lead_to_sources,
+    totals_tell_histories, uploads_are_covered,
 };
 pub use numbers::have_numbers;
+pub use ps_bucket_log::{Batch, Taken, TakenBucket};
 pub use readings::TakeFault;
 pub use stores::{Checkpoint, Store, Wrote};
 pub use totals::Totals;

@@ -245,6 +245,9 @@ impl Store {
         requires stands { (fixed : FixedSeen) × (history : List EventSeen) × StoreStandsFor fixed self.old history }
         ensures { (fixed : FixedSeen) (history : List EventSeen) → StoreStandsFor fixed self.old history → Writes fixed history limit self.new result }
     {
+        if self.tail.changes.is_empty() {
+            return Err(WriteFault::NothingToWrite);
+        }
         let planned = plan_run(
             alloc,
             &self.fixed,

@@ -1,5 +1,5 @@
 -- What reading answers, one step after another.
-use Rattle.std.specs.Prelude.{◌≡◌, Bool, true, false, Option, Some, None, Result, Ok, Err}
+use Rattle.std.specs.Prelude.{◌≡◌, Bool, true, false, Option, Some, None, Result, Ok, Err, IsOk}
 use Rattle.ps_token.specs.declared.faults.KeysFault.{KeysFault}
 use Rattle.ps_token.specs.declared.faults.KeysFault.TheVariants as keys
 use Rattle.ps_token.specs.declared.faults.SignFault.{SignFault}
@@ -38,7 +38,7 @@ ReadsKeys (Err keys.Memory) meant = Unit {0}
 abbrev pub Signs : {X : Type 0} → Result X SignFault → Result X SignFault → Type 0
 Signs (Ok x) meant = meant ≡ Ok x
 Signs (Err sign.UnknownKey) meant = meant ≡ Err sign.UnknownKey
-Signs (Err sign.Memory) meant = Unit {0}
+Signs (Err sign.Memory) meant = IsOk meant
 
 -- what is accepted is what is meant, or the fault is
 abbrev pub Verifies : {X : Type 0} → Result X TokenFault → Result X TokenFault → Type 0

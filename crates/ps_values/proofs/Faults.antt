@@ -1,10 +1,11 @@
 -- JSON item by item and member by member.
 use Rattle.std.proofs.Common.{◌≡◌, ℕ, Bool, true, false, List, [], ◌∷◌, ◌++◌, Option, Some, None, refl, sym, ap, ◌∙◌, cond, ◌^◌, string_bytes, string_cmp, map, drop, get_or, length, ◌+◌, ◌<◌}
-use Rattle.std.specs.Prelude.{nat_lt, ◌||◌}
+use Rattle.std.specs.Prelude.{nat_lt, ◌||◌, if◌then◌else◌}
 use Rattle.std.specs.Option.{option_or}
 use Rattle.serde_json.specs.Data.{Num, unsigned, negative, float, Data, null, boolean, number, string, array, object, Items, no_items, item, Members, no_members, member, put}
 use Rattle.serde_json.specs.Written.{has_float, items_have_float, members_have_float, compact_text}
 use Rattle.ps_values.specs.declared.conversions.ValueFault.{ValueFault}
+use Rattle.ps_values.specs.declared.conversions.ValueFault.TheVariants.{TooBig, Memory}
 use Rattle.ps_values.specs.declared.values.Value.TheVariants.{Text}
 use Rattle.ps_values.specs.Conversions.{number_fault, value_of, first_fault, numbers_of, numbers_of_items, numbers_of_members, plain_number, plain_of, plain_items, plain_members}
 use Rattle.std.proofs.lemmas.List.{drop_more}
@@ -128,3 +129,15 @@ item_more all xs i x own left within is fault =
     let rest = numbers_of_items (items_view (drop (i + 1) xs)) in
     left ∙ ap (λ js. first_fault (numbers_of_items (items_view js))) (drop_more xs i x within ∙ ap (λ y. y ∷ drop (i + 1) xs) (sym is))
     ∙ first_fault_append (numbers_of (view x)) rest ∙ ap (λ o. option_or o (first_fault rest)) fault
+
+-- ---- the fault of numbers is none of memory
+
+past_unsigned : (b : Bool) (rest : Option ValueFault) → (rest ≡ Some Memory → ⊥) → option_or (if b then None else Some TooBig) rest ≡ Some Memory → ⊥
+past_unsigned true rest nothing h = nothing h
+past_unsigned false rest nothing h = absurd (cc)
+
+pub numbers_want_nothing : (ns : List Num) → first_fault ns ≡ Some Memory → ⊥
+numbers_want_nothing [] h = absurd (cc)
+numbers_want_nothing (unsigned n ∷ ns) h = past_unsigned (nat_lt n (2 ^ 63)) (first_fault ns) (numbers_want_nothing ns) h
+numbers_want_nothing (negative z ∷ ns) h = numbers_want_nothing ns h
+numbers_want_nothing (float x ∷ ns) h = absurd (cc)

@@ -49,12 +49,13 @@ value_of (string text) = Text text
 value_of (array ds) = Text (compact_text (array ds))
 value_of (object ms) = Text (compact_text (object ms))
 
--- JSON is a value exactly where none of its numbers has a fault; else the fault is that of the first one that has
+-- JSON is a value exactly where none of its numbers has a fault; else the fault is that of the first one that has, which is known before any
+-- memory is taken
 abbrev pub IsValueOf : Data → Result Value ValueFault → Type 0
 IsValueOf d (Ok value) = (first_fault (numbers_of d) ≡ None) × (value ≡ value_of d)
 IsValueOf d (Err NotWhole) = first_fault (numbers_of d) ≡ Some NotWhole
 IsValueOf d (Err TooBig) = first_fault (numbers_of d) ≡ Some TooBig
-IsValueOf d (Err Memory) = Unit {0}
+IsValueOf d (Err Memory) = first_fault (numbers_of d) ≡ None
 
 -- ---- plain JSON
 

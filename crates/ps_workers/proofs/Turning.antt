@@ -50,7 +50,7 @@ pub refused_stands : (fixed : Fixed) (history : List Event) (t : Transaction) (n
 refused_stands fixed history t new feeding.FeedClosed said = said.1
 refused_stands fixed history t new (feeding.NotRising last given) said = said.4
 refused_stands fixed history t new (feeding.PositionFull head) said = absurd said
-refused_stands fixed history t new feeding.Memory said = said
+refused_stands fixed history t new feeding.Memory said = said.2
 
 -- an upload that was refused
 pub refused_upload : {d : Ghosts Store Event Fixed} (fixed : Fixed) (history : List Event) (changes : List Change) (before after : Seat Store Event Fixed d) (new : Store) (fault : FeedFault)

@@ -11,13 +11,14 @@ ghost use Rattle.ps_workers.specs.Gains.{UploadsIn, NumbersIn};
 use ps_lock::{Seat, StoreLock};
 use ps_rows::{Change, Transaction};
 use ps_store::{Event, FeedFault, Store};
-use ps_values::{Items, Memory, Position, Text};
+use ps_values::{Items, Memory, Position, Text, copy_all};
 use ps_write_cp::NumberFault;
 use std::alloc::Global;
 use std::sync::Wait;
 
-/// Uploads changes, of which no table is empty, in one turn. The event's copy is made before the turn, and where there is no memory for it no turn is taken.
-/// Where the store refuses the upload, nothing is added to the history.
+/// Uploads changes, of which no table is empty, in one turn. The event's copy is made before the turn, and where there
+/// is no memory for it no turn is taken. Else it fails as `Store::upload` does. Where the store refuses the upload,
+/// nothing is added to the history. The seat is one of the lock's.
 pub fn upload_in_turn<R: Wait>(
     rt: &R,
     alloc: Global,
@@ -30,21 +31,19 @@ pub fn upload_in_turn<R: Wait>(
     ensures lock { IsSeatOf lock.now result.0 }
     ensures turn { (history : List EventSeen) × UploadsIn (fixed_of lock.now) history changes seat result.0 result.1 }
 {
-    let transaction = Transaction {
-        position: Position(0),
-        changes,
-    };
-    let copy = match transaction.copy(alloc) {
-        Ok(copy) => copy.changes,
+    let copy = match copy_all(alloc, changes.as_slice()) {
+        Ok(copy) => copy,
         Err(_) => return (seat, Err(FeedFault::Memory)),
     };
     let mut turn = lock.turn(rt, seat);
-    match turn.value().upload(transaction.changes) {
+    match turn.value().upload(changes) {
         Ok(position) => (
-            turn.leave_with(Event::Feed(Transaction {
-                position,
-                changes: copy,
-            })),
+            turn.leave_with(Event::Feed {
+                transaction: Transaction {
+                    position,
+                    changes: copy,
+                },
+            }),
             Ok(position),
         ),
         Err(fault) => (turn.leave(), Err(fault)),
@@ -60,8 +59,9 @@ fn number_event(alloc: Global, user: &Text, client: &Text) -> Result<Event, Memo
     Ok(Event::WriteCheckpoint { user, client })
 }
 
-/// Makes a write checkpoint of a user's client in one turn, and gives its number. The event's copy is made before the turn, and where there is no memory
-/// for it no turn is taken. Where the store refuses, nothing is added to the history.
+/// Makes a write checkpoint of a user's client in one turn, and gives its number. The event's copy is made before the
+/// turn, and where there is no memory for it no turn is taken. Else it fails as `Store::write_checkpoint` does. Where
+/// the store refuses, nothing is added to the history. The seat is one of the lock's.
 pub fn number_in_turn<R: Wait>(
     rt: &R,
     alloc: Global,

@@ -14,8 +14,9 @@ use ps_store::{Checkpoint, Event, FeedFault, NothingToCommit, Store, WriteFault,
 use std::alloc::Global;
 use std::sync::Wait;
 
-/// Feeds a transaction in one turn. The event's copy is made before the turn, and where there is no memory for it no turn is taken. Where the store
-/// refuses the transaction, nothing is added to the history.
+/// Feeds a transaction, whose position is at most 9223372036854775807, in one turn. The event's copy is made before the
+/// turn, and where there is no memory for it no turn is taken. Else it fails as `Store::feed` does. Where the store
+/// refuses the transaction, nothing is added to the history. The seat is one of the lock's.
 pub fn feed_in_turn<R: Wait>(
     rt: &R,
     alloc: Global,
@@ -34,12 +35,12 @@ pub fn feed_in_turn<R: Wait>(
     };
     let mut turn = lock.turn(rt, seat);
     match turn.value().feed(transaction) {
-        Ok(()) => (turn.leave_with(Event::Feed(copy)), Ok(())),
+        Ok(()) => (turn.leave_with(Event::Feed { transaction: copy }), Ok(())),
         Err(fault) => (turn.leave(), Err(fault)),
     }
 }
 
-/// Closes the feed in one turn.
+/// Closes the feed in one turn. The seat is one of the lock's.
 pub fn close_in_turn<R: Wait>(rt: &R, lock: &StoreLock<Store>, seat: Seat<Store>) -> Seat<Store>
     requires { IsSeatOf lock.now seat }
     ensures lock { IsSeatOf lock.now result }
@@ -50,8 +51,8 @@ pub fn close_in_turn<R: Wait>(rt: &R, lock: &StoreLock<Store>, seat: Seat<Store>
     turn.leave_with(Event::Close)
 }
 
-/// Writes one batch in one turn: as many of the next unwritten changes as can be written, at most `limit`, from 1 to 1,000,000. Where the first of them
-/// is refused, nothing is added to the history.
+/// Writes one batch in one turn: as many of the next unwritten changes as can be written, at most `limit`, from 1 to
+/// 1,000,000. Fails as `Store::write_batch` does; then nothing is added to the history. The seat is one of the lock's.
 pub fn write_in_turn<R: Wait>(
     rt: &R,
     alloc: Global,
@@ -67,12 +68,16 @@ pub fn write_in_turn<R: Wait>(
 {
     let mut turn = lock.turn(rt, seat);
     match turn.value().write_batch(alloc, limit) {
-        Ok(wrote) => (turn.leave_with(Event::Write(wrote.changes)), Ok(wrote)),
+        Ok(wrote) => {
+            let changes = u64::from(wrote.changes);
+            (turn.leave_with(Event::Write { changes }), Ok(wrote))
+        }
         Err(fault) => (turn.leave(), Err(fault)),
     }
 }
 
-/// Makes what is reached the checkpoint in one turn. Where it is that already, nothing is added to the history.
+/// Makes what is reached the checkpoint in one turn. Fails as `Store::commit` does: where it is that already, nothing
+/// is added to the history. The seat is one of the lock's.
 pub fn commit_in_turn<R: Wait>(
     rt: &R,
     lock: &StoreLock<Store>,

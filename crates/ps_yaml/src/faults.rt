@@ -12,16 +12,36 @@ use thiserror::Error;
 pub enum YamlFault {
     /// A line's indent fits no open map or list, or a tab stands in an indentation.
     #[error("{line}:{column}: the indentation fits nothing that is open")]
-    BadIndent { line: u32, column: u32 },
+    BadIndent {
+        /// From 1.
+        line: u32,
+        /// From 1, in bytes.
+        column: u32,
+    },
     /// No scalar, no entry or no item of the profile, or bytes that are not UTF-8 (then at 1:1).
     #[error("{line}:{column}: not a scalar, an entry or an item")]
-    BadScalar { line: u32, column: u32 },
+    BadScalar {
+        /// From 1.
+        line: u32,
+        /// From 1, in bytes.
+        column: u32,
+    },
     /// A map has this name already.
     #[error("{line}:{column}: the map has this name already")]
-    DuplicateKey { line: u32, column: u32 },
+    DuplicateKey {
+        /// From 1.
+        line: u32,
+        /// From 1, in bytes.
+        column: u32,
+    },
     /// YAML that this profile leaves out.
     #[error("{line}:{column}: YAML that the profile leaves out")]
-    Unsupported { line: u32, column: u32 },
+    Unsupported {
+        /// From 1.
+        line: u32,
+        /// From 1, in bytes.
+        column: u32,
+    },
     /// Want of memory.
     #[error("out of memory")]
     Memory,

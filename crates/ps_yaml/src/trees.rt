@@ -306,7 +306,9 @@ fn document(alloc: Global, bytes: &[u8]) -> Result<Node, YamlFault>
 }
 
 /// Reads a document of the YAML profile of docs/FORMATS.md, in time linear in its bytes.
+/// The text has fewer than 4,294,967,295 bytes.
 /// Anything else is answered by its first fault in reading order; bytes that are not UTF-8 by `BadScalar` at 1:1.
+/// The faults are `BadIndent`, `BadScalar`, `DuplicateKey` and `Unsupported`, and `Memory`.
 #[tactic(auto, using(crate::proofs::Laws::found, crate::proofs::Laws::only))]
 pub fn read_yaml(alloc: Global, bytes: &[u8]) -> Result<Node, YamlFault>
     requires { length bytes.now < 4294967295 }

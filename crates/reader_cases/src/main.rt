@@ -20,7 +20,7 @@ mod yaml;
 use cases::answers;
 use std::{io, thread};
 
-// Twice the stack of the service: another compiler may make larger frames.
+// Half a gibibyte more than the program's: another compiler may make larger frames.
 const STACK: usize = 2147483648;
 
 fn main(rt: HostRuntime) -> io::Result<()> {

@@ -25,7 +25,7 @@ module _ (fixed : Fixed) (history : List Event) (old : Store) (serves : Serves f
   feeds_stay t store (Err feeding.FeedClosed) feeds = stays store history feeds.1
   feeds_stay t store (Err (feeding.NotRising last given)) feeds = stays store history feeds.4
   feeds_stay t store (Err (feeding.PositionFull head)) feeds = absurd feeds
-  feeds_stay t store (Err feeding.Memory) feeds = stays store history feeds
+  feeds_stay t store (Err feeding.Memory) feeds = stays store history feeds.2
 
   pub writes_stay : (store : Store) (result : Result Wrote WriteFault) → Writes fixed history 1000000 store result → IsStore store
   writes_stay store (Ok wrote) writes = stays store (history ++ Write wrote.changes ∷ []) writes.4

@@ -17,8 +17,8 @@ use std::alloc::Global;
 use std::thread;
 use texts::Texts;
 
-// Reading, checking and dropping a hostile file may nest as deep as it is long.
-const STACK: usize = 1073741824;
+// That of the program: reading, checking and dropping a hostile file may nest as deep as it is long.
+const STACK: usize = 1610612736;
 
 // Cases of commands; false where the word begins none.
 fn answer_command(

@@ -1,6 +1,5 @@
 use Rattle.std.proofs.Common.{◌+◌, List, [], ◌∷◌, ◌++◌, length, sym, ap, ◌∙◌, subst}
 use Rattle.ps_rows.specs.declared.changes.Change.{Change}
-use Rattle.ps_rows.specs.declared.changes.Transaction.{Transaction}
 use Rattle.ps_lock.specs.Words.{history_of, own_entries_in}
 use Rattle.ps_store.specs.declared.events.Event.TheVariants.{Feed}
 use Rattle.ps_store.specs.Sharing.{fixed_of}
@@ -13,7 +12,7 @@ leave_with-requires g c =
     let turn = c.turn-turn.result in
     let start = lent c.args.lock.now turn c.value.result.now c.value.ensures.value c.turn-turn.ensures.stands.1 in
     let said = c.in-Ok-upload.ensures (fixed_of c.args.lock.now) (history_of turn) start in
-    let same = ap (λ (t : Transaction). t.changes) c.in-Ok.ensures in
+    let same = c.in-Ok.ensures ∙ c.as_slice.ensures in
     let copied =
     subst (λ (cs : List Change). StoreStandsFor (fixed_of c.args.lock.now) c.upload.new.self (history_of turn ++ Feed (record { position = c.in-Ok-upload.position; changes = cs }) ∷ [])) (sym same) said.2 in
     let stands = under c.args.lock.now turn.lock.now c.upload.new.self _ c.turn-turn.ensures.lock copied in
@@ -33,7 +32,7 @@ returns-in-Ok-upload-clause-turn g c =
     let turn = c.turn-turn.result in
     let start = lent c.args.lock.now turn c.value.result.now c.value.ensures.value c.turn-turn.ensures.stands.1 in
     let said = c.in-Ok-upload.ensures (fixed_of c.args.lock.now) (history_of turn) start in
-    let same = ap (λ (t : Transaction). t.changes) c.in-Ok.ensures in
+    let same = c.in-Ok.ensures ∙ c.as_slice.ensures in
     let copied = ap (λ (cs : List Change). history_of turn ++ Feed (record { position = c.in-Ok-upload.position; changes = cs }) ∷ []) same in
     let own = ap (λ (cs : List Change). own_entries_in turn ++ (Feed (record { position = c.in-Ok-upload.position; changes = cs }), length (history_of turn) + 1) ∷ []) same in (
       history_of turn,

@@ -1,5 +1,9 @@
+use Rattle.std.proofs.Common.{ℕ, [], ◌∷◌, ◌++◌, sym, subst}
 use Rattle.ps_lock.specs.Words.{history_of}
+use Rattle.ps_store.specs.declared.events.Event.TheVariants.{Write}
 use Rattle.ps_store.specs.Sharing.{fixed_of}
+use Rattle.ps_store.specs.Stores.{StoreStandsFor}
+use Rattle.ps_workers.specs.Gains.{AddsTo}
 use Rattle.ps_workers.proofs.Turning.{lent, under, looks, adds}
 use Rattle.ps_workers.proofs.turns.write_in_turn.Goals as goal
 
@@ -8,7 +12,8 @@ leave_with-requires g c =
     let turn = c.turn-turn.result in
     let start = lent c.args.lock.now turn c.value.result.now c.value.ensures.value c.turn-turn.ensures.stands.1 in
     let said = c.in-Ok.ensures (fixed_of c.args.lock.now) (history_of turn) start in
-    let stands = under c.args.lock.now turn.lock.now c.write_batch.new.self _ c.turn-turn.ensures.lock said.4 in
+    let written = subst (λ (n : ℕ). StoreStandsFor (fixed_of c.args.lock.now) c.write_batch.new.self (history_of turn ++ Write n ∷ [])) (sym c.from-changes.ensures) said.4 in
+    let stands = under c.args.lock.now turn.lock.now c.write_batch.new.self _ c.turn-turn.ensures.lock written in
     (stands.fixed_is, stands)
 
 pub leave-requires : goal.leave-requires
@@ -24,7 +29,10 @@ returns-in-Ok-clause-turn g c =
     let turn = c.turn-turn.result in
     let start = lent c.args.lock.now turn c.value.result.now c.value.ensures.value c.turn-turn.ensures.stands.1 in
     let said = c.in-Ok.ensures (fixed_of c.args.lock.now) (history_of turn) start in
-    (history_of turn, (adds c.args.seat c.leave_with.result turn c.turn-turn.ensures.seen c.turn-turn.ensures.own _ c.leave_with.ensures.seen c.leave_with.ensures.own, said.0, said.1, said.2, said.3))
+    let added =
+    subst (λ (n : ℕ). AddsTo (history_of turn) (Write n) c.args.seat c.leave_with.result) c.from-changes.ensures
+    (adds c.args.seat c.leave_with.result turn c.turn-turn.ensures.seen c.turn-turn.ensures.own (Write c.from-changes.result) c.leave_with.ensures.seen c.leave_with.ensures.own) in
+    (history_of turn, (added, said.0, said.1, said.2, said.3))
 
 pub returns-in-Err-clause-turn : goal.returns-in-Err-clause-turn
 returns-in-Err-clause-turn g c =

@@ -1,4 +1,4 @@
-use Rattle.std.proofs.Common.{◌≡◌, ◌≤◌, refl, ◌∙◌, length, arith}
+use Rattle.std.proofs.Common.{rules, ◌≡◌, ◌≤◌, [], refl, ◌∙◌, length, arith}
 use Rattle.ps_store.specs.declared.stores.Store.{Store}
 use Rattle.ps_store.specs.declared.stores.Wrote.{Wrote}
 use Rattle.ps_store.specs.Stores.{IsSame}
@@ -34,7 +34,7 @@ returns-then-is_err c = λ fixed history h.
       closed = same.closed;
       numbers = same.numbers;
     } in
-    (tt, wants fixed c.args.self.now history h c.args.limit c.in_ok-planned.planned c.in_ok-planned.ensures new tidied)
+    (λ none. let held : c.args.self.now.tail.changes.items ≡ [] = h.stands.changes ∙ none in search (rules, held), wants fixed c.args.self.now history h c.args.limit c.in_ok-planned.planned c.in_ok-planned.ensures new tidied)
 
 pub overflow_cast-wrote : goal.overflow_cast-wrote
 overflow_cast-wrote c =
