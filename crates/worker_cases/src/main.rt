@@ -2,7 +2,8 @@
 //!
 //! `seats` has a first seat feed a transaction, and says what a second one has seen before its turn and after it, and what a store is then kept. `alone COUNT
 //! LIMIT` feeds so many made transactions, writes them in batches and commits, all by one seat, and says what is counted then; `four COUNT LIMIT` does the same by
-//! the turns of four threads. A line that begins with `#` is a heading.
+//! the turns of four threads. `requests` has one seat upload a change, ask for two numbers of a client, close the feed and upload once more, and says what each
+//! call answers and how many events the seat has seen. A line that begins with `#` is a heading.
 #![tactic(auto)]
 
 mod stores;
@@ -47,6 +48,8 @@ fn main(rt: HostRuntime) -> Result<(), Fail> {
         let (word, rest) = cut(line.as_str());
         if word == "seats" {
             threads::write_seats(&rt, alloc, &mut out)?;
+        } else if word == "requests" {
+            threads::write_requests(&rt, alloc, &mut out)?;
         } else if word == "four" || word == "alone" {
             write_counts(&rt, alloc, word, rest, &mut out)?;
         } else {

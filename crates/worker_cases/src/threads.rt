@@ -1,7 +1,9 @@
 //! Threads that share a store.
 
-ghost use Rattle.std.specs.Prelude.{List, IfSome};
+ghost use Rattle.std.specs.Prelude.{◌<◌, List, IfOk, IfSome, length};
+ghost use Rattle.std.specs.List.{All};
 ghost use Rattle.ps_lock.specs.Words.{IsSeatOf};
+ghost use Rattle.ps_rows.specs.declared.changes.Change.{Change as ChangeSeen};
 ghost use Rattle.ps_store.specs.declared.events.Event.{Event as EventSeen};
 ghost use Rattle.ps_store.specs.Sharing.{fixed_of};
 ghost use Rattle.ps_store.specs.Stores.{StoreStandsFor};
@@ -9,10 +11,12 @@ ghost use Rattle.ps_store.specs.Stores.{StoreStandsFor};
 use crate::stores::made_store;
 use ps_gen::make_input;
 use ps_lock::{Seat, StoreLock};
-use ps_rows::Transaction;
+use ps_rows::{Change, Transaction};
 use ps_store::Store;
-use ps_values::{GREATEST, Items};
-use ps_workers::{commit_in_turn, feed_in_turn, write_in_turn};
+use ps_values::{GREATEST, Items, Text};
+use ps_workers::{
+    close_in_turn, commit_in_turn, feed_in_turn, number_in_turn, upload_in_turn, write_in_turn,
+};
 use std::alloc::Global;
 use std::sync::Wait;
 use std::test::Fail;
@@ -212,6 +216,42 @@ pub fn write_seats<R: Wait>(rt: &R, alloc: Global, out: &mut String) -> Result<(
         "seen {before} and {}, kept with head {} and {changes} unwritten",
         second.seen(),
         store.head().0
+    )?;
+    Ok(())
+}
+
+// One change: a row of a table is deleted.
+fn one_change(alloc: Global) -> Result<Items<Change>, Fail>
+    ensures { IfOk result (λ changes. All (λ (change : ChangeSeen). 0 < length change.table) changes) }
+{
+    let table = Text::from_str(alloc, "items")?;
+    let id = Text::from_str(alloc, "r1")?;
+    let mut changes = Items::new(alloc);
+    changes.push(Change {
+        table,
+        id,
+        row: None,
+    })?;
+    Ok(changes)
+}
+
+/// A seat uploads a change, asks for two numbers of a client, closes the feed and uploads once more: what each call answers, and how many
+/// events the seat has seen.
+pub fn write_requests<R: Wait>(rt: &R, alloc: Global, out: &mut String) -> Result<(), Fail> {
+    let user = Text::from_str(alloc, "ann")?;
+    let client = Text::from_str(alloc, "phone")?;
+    let first = one_change(alloc)?;
+    let second = one_change(alloc)?;
+    let (lock, seat) = made_store(alloc)?;
+    let (seat, uploaded) = upload_in_turn(rt, alloc, &lock, seat, first);
+    let (seat, one) = number_in_turn(rt, alloc, &lock, seat, &user, &client);
+    let (seat, two) = number_in_turn(rt, alloc, &lock, seat, &user, &client);
+    let seat = close_in_turn(rt, &lock, seat);
+    let (seat, refused) = upload_in_turn(rt, alloc, &lock, seat, second);
+    write!(
+        out,
+        "upload {uploaded:?} numbers {one:?} {two:?} closed {refused:?} seen {}",
+        seat.seen()
     )?;
     Ok(())
 }
