@@ -12,7 +12,7 @@ use ps_values::{Items, Memory, OpId, Text};
 use std::alloc::Global;
 
 // What is held of a key.
-#[derive(Debug, Drop)]
+#[derive(Drop)]
 pub struct Entry {
     pub id: OpId,
     pub content: Text,

@@ -28,7 +28,7 @@ use std::alloc::Global;
 use std::collections::{BTreeMap, BTreeSet};
 
 // The latest copy of an object that was seen, where the bucket holds it.
-#[derive(Debug, Drop)]
+#[derive(Drop)]
 pub struct Latest<'a> {
     pub bucket: &'a Text,
     pub subkey: &'a Text,

@@ -2,7 +2,7 @@ use ps_script::ScriptFault;
 use ps_values::Memory;
 
 /// Why a script was not played to its end.
-#[derive(Clone, Copy, Debug, PartialEq, Eq)]
+#[derive(Clone, Copy, PartialEq, Eq)]
 pub enum ReplayFault {
     /// A line was refused.
     Refused {

@@ -6,7 +6,7 @@ use ps_store::{Checkpoint, Totals};
 use ps_values::{Items, OpId, Position, Text};
 
 /// What an event of a script did.
-#[derive(Debug, Drop)]
+#[derive(Drop)]
 pub enum Effect {
     /// Transactions were fed: so many as were asked for, or all that were left.
     Fed {

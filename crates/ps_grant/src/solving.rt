@@ -14,7 +14,7 @@ use ps_values::{Items, Memory, Text, Truth, Value, copy_all, equal_sql};
 use std::alloc::Global;
 
 /// The values that a match allows for its parameter.
-#[derive(Debug, Drop)]
+#[derive(Drop)]
 pub(crate) struct Allowed {
     /// The parameter's name.
     pub(crate) name: Text,

@@ -12,7 +12,7 @@ use ps_values::Memory;
 use std::alloc::Global;
 
 // What a source gives next.
-#[derive(Clone, Copy, Debug)]
+#[derive(Clone, Copy)]
 pub(crate) enum Next {
     Byte(u8),
     End,

@@ -3,7 +3,7 @@ use ps_queries::ParameterQuery;
 use ps_values::{Items, Text};
 
 /// The text of a scalar, and where it stands.
-#[derive(Debug, Drop)]
+#[derive(Drop)]
 pub struct Written {
     pub text: Text,
     pub line: u32,
@@ -11,14 +11,14 @@ pub struct Written {
 }
 
 /// The queries that the pairs of a definition gave so far.
-#[derive(Debug, Drop)]
+#[derive(Drop)]
 pub struct Parts {
     pub parameters: Items<Written>,
     pub queries: Items<Written>,
 }
 
 /// A definition of the right shape, before its checks, with the place of its name.
-#[derive(Debug, Drop)]
+#[derive(Drop)]
 pub struct Draft {
     pub name: Text,
     pub line: u32,
@@ -28,14 +28,14 @@ pub struct Draft {
 }
 
 /// The parameter queries of a definition that were checked so far, with its warnings.
-#[derive(Debug, Drop)]
+#[derive(Drop)]
 pub struct Known {
     pub queries: Items<ParameterQuery>,
     pub warnings: Items<Warning>,
 }
 
 /// A definition that passed its checks, with its warnings.
-#[derive(Debug, Drop)]
+#[derive(Drop)]
 pub struct Checked {
     pub definition: Definition,
     pub warnings: Items<Warning>,

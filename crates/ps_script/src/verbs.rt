@@ -6,7 +6,7 @@ ghost use Rattle.ps_script.specs.Verbs.{verb_of, event_by};
 use crate::ScriptEvent;
 use ps_values::Text;
 
-#[derive(Clone, Copy, Debug, PartialEq, Eq)]
+#[derive(Clone, Copy, PartialEq, Eq)]
 pub enum Verb {
     Open,
     Turn,

@@ -4,7 +4,7 @@ use ps_sql_eval::Asker;
 use ps_values::{Items, Text};
 
 /// What a request asks for.
-#[derive(Debug, Drop)]
+#[derive(Drop)]
 pub enum Asked {
     /// A stream of lines.
     Stream {

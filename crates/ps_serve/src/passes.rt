@@ -13,7 +13,7 @@ use ps_values::Text;
 use std::alloc::Global;
 
 /// What may be answered, and to whom.
-#[derive(Debug, Drop)]
+#[derive(Drop)]
 pub struct Pass {
     /// What is asked for.
     pub way: Way,

@@ -2,7 +2,7 @@ ghost use Rattle.std.specs.Prelude.{◌≡◌};
 ghost use Rattle.ps_serve.specs.Refusals.{status_of};
 
 /// Why a request is not answered with what it asks for.
-#[derive(Clone, Copy, Debug, PartialEq, Eq)]
+#[derive(Clone, Copy, PartialEq, Eq)]
 pub enum Refusal {
     /// The input ended or failed inside the request, so there is nobody to answer.
     Cut,

@@ -4,7 +4,7 @@ ghost use Rattle.ps_serve.specs.Requests.{way_of as way_named, method_of};
 use ps_values::Text;
 
 /// What the service does, each under a path of its own.
-#[derive(Clone, Copy, Debug, PartialEq, Eq)]
+#[derive(Clone, Copy, PartialEq, Eq)]
 pub enum Way {
     /// `/sync/stream`: a stream of lines.
     Stream,

@@ -2,7 +2,7 @@ use crate::{Expr, Output};
 use ps_values::{Items, Text};
 
 /// What is known of the table that a query's columns come from.
-#[derive(Debug, Drop)]
+#[derive(Drop)]
 pub enum Scope {
     /// Nothing yet.
     Any,
@@ -13,7 +13,7 @@ pub enum Scope {
 }
 
 /// The query that an expression stands in.
-#[derive(Debug, Drop)]
+#[derive(Drop)]
 pub struct Context {
     /// Whether it is a data query, and no parameter query.
     pub is_data: bool,
@@ -21,7 +21,7 @@ pub struct Context {
 }
 
 /// The binary operators' levels, from the loosest on; NOT stands between `And` and `Same`.
-#[derive(Clone, Copy, Debug, PartialEq, Eq)]
+#[derive(Clone, Copy, PartialEq, Eq)]
 pub enum Level {
     Or,
     And,
@@ -34,7 +34,7 @@ pub enum Level {
 }
 
 /// What was read behind an expression.
-#[derive(Debug, Drop)]
+#[derive(Drop)]
 pub enum Step {
     /// No operator of the level: the expression is whole.
     Done(Expr),
@@ -43,7 +43,7 @@ pub enum Step {
 }
 
 /// The outputs that were read so far.
-#[derive(Debug, Drop)]
+#[derive(Drop)]
 pub struct Listed {
     /// Whether `*` stands among them.
     pub star: bool,
@@ -51,7 +51,7 @@ pub struct Listed {
 }
 
 /// The table of a data query, and the name that it goes by.
-#[derive(Debug, Drop)]
+#[derive(Drop)]
 pub struct Source {
     pub table: Text,
     /// The alias, or the table where there is none.
@@ -59,7 +59,7 @@ pub struct Source {
 }
 
 /// What a query lists, and the condition behind its table.
-#[derive(Debug, Drop)]
+#[derive(Drop)]
 pub struct Body {
     pub listed: Listed,
     pub condition: Option<Expr>,

@@ -27,7 +27,7 @@ pub struct Token {
 }
 
 /// A word that is no name, in any case of its letters.
-#[derive(Clone, Copy, Debug, PartialEq, Eq)]
+#[derive(Clone, Copy, PartialEq, Eq)]
 pub enum Keyword {
     Select,
     From,
@@ -47,7 +47,7 @@ pub enum Keyword {
 }
 
 /// A mark.
-#[derive(Clone, Copy, Debug, PartialEq, Eq)]
+#[derive(Clone, Copy, PartialEq, Eq)]
 pub enum Mark {
     Open,
     Close,
@@ -130,7 +130,7 @@ impl Keyword {
 }
 
 /// What a token says.
-#[derive(Debug, Drop)]
+#[derive(Drop)]
 pub enum Word {
     Keyword(Keyword),
     /// An unquoted word that is no keyword, as it is written.
@@ -145,7 +145,7 @@ pub enum Word {
 }
 
 /// A word, from the byte `from` of the source up to the byte `upto`.
-#[derive(Debug, Drop)]
+#[derive(Drop)]
 pub struct Lexeme {
     /// What it says.
     pub word: Word,

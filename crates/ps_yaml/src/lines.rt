@@ -9,7 +9,7 @@ use std::alloc::Global;
 use std::marker::Model;
 
 /// What a line is outside of block scalars.
-#[derive(Clone, Copy, Debug, PartialEq, Eq)]
+#[derive(Clone, Copy, PartialEq, Eq)]
 pub(crate) enum Kind {
     /// Spaces and tabs alone.
     Blank,
@@ -22,7 +22,7 @@ pub(crate) enum Kind {
 }
 
 /// A line of a document, without its end. It owns its bytes, so that a list of lines has no lifetime.
-#[derive(Debug, Drop)]
+#[derive(Drop)]
 pub(crate) struct Line {
     number: u32,
     indent: usize,

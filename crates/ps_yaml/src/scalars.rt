@@ -323,7 +323,7 @@ fn double_scalar<'l>(
 }
 
 /// How a block scalar joins its lines, and whether a line feed ends it.
-#[derive(Clone, Copy, Debug)]
+#[derive(Clone, Copy)]
 struct Style {
     joint: u8,
     ends: bool,
