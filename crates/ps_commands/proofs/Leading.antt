@@ -1,7 +1,7 @@
 -- Where a turn leads a client, over the readings of a whole history.
 use Rattle.std.proofs.Common.{◌≡◌, ℕ, None, List, [], refl, ap, subst, length, arith}
 use Rattle.ps_queries.specs.Meaning.{Asker}
-use Rattle.ps_grant.specs.Latest.{due}
+use Rattle.ps_granted.specs.Latest.{due}
 use Rattle.ps_client.specs.Clients.{PlainClient}
 use Rattle.ps_store.specs.declared.events.Event.{Event}
 use Rattle.ps_store.specs.declared.fixed.Fixed.{Fixed}

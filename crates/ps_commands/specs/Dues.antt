@@ -3,8 +3,8 @@ use Rattle.std.specs.Prelude.{◌≡◌, ℕ, ◌<◌, ◌≤◌, nat_lt, if◌t
 use Rattle.ps_rows.specs.declared.changes.Transaction.{Transaction}
 use Rattle.ps_rows.specs.declared.shown.Shown.{Shown}
 use Rattle.ps_rows.specs.Source.{source_at}
-use Rattle.ps_grant.specs.Latest.{due as due_by}
-use Rattle.ps_grant.specs.Sources.{rows_in}
+use Rattle.ps_granted.specs.Latest.{due as due_by}
+use Rattle.ps_granted.specs.Sources.{rows_in}
 use Rattle.ps_params.specs.Names.{bucket_names}
 use Rattle.ps_definitions.specs.RuleSets.{RuleSet}
 use Rattle.ps_queries.specs.Meaning.{Asker}

@@ -2,7 +2,7 @@
 use Rattle.std.specs.Prelude.{◌≡◌, ◌≤◌, List, length, Result, Ok, Err}
 use Rattle.ps_rows.specs.declared.shown.Shown.{Shown}
 use Rattle.ps_queries.specs.Meaning.{Asker}
-use Rattle.ps_grant.specs.Latest.{due}
+use Rattle.ps_granted.specs.Latest.{due}
 use Rattle.ps_store.specs.declared.events.Event.{Event}
 use Rattle.ps_store.specs.declared.fixed.Fixed.{Fixed}
 use Rattle.ps_store.specs.declared.readings.TakeFault.{TakeFault}

@@ -8,8 +8,8 @@ use Rattle.ps_queries.specs.declared.queries.ParameterQuery.{ParameterQuery}
 use Rattle.ps_queries.specs.Meaning.{Asker}
 use Rattle.ps_queries.specs.Vectors.{SourceRow, vector_on, at_row}
 use Rattle.ps_definitions.specs.Vectors.{rows_read, query_vectors, vector_at}
-use Rattle.ps_grant.specs.declared.live_rows.LiveRow.{LiveRow}
-use Rattle.ps_grant.specs.Sources.{entry_of, entries_of, row_of, rows_in}
+use Rattle.ps_granted.specs.declared.live_rows.LiveRow.{LiveRow}
+use Rattle.ps_granted.specs.Sources.{entry_of, entries_of, row_of, rows_in}
 use Rattle.ps_grant.proofs.StepLaws.{next_is}
 
 module _ (names : List (List ℕ)) (asker : Asker) (query : ParameterQuery) where

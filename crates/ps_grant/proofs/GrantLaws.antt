@@ -15,9 +15,9 @@ use Rattle.ps_definitions.specs.Names.{has_repeated}
 use Rattle.ps_definitions.specs.RuleSets.{IsSound, IsSoundParameter}
 use Rattle.ps_queries.specs.Vectors.{SourceRow, output_value, asked_of, vector_values, vector_on}
 use Rattle.ps_definitions.specs.Vectors.{rows_read, query_vectors, parameter_vectors}
-use Rattle.ps_grant.specs.Grants.{given_for, grant_of, granted_by_query, copy_of}
+use Rattle.ps_granted.specs.Grants.{given_for, grant_of, granted_by_query, copy_of}
 use Rattle.ps_grant.specs.Solving.{HaveSame, AreAsLong}
-use Rattle.ps_grant.specs.Sources.{row_of}
+use Rattle.ps_granted.specs.Sources.{row_of}
 use Rattle.ps_grant.proofs.GainLaws.{any_append}
 
 -- ---- names

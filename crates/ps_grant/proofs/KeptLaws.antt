@@ -10,9 +10,9 @@ use Rattle.ps_rows.specs.declared.changes.Transaction.{Transaction}
 use Rattle.ps_rows.specs.Source.{Key, key_cmp, Source, after_row, after_changes, after_transactions, source_at}
 use Rattle.ps_rows.specs.Keys.{keys_total}
 use Rattle.ps_grant.specs.declared.sourcing.Version.{Version as Held}
-use Rattle.ps_grant.specs.declared.copies.Granted.{Granted}
+use Rattle.ps_granted.specs.declared.copies.Granted.{Granted}
 use Rattle.ps_grant.specs.Mapped.{version_of}
-use Rattle.ps_grant.specs.Latest.{object_of, is_superseded, kept, latest_after}
+use Rattle.ps_granted.specs.Latest.{object_of, is_superseded, kept, latest_after}
 use Rattle.ps_grant.proofs.EntryLaws.{inserted, removed, put_is}
 use Rattle.ps_grant.proofs.StepLaws.{next_is, filter_taken, filter_passed}
 

@@ -5,7 +5,6 @@ pub mod ExtendLaws
 pub mod GainLaws
 pub mod GrantLaws
 pub mod KeptLaws
-pub mod LatestCopies
 pub mod SolveLaws
 pub mod StepLaws
 pub mod VectorLaws

@@ -5,11 +5,11 @@ ghost use Rattle.ps_queries.specs.Vectors.{SourceRow, vector_on as vectors_on, a
 ghost use Rattle.ps_definitions.specs.Vectors.{query_vectors, parameter_vectors};
 ghost use Rattle.ps_sql_eval.specs.Evaluated.{asker_of};
 ghost use Rattle.ps_grant.specs.Solving.{HaveSame, Gains};
-ghost use Rattle.ps_grant.specs.Sources.{entries_of, rows_in};
+ghost use Rattle.ps_granted.specs.Sources.{entries_of, rows_in};
 
-use crate::LiveRow;
 use crate::vectors::VectorSet;
 use ps_definitions::Definition;
+use ps_granted::LiveRow;
 use ps_queries::ParameterQuery;
 use ps_rows::Row;
 use ps_sql_eval::{Asker, vector_on};

@@ -8,7 +8,7 @@ ghost use Rattle.ps_definitions.specs.Meeting.{meets, meets_some};
 ghost use Rattle.ps_definitions.specs.Names.{has_repeated};
 ghost use Rattle.ps_definitions.specs.RuleSets.{IsSoundQuery};
 ghost use Rattle.ps_sql_eval.specs.Evaluated.{asker_of, without_bucket};
-ghost use Rattle.ps_grant.specs.Grants.{given_for, holds_for_some};
+ghost use Rattle.ps_granted.specs.Grants.{given_for, holds_for_some};
 ghost use Rattle.ps_grant.specs.Solving.{all_allow, is_same, AreAsLong, IsUnbound};
 ghost use Rattle.ps_queries.specs.Vectors.{at_row};
 

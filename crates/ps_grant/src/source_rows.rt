@@ -1,7 +1,7 @@
 ghost use Rattle.std.specs.Prelude.{◌≡◌};
-ghost use Rattle.ps_grant.specs.Sources.{entries_of};
+ghost use Rattle.ps_granted.specs.Sources.{entries_of};
 
-use crate::LiveRow;
+use ps_granted::LiveRow;
 use ps_values::Items;
 use std::marker::Model;
 
@@ -13,7 +13,7 @@ pub struct SourceRows {
 
 impl Model for SourceRows {
     ghost use Rattle.ps_rows.specs.Source.{Source as SeenSource};
-    ghost use Rattle.ps_grant.specs.Sources.{entries_of as seen_entries};
+    ghost use Rattle.ps_granted.specs.Sources.{entries_of as seen_entries};
 
     ghost Value = { SeenSource };
 

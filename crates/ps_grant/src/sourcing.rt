@@ -4,10 +4,11 @@ ghost use Rattle.std.specs.Prelude.{◌≡◌, IfOk, OnOk, not};
 ghost use Rattle.std.specs.FinMap.Entries.{put, where_key};
 ghost use Rattle.std.specs.Ordering.{eq_by_cmp};
 ghost use Rattle.ps_rows.specs.Source.{key_cmp, source_at as source_at_position, after_row, after_changes};
-ghost use Rattle.ps_grant.specs.Sources.{entries_of};
+ghost use Rattle.ps_granted.specs.Sources.{entries_of};
 ghost use Rattle.ps_grant.specs.Mapped.{kept_rows, version_of};
 
-use crate::{LiveRow, SourceRows};
+use crate::SourceRows;
+use ps_granted::LiveRow;
 use ps_rows::{Change, Row, Transaction};
 use ps_values::{Items, Memory, Position, Text};
 use std::alloc::Global;

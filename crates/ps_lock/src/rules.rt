@@ -1,8 +1,8 @@
 // The rule of a lock's table. Word 0 is the length of the history, word 1 the next ticket, and word 2 the ticket that is served. The one slot
 // holds the value, or None while a turn has it.
-use crate::values::Kept;
 use crate::views::View;
 use atomic_table::TableRule;
+use ps_kept::Kept;
 use std::marker::PhantomData;
 use std::snapshot::Snapshot;
 

@@ -5,9 +5,9 @@ ghost use Rattle.ps_lock.specs.Moves.{rested};
 ghost use Rattle.ps_lock.specs.Rule.{is_learnt, is_out};
 
 use crate::rules::OneHistory;
-use crate::values::Kept;
 use crate::views::View;
 use atomic_table::Table;
+use ps_kept::Kept;
 use std::alloc::Global;
 use std::snapshot::Snapshot;
 

@@ -34,9 +34,9 @@ use Rattle.ps_definitions.specs.Checks.{names_of}
 use Rattle.ps_definitions.specs.RuleSets.{RuleSet, AreRules, IsSound, IsSoundQuery}
 use Rattle.ps_queries.specs.Vectors.{SourceRow, asked_of, vector_values, vector_on}
 use Rattle.ps_definitions.specs.Vectors.{rows_read, query_vectors, parameter_vectors}
-use Rattle.ps_grant.specs.declared.copies.Granted.{Granted}
-use Rattle.ps_grant.specs.Sources.{row_of as read_row, rows_in}
-use Rattle.ps_grant.specs.Grants.{given_for, holds_for_some, is_granted, copy_with, copy_of, grant_of, granted_by_query, granted_by, granted}
+use Rattle.ps_granted.specs.declared.copies.Granted.{Granted}
+use Rattle.ps_granted.specs.Sources.{row_of as read_row, rows_in}
+use Rattle.ps_granted.specs.Grants.{given_for, holds_for_some, is_granted, copy_with, copy_of, grant_of, granted_by_query, granted_by, granted}
 use Rattle.ps_bucket_eval.specs.declared.placed.Placed.{Placed}
 use Rattle.ps_definitions.specs.Buckets.{bucket_name_of, in_order}
 use Rattle.ps_queries.specs.Objects.{value_named, object_id, output_column, shown_columns, content_of}

@@ -23,7 +23,7 @@ use Rattle.ps_definitions.specs.declared.definitions.Definition.{Definition}
 use Rattle.ps_definitions.specs.RuleSets.{RuleSet, AreRules, IsSound as IsSoundDefinition}
 use Rattle.ps_queries.specs.Vectors.{SourceRow}
 use Rattle.ps_definitions.specs.Vectors.{parameter_vectors}
-use Rattle.ps_grant.specs.Sources.{rows_in}
+use Rattle.ps_granted.specs.Sources.{rows_in}
 use Rattle.ps_definitions.specs.Buckets.{bucket_name_of}
 use Rattle.ps_params.specs.Names.{definition_names, bucket_names, IsTold, AreTold}
 use Rattle.ps_store.specs.declared.events.Event.{Event}

@@ -11,10 +11,10 @@ use Rattle.ps_client_log.specs.Rows.{HeldCopy, content_of, row_at}
 use Rattle.ps_client_log.specs.Rows as held_rows
 use Rattle.ps_queries.specs.Meaning.{Asker}
 use Rattle.ps_definitions.specs.declared.definitions.Definition.{Definition}
-use Rattle.ps_grant.specs.declared.copies.Granted.{Granted}
-use Rattle.ps_grant.specs.Grants.{granted}
-use Rattle.ps_grant.specs.Latest.{object_of, is_later, shown_of, IsLatest, row_object, by_object, AreLatest}
-use Rattle.ps_grant.specs.Sources.{rows_in}
+use Rattle.ps_granted.specs.declared.copies.Granted.{Granted}
+use Rattle.ps_granted.specs.Grants.{granted}
+use Rattle.ps_granted.specs.Latest.{object_of, is_later, shown_of, IsLatest, row_object, by_object, AreLatest}
+use Rattle.ps_granted.specs.Sources.{rows_in}
 use Rattle.ps_bucket_eval.specs.declared.placed.Placed.{Placed}
 use Rattle.ps_store.specs.Standing.{Holding, Standing, IsPutOf, is_before, HoldsStanding, IsCopyOf}
 use Rattle.ps_store.specs.Steps.{in_lane}

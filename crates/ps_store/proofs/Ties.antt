@@ -10,11 +10,11 @@ use Rattle.ps_definitions.specs.declared.queries.Planned.{Planned}
 use Rattle.ps_definitions.specs.RuleSets.{RuleSet, AreRules}
 use Rattle.ps_queries.specs.Vectors.{asked_of}
 use Rattle.ps_definitions.specs.Vectors.{parameter_vectors}
-use Rattle.ps_grant.specs.declared.copies.Granted.{Granted}
-use Rattle.ps_grant.specs.Grants.{is_granted, copy_with, copy_of, grant_of, granted_by_query, granted_by, granted}
-use Rattle.ps_grant.specs.Latest.{object_of, TiesAgree}
+use Rattle.ps_granted.specs.declared.copies.Granted.{Granted}
+use Rattle.ps_granted.specs.Grants.{is_granted, copy_with, copy_of, grant_of, granted_by_query, granted_by, granted}
+use Rattle.ps_granted.specs.Latest.{object_of, TiesAgree}
 use Rattle.ps_queries.specs.Objects.{object_id, content_of}
-use Rattle.ps_grant.specs.Sources.{row_of, rows_in}
+use Rattle.ps_granted.specs.Sources.{row_of, rows_in}
 use Rattle.ps_store.proofs.Members.{Has, from_flat, contains_has}
 use Rattle.ps_store.proofs.Queries.{same_place}
 use Rattle.ps_store.proofs.OneMoment.{HaveOneMoment, neither_later}

@@ -15,8 +15,8 @@ use Rattle.ps_definitions.specs.declared.definitions.Definition.{Definition}
 use Rattle.ps_definitions.specs.declared.queries.Planned.{Planned}
 use Rattle.ps_queries.specs.Vectors.{SourceRow}
 use Rattle.ps_definitions.specs.Vectors.{parameter_vectors}
-use Rattle.ps_grant.specs.Latest.{due}
-use Rattle.ps_grant.specs.Sources.{rows_in}
+use Rattle.ps_granted.specs.Latest.{due}
+use Rattle.ps_granted.specs.Sources.{rows_in}
 use Rattle.ps_definitions.specs.Buckets.{bucket_name_of}
 use Rattle.ps_definitions.specs.Laws.{IsSqlValue}
 use Rattle.ps_store.specs.Originals.{original, in_bucket}

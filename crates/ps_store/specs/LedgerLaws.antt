@@ -8,8 +8,8 @@ use Rattle.ps_rows.specs.declared.shown.Shown.{Shown}
 use Rattle.ps_rows.specs.Source.{Source, source_at}
 use Rattle.ps_queries.specs.Meaning.{Asker}
 use Rattle.ps_definitions.specs.RuleSets.{RuleSet, AreRules}
-use Rattle.ps_grant.specs.Latest.{due}
-use Rattle.ps_grant.specs.Sources.{rows_in}
+use Rattle.ps_granted.specs.Latest.{due}
+use Rattle.ps_granted.specs.Sources.{rows_in}
 use Rattle.ps_store.specs.declared.events.Event.{Event}
 use Rattle.ps_store.specs.declared.events.Event.TheVariants.{Feed, Close, Write, Commit, Compact, WriteCheckpoint}
 use Rattle.ps_store.specs.Originals.{timed, original, in_bucket}

@@ -25,4 +25,3 @@ pub mod TotalsLaws
 pub mod LogLaws
 pub mod Courses
 pub mod CourseLaws
-pub mod Sharing

@@ -8,9 +8,9 @@ use Rattle.ps_queries.specs.Meaning.{Asker}
 use Rattle.ps_definitions.specs.RuleSets.{RuleSet, AreRules}
 use Rattle.ps_definitions.specs.declared.definitions.Definition.{Definition}
 use Rattle.ps_queries.specs.Vectors.{SourceRow}
-use Rattle.ps_grant.specs.Grants.{granted}
-use Rattle.ps_grant.specs.Latest.{rows_of}
-use Rattle.ps_grant.specs.Sources.{rows_in}
+use Rattle.ps_granted.specs.Grants.{granted}
+use Rattle.ps_granted.specs.Latest.{rows_of}
+use Rattle.ps_granted.specs.Sources.{rows_in}
 use Rattle.ps_store.specs.Originals.{timed}
 use Rattle.ps_store.specs.Standing.{Holding, HoldsStanding}
 use Rattle.ps_store.specs.Steps.{Step, lane_ops, source_after, StepsRise, steps_upto, changes_of, held_of, in_lane}

@@ -17,7 +17,7 @@ use ps_bucket_log::{
 };
 use ps_compact::compacted_logs_stand;
 use ps_definitions::names_are_distinct;
-use ps_grant::latest_rows_are_unique;
+use ps_granted::latest_rows_are_unique;
 use ps_queries::same_for_every_asker;
 use ps_write_cp::{covered_is_the_greatest, covers_all_before};
 

@@ -7,7 +7,7 @@ use Rattle.ps_rows.specs.declared.changes.Transaction.{Transaction}
 use Rattle.ps_lock.specs.declared.tables.Seat.{Seat}
 use Rattle.ps_lock.specs.declared.tables.StoreLock.{StoreLock}
 use Rattle.ps_lock.specs.declared.tables.Turn.{Turn}
-use Rattle.ps_lock.specs.declared.values.Kept.{Ghosts}
+use Rattle.ps_kept.specs.declared.values.Kept.{Ghosts}
 use Rattle.ps_lock.specs.Words.{seen_by, own_entries_of, own_entries_in, history_of, value_of}
 use Rattle.ps_store.specs.declared.events.Event.{Event}
 use Rattle.ps_store.specs.declared.faults.FeedFault.{FeedFault}
@@ -16,7 +16,7 @@ use Rattle.ps_store.specs.declared.fixed.Fixed.{Fixed}
 use Rattle.ps_store.specs.declared.stores.Store.{Store}
 use Rattle.ps_write_cp.specs.declared.faults.NumberFault.{NumberFault}
 use Rattle.ps_write_cp.specs.declared.faults.NumberFault.TheVariants as numbering
-use Rattle.ps_store.specs.Sharing.{fixed_of}
+use Rattle.ps_workers.specs.Sharing.{fixed_of}
 use Rattle.ps_store.specs.Stores.{StoreStandsFor, Feeds, Uploads, MakesNumber}
 use Rattle.ps_workers.specs.Gains.{LooksAt, AddsTo, FeedsIn, UploadsIn, NumbersIn}
 

@@ -4,7 +4,7 @@ use mathlib.Core.List.{IsPrefix}
 use Rattle.ps_values.specs.declared.ids.Position.{Position}
 use Rattle.ps_rows.specs.declared.changes.Change.{Change}
 use Rattle.ps_rows.specs.declared.changes.Transaction.{Transaction}
-use Rattle.ps_lock.specs.declared.values.Kept.{Ghosts}
+use Rattle.ps_kept.specs.declared.values.Kept.{Ghosts}
 use Rattle.ps_lock.specs.declared.tables.Seat.{Seat}
 use Rattle.ps_lock.specs.Words.{seen_by, own_entries_of}
 use Rattle.ps_store.specs.declared.events.Event.{Event}

@@ -3,7 +3,7 @@
 ghost use Rattle.std.specs.Prelude.{◌≡◌, [], IfOk};
 ghost use Rattle.ps_lock.specs.Words.{IsSeatOf, seen_by, own_entries_of};
 ghost use Rattle.ps_store.specs.Limits.{AreWithin};
-ghost use Rattle.ps_store.specs.Sharing.{fixed_of};
+ghost use Rattle.ps_workers.specs.Sharing.{fixed_of};
 
 use ps_definitions::Rules;
 use ps_lock::{Seat, StoreLock, open_lock};

@@ -5,7 +5,7 @@ ghost use Rattle.ps_rows.specs.declared.changes.Change.{Change as ChangeSeen};
 ghost use Rattle.ps_lock.specs.Words.{IsSeatOf};
 ghost use Rattle.ps_store.specs.declared.events.Event.{Event as EventSeen};
 ghost use Rattle.ps_store.specs.declared.events.Event.TheVariants.{WriteCheckpoint};
-ghost use Rattle.ps_store.specs.Sharing.{fixed_of};
+ghost use Rattle.ps_workers.specs.Sharing.{fixed_of};
 ghost use Rattle.ps_workers.specs.Gains.{UploadsIn, NumbersIn};
 
 use ps_lock::{Seat, StoreLock};

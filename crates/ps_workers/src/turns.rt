@@ -5,7 +5,7 @@ ghost use Rattle.ps_lock.specs.Words.{IsSeatOf};
 ghost use Rattle.ps_store.specs.declared.events.Event.{Event as EventSeen};
 ghost use Rattle.ps_store.specs.declared.events.Event.TheVariants.{Close};
 ghost use Rattle.ps_store.specs.Limits.{greatest};
-ghost use Rattle.ps_store.specs.Sharing.{fixed_of};
+ghost use Rattle.ps_workers.specs.Sharing.{fixed_of};
 ghost use Rattle.ps_workers.specs.Gains.{AddsTo, FeedsIn, WritesIn, CommitsIn};
 
 use ps_lock::{Seat, StoreLock};

@@ -3,7 +3,7 @@ use Rattle.std.specs.Prelude.{bytes_eq}
 use Rattle.ps_values.specs.declared.values.Value.{Value}
 use Rattle.ps_queries.specs.Vectors.{SourceRow, vector_on}
 use Rattle.ps_sql_eval.specs.Evaluated.{asker_of}
-use Rattle.ps_grant.specs.Sources.{entries_of, entry_of, row_of, rows_in}
+use Rattle.ps_granted.specs.Sources.{entries_of, entry_of, row_of, rows_in}
 use Rattle.ps_grant.proofs.AskLaws.{row_taken}
 use Rattle.ps_grant.proofs.GainLaws.{gain_step}
 use Rattle.ps_grant.proofs.asking.add_from.Goals as goal

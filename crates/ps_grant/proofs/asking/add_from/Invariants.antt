@@ -4,7 +4,7 @@ use Rattle.std.specs.List.{list_any}
 use Rattle.ps_values.specs.declared.values.Value.{Value}
 use Rattle.ps_queries.specs.Vectors.{SourceRow, vector_on}
 use Rattle.ps_sql_eval.specs.Evaluated.{asker_of}
-use Rattle.ps_grant.specs.Sources.{entries_of, rows_in}
+use Rattle.ps_granted.specs.Sources.{entries_of, rows_in}
 use Rattle.ps_grant.proofs.asking.add_from.Given as goal
 
 -- the vectors so far, and those on the rows that are left

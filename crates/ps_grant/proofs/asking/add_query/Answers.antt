@@ -2,7 +2,7 @@ use Rattle.std.proofs.Common.{List, ◌∙◌, subst}
 use Rattle.std.specs.Prelude.{OnOk}
 use Rattle.ps_values.specs.declared.values.Value.{Value}
 use Rattle.ps_sql_eval.specs.Evaluated.{asker_of}
-use Rattle.ps_grant.specs.Sources.{entries_of, rows_in}
+use Rattle.ps_granted.specs.Sources.{entries_of, rows_in}
 use Rattle.ps_grant.specs.Solving.{Gains}
 use Rattle.ps_grant.proofs.AskLaws.{vector_alone}
 use Rattle.ps_grant.proofs.asking.add_query.Goals as goal

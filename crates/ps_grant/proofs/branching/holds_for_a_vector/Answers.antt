@@ -3,7 +3,7 @@ use Rattle.std.specs.Prelude.{IfOk}
 use Rattle.ps_values.specs.declared.values.Value.{Value}
 use Rattle.ps_queries.specs.Meaning.{Given}
 use Rattle.ps_sql_eval.specs.Evaluated.{asker_of}
-use Rattle.ps_grant.specs.Grants.{given_for}
+use Rattle.ps_granted.specs.Grants.{given_for}
 use Rattle.ps_queries.specs.Vectors.{at_row}
 use Rattle.ps_grant.proofs.BranchLaws.{unbound, condition_by_branches}
 use Rattle.ps_grant.proofs.branching.holds_for_a_vector.Goals as goal

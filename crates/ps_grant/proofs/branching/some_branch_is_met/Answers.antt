@@ -6,7 +6,7 @@ use Rattle.ps_queries.specs.Meaning.{Given}
 use Rattle.ps_sql_eval.specs.Evaluated.{asker_of}
 use Rattle.ps_definitions.specs.declared.branches.Branch.{Branch}
 use Rattle.ps_definitions.specs.Meeting.{meets_some}
-use Rattle.ps_grant.specs.Grants.{given_for}
+use Rattle.ps_granted.specs.Grants.{given_for}
 use Rattle.ps_grant.specs.Solving.{IsUnbound}
 use Rattle.ps_queries.specs.Vectors.{at_row}
 use Rattle.ps_grant.proofs.BranchLaws.{some_branch, none_of}

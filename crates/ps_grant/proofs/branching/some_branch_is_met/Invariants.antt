@@ -3,7 +3,7 @@ use Rattle.std.specs.List.{list_any, AllByRecursion}
 use Rattle.ps_values.specs.declared.values.Value.{Value}
 use Rattle.ps_definitions.specs.Meeting.{meets_some}
 use Rattle.ps_sql_eval.specs.Evaluated.{asker_of}
-use Rattle.ps_grant.specs.Grants.{given_for}
+use Rattle.ps_granted.specs.Grants.{given_for}
 use Rattle.ps_grant.specs.Solving.{IsUnbound}
 use Rattle.ps_queries.specs.Vectors.{at_row}
 use Rattle.ps_grant.proofs.branching.some_branch_is_met.Given as goal

@@ -8,10 +8,10 @@ use Rattle.ps_definitions.specs.declared.queries.Planned.{Planned}
 use Rattle.ps_definitions.specs.Names.{has_repeated}
 use Rattle.ps_definitions.specs.RuleSets.{IsSoundQuery}
 use Rattle.ps_definitions.specs.Vectors.{parameter_vectors}
-use Rattle.ps_grant.specs.declared.copies.Granted.{Granted}
-use Rattle.ps_grant.specs.Grants.{granted_by_query}
+use Rattle.ps_granted.specs.declared.copies.Granted.{Granted}
+use Rattle.ps_granted.specs.Grants.{granted_by_query}
 use Rattle.ps_grant.specs.Solving.{AreAsLong}
-use Rattle.ps_grant.specs.Sources.{entries_of, rows_in}
+use Rattle.ps_granted.specs.Sources.{entries_of, rows_in}
 use Rattle.ps_grant.proofs.GrantLaws.{differing, long, queries_same}
 use Rattle.ps_grant.proofs.granting.grant_definition.Goals as goal
 

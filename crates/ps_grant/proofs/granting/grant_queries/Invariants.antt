@@ -2,8 +2,8 @@ use Rattle.std.proofs.Common.{◌≡◌, ◌++◌, flat_map, drop}
 use Rattle.std.specs.List.{AllByRecursion}
 use Rattle.ps_definitions.specs.RuleSets.{IsSoundQuery}
 use Rattle.ps_sql_eval.specs.Evaluated.{asker_of}
-use Rattle.ps_grant.specs.Grants.{granted_by_query}
-use Rattle.ps_grant.specs.Sources.{entries_of}
+use Rattle.ps_granted.specs.Grants.{granted_by_query}
+use Rattle.ps_granted.specs.Sources.{entries_of}
 use Rattle.ps_grant.proofs.granting.grant_queries.Given as goal
 
 -- the copies so far, and then those of the queries that are left

@@ -1,7 +1,7 @@
 use Rattle.std.proofs.Common.{◌≡◌, ◌++◌, filter_map, drop}
 use Rattle.ps_sql_eval.specs.Evaluated.{asker_of}
-use Rattle.ps_grant.specs.Grants.{grant_of}
-use Rattle.ps_grant.specs.Sources.{entries_of}
+use Rattle.ps_granted.specs.Grants.{grant_of}
+use Rattle.ps_granted.specs.Sources.{entries_of}
 use Rattle.ps_grant.proofs.granting.grant_query.Given as goal
 
 -- the copies so far, and then those of the rows that are left

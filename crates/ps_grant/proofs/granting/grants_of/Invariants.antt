@@ -2,7 +2,7 @@ use Rattle.std.proofs.Common.{◌≡◌, ◌++◌, flat_map, drop}
 use Rattle.std.specs.List.{AllByRecursion}
 use Rattle.ps_definitions.specs.RuleSets.{IsSound}
 use Rattle.ps_sql_eval.specs.Evaluated.{asker_of}
-use Rattle.ps_grant.specs.Grants.{granted, granted_by}
+use Rattle.ps_granted.specs.Grants.{granted, granted_by}
 use Rattle.ps_grant.proofs.granting.grants_of.Given as goal
 
 -- the copies so far, and then those of the definitions that are left

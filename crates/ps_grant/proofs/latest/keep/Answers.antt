@@ -1,7 +1,7 @@
 use Rattle.std.proofs.Common.{sym, ap, ◌∙◌}
 use Rattle.std.specs.BTreeMap.{insert_entry}
 use Rattle.ps_rows.specs.Source.{Key, key_cmp}
-use Rattle.ps_grant.specs.declared.copies.Granted.{Granted}
+use Rattle.ps_granted.specs.declared.copies.Granted.{Granted}
 use Rattle.ps_grant.proofs.KeptLaws.{kept_put, kept_as_is}
 use Rattle.ps_grant.proofs.latest.keep.Goals as goal
 

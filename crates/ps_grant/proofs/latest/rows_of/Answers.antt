@@ -1,8 +1,8 @@
 use Rattle.std.proofs.Common.{List, map, sym, ap, subst, ◌∙◌}
 use Rattle.std.proofs.lemmas.Result.{IfOk-weaker}
-use Rattle.ps_grant.specs.declared.copies.Granted.{Granted}
-use Rattle.ps_grant.specs.Latest.{latest_after, shown_of, AreLatest}
-use Rattle.ps_grant.proofs.LatestCopies.{rows_are_latest}
+use Rattle.ps_granted.specs.declared.copies.Granted.{Granted}
+use Rattle.ps_granted.specs.Latest.{latest_after, shown_of, AreLatest}
+use Rattle.ps_granted.proofs.LatestCopies.{rows_are_latest}
 use Rattle.ps_grant.proofs.StepLaws.{nothing_left}
 use Rattle.ps_grant.proofs.latest.rows_of.Goals as goal
 

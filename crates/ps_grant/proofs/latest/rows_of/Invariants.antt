@@ -1,5 +1,5 @@
 use Rattle.std.proofs.Common.{◌≡◌, [], drop}
-use Rattle.ps_grant.specs.Latest.{latest_after}
+use Rattle.ps_granted.specs.Latest.{latest_after}
 use Rattle.ps_grant.proofs.latest.rows_of.Given as goal
 
 -- the copies that are left, after what is kept

@@ -1,5 +1,5 @@
 use Rattle.std.proofs.Common.{◌≡◌, ◌++◌, map}
-use Rattle.ps_grant.specs.Latest.{shown_of}
+use Rattle.ps_granted.specs.Latest.{shown_of}
 use Rattle.ps_grant.proofs.latest.shown.Given as goal
 
 -- the rows so far, and then those that are left

@@ -1,5 +1,5 @@
 use Rattle.std.proofs.Common.{◌≡◌, ◌++◌, map}
-use Rattle.ps_grant.specs.Sources.{entries_of}
+use Rattle.ps_granted.specs.Sources.{entries_of}
 use Rattle.ps_grant.specs.Mapped.{kept_rows, version_of}
 use Rattle.ps_grant.proofs.sourcing.in_order.Given as goal
 

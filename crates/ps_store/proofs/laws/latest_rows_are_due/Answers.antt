@@ -1,9 +1,9 @@
 use Rattle.std.proofs.Common.{List, [], sym, ap, ◌∙◌, subst}
 use Rattle.ps_rows.specs.Source.{Source}
 use Rattle.ps_client_log.specs.Kept.{bucket_at}
-use Rattle.ps_grant.specs.Grants.{granted}
-use Rattle.ps_grant.specs.Latest.{rows_of}
-use Rattle.ps_grant.specs.Sources.{rows_in}
+use Rattle.ps_granted.specs.Grants.{granted}
+use Rattle.ps_granted.specs.Latest.{rows_of}
+use Rattle.ps_granted.specs.Sources.{rows_in}
 use Rattle.ps_store.specs.Originals.{Entered, original, ops_from, timed}
 use Rattle.ps_store.specs.Standing.{Holding}
 use Rattle.ps_store.specs.Steps.{source_after, held_of}

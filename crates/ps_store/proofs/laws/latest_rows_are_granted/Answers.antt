@@ -2,7 +2,7 @@ use Rattle.std.proofs.Common.{◌≡◌, [], Some, sym, ap, ◌∙◌}
 use Rattle.std.proofs.lemmas.Option.{same_Some}
 use Rattle.std.specs.FinMap.Entries.{find}
 use Rattle.ps_rows.specs.Source.{Key, key_cmp, Version, Source}
-use Rattle.ps_grant.specs.Grants.{granted}
+use Rattle.ps_granted.specs.Grants.{granted}
 use Rattle.ps_store.specs.Steps.{lane_ops, source_after, held_of}
 use Rattle.ps_store.proofs.Apart.{moments_tell_rows, in_order}
 use Rattle.ps_store.proofs.Copies.{granted_stands, stands_granted, find_there}

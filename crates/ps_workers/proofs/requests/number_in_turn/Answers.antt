@@ -2,7 +2,7 @@ use Rattle.std.proofs.Common.{◌+◌, [], ◌∷◌, ◌++◌, length, sym, ap,
 use Rattle.ps_lock.specs.Words.{history_of, own_entries_in}
 use Rattle.ps_store.specs.declared.events.Event.{Event}
 use Rattle.ps_store.specs.declared.events.Event.TheVariants.{WriteCheckpoint}
-use Rattle.ps_store.specs.Sharing.{fixed_of}
+use Rattle.ps_workers.specs.Sharing.{fixed_of}
 use Rattle.ps_store.specs.Stores.{StoreStandsFor}
 use Rattle.ps_workers.proofs.Turning.{lent, under, looks, adds, refused_number, number_stands}
 use Rattle.ps_workers.proofs.requests.number_in_turn.Goals as goal

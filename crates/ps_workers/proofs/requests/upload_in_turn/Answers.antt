@@ -2,7 +2,7 @@ use Rattle.std.proofs.Common.{◌+◌, List, [], ◌∷◌, ◌++◌, length, sy
 use Rattle.ps_rows.specs.declared.changes.Change.{Change}
 use Rattle.ps_lock.specs.Words.{history_of, own_entries_in}
 use Rattle.ps_store.specs.declared.events.Event.TheVariants.{Feed}
-use Rattle.ps_store.specs.Sharing.{fixed_of}
+use Rattle.ps_workers.specs.Sharing.{fixed_of}
 use Rattle.ps_store.specs.Stores.{StoreStandsFor}
 use Rattle.ps_workers.proofs.Turning.{lent, under, looks, adds, refused_upload, upload_stands}
 use Rattle.ps_workers.proofs.requests.upload_in_turn.Goals as goal

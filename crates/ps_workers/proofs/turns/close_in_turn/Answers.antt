@@ -1,6 +1,6 @@
 use Rattle.ps_lock.specs.Words.{history_of}
 use Rattle.ps_store.specs.declared.events.Event.TheVariants.{Close}
-use Rattle.ps_store.specs.Sharing.{fixed_of}
+use Rattle.ps_workers.specs.Sharing.{fixed_of}
 use Rattle.ps_workers.proofs.Turning.{lent, under, adds}
 use Rattle.ps_workers.proofs.turns.close_in_turn.Goals as goal
 

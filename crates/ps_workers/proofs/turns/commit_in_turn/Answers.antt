@@ -1,5 +1,5 @@
 use Rattle.ps_lock.specs.Words.{history_of}
-use Rattle.ps_store.specs.Sharing.{fixed_of}
+use Rattle.ps_workers.specs.Sharing.{fixed_of}
 use Rattle.ps_workers.proofs.Turning.{lent, under, looks, adds}
 use Rattle.ps_workers.proofs.turns.commit_in_turn.Goals as goal
 

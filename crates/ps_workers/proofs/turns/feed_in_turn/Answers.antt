@@ -2,7 +2,7 @@ use Rattle.std.proofs.Common.{length, ◌+◌, ap, ◌∙◌, ◌∷◌, [], ◌
 use Rattle.ps_rows.specs.declared.changes.Transaction.{Transaction}
 use Rattle.ps_lock.specs.Words.{history_of, own_entries_in}
 use Rattle.ps_store.specs.declared.events.Event.TheVariants.{Feed}
-use Rattle.ps_store.specs.Sharing.{fixed_of}
+use Rattle.ps_workers.specs.Sharing.{fixed_of}
 use Rattle.ps_store.specs.Stores.{StoreStandsFor}
 use Rattle.ps_workers.proofs.Turning.{lent, under, looks, adds, refused_feed, refused_stands}
 use Rattle.ps_workers.proofs.turns.feed_in_turn.Goals as goal

@@ -1,7 +1,7 @@
 use Rattle.std.proofs.Common.{ℕ, [], ◌∷◌, ◌++◌, sym, subst}
 use Rattle.ps_lock.specs.Words.{history_of}
 use Rattle.ps_store.specs.declared.events.Event.TheVariants.{Write}
-use Rattle.ps_store.specs.Sharing.{fixed_of}
+use Rattle.ps_workers.specs.Sharing.{fixed_of}
 use Rattle.ps_store.specs.Stores.{StoreStandsFor}
 use Rattle.ps_workers.specs.Gains.{AddsTo}
 use Rattle.ps_workers.proofs.Turning.{lent, under, looks, adds}

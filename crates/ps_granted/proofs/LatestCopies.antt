@@ -9,8 +9,8 @@ use Rattle.std.proofs.lemmas.Option.{same_Some}
 use Rattle.ps_rows.specs.declared.shown.Shown.{Shown}
 use Rattle.ps_rows.specs.Source.{Key, key_cmp}
 use Rattle.ps_rows.specs.Keys.{keys_total, keys_exact}
-use Rattle.ps_grant.specs.declared.copies.Granted.{Granted}
-use Rattle.ps_grant.specs.Latest.{object_of, is_later, Rows, is_superseded, kept, latest_after, shown_of, rows_of, IsLatest, row_object, by_object, AreLatest, TiesAgree}
+use Rattle.ps_granted.specs.declared.copies.Granted.{Granted}
+use Rattle.ps_granted.specs.Latest.{object_of, is_later, Rows, is_superseded, kept, latest_after, shown_of, rows_of, IsLatest, row_object, by_object, AreLatest, TiesAgree}
 
 -- ---- what is in a list, by recursion
 

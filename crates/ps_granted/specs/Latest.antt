@@ -6,8 +6,8 @@ use Rattle.ps_rows.specs.declared.shown.Shown.{Shown}
 use Rattle.ps_rows.specs.Source.{Key, key_cmp, source_at}
 use Rattle.ps_queries.specs.Meaning.{Asker}
 use Rattle.ps_definitions.specs.declared.definitions.Definition.{Definition}
-use Rattle.ps_grant.specs.declared.copies.Granted.{Granted}
-use Rattle.ps_grant.specs.Grants.{granted}
+use Rattle.ps_granted.specs.declared.copies.Granted.{Granted}
+use Rattle.ps_granted.specs.Grants.{granted}
 
 -- the object that a copy is of
 abbrev pub object_of : Granted → Key

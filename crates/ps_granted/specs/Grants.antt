@@ -10,8 +10,8 @@ use Rattle.ps_definitions.specs.declared.queries.Planned.{Planned}
 use Rattle.ps_queries.specs.Objects.{object_id, content_of}
 use Rattle.ps_queries.specs.Vectors.{SourceRow, asked_of}
 use Rattle.ps_definitions.specs.Vectors.{parameter_vectors, vector_at}
-use Rattle.ps_grant.specs.declared.copies.Granted.{Granted}
-use Rattle.ps_grant.specs.Sources.{row_of, rows_in}
+use Rattle.ps_granted.specs.declared.copies.Granted.{Granted}
+use Rattle.ps_granted.specs.Sources.{row_of, rows_in}
 
 -- what a data query's condition is evaluated over: a row, and a vector of the parameters' values
 abbrev pub given_for : Asker → List (List ℕ) → SourceRow → List Value → Given

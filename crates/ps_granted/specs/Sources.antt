@@ -2,7 +2,7 @@
 use Rattle.std.specs.Prelude.{List, map}
 use Rattle.ps_rows.specs.Source.{Key, Version, Source}
 use Rattle.ps_queries.specs.Vectors.{SourceRow}
-use Rattle.ps_grant.specs.declared.live_rows.LiveRow.{LiveRow}
+use Rattle.ps_granted.specs.declared.live_rows.LiveRow.{LiveRow}
 
 -- a live row as an entry of the source: its table and id, and how its last change left it
 abbrev pub entry_of : LiveRow → Key × Version

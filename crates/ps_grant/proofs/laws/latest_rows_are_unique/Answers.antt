@@ -1,6 +1,0 @@
-use Rattle.ps_grant.specs.Latest.{rows_of}
-use Rattle.ps_grant.proofs.LatestCopies.{rows_are_latest, rows_are_one}
-use Rattle.ps_grant.proofs.laws.latest_rows_are_unique.Goals as goal
-
-pub returns : goal.returns
-returns c copies rows ties are = rows_are_one copies ties rows (rows_of copies) are (rows_are_latest copies)

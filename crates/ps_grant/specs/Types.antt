@@ -1,3 +1,0 @@
--- The types of this crate, for the definitions of the crates above.
-pub use Rattle.ps_grant.specs.declared.copies.Granted.{Granted}
-pub use Rattle.ps_grant.specs.declared.live_rows.LiveRow.{LiveRow}

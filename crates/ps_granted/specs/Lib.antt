@@ -1,0 +1,5 @@
+pub mod Grants
+pub mod Latest
+pub mod Laws
+pub mod Sources
+pub mod Types

@@ -1,0 +1,10 @@
+//! What rules grant to an asker, as it is defined: the copies of a source's rows, and of each object the latest one.
+#![tactic(auto)]
+
+mod copies;
+mod laws;
+mod live_rows;
+
+pub use copies::Granted;
+pub use laws::latest_rows_are_unique;
+pub use live_rows::LiveRow;
