@@ -1,0 +1,105 @@
+//! Lists made by chance, compacted at each level, and beside them the rule as it is told.
+
+use crate::compaction::logs::{log_of, number, put, remove};
+use crate::compaction::plain::{compacted, is_told};
+use case_words::cut;
+use ps_bucket_log::{BucketLog, Log, Op};
+use ps_compact::compact;
+use ps_values::OpId;
+use std::alloc::Global;
+use std::test::Fail;
+
+// Numbers by chance, from a seed.
+#[derive(Drop)]
+struct Chance {
+    state: u64,
+}
+
+impl Chance {
+    // A number below a limit, or 0 where the limit is 0.
+    fn below(&mut self, limit: u64) -> u64 {
+        self.state = self
+            .state
+            .wrapping_mul(6364136223846793005)
+            .wrapping_add(1442695040888963407);
+        (self.state >> 33).checked_rem(limit).unwrap_or(0)
+    }
+
+    fn row(&mut self) -> &'static str {
+        match self.below(4) {
+            0 => "a",
+            1 => "b",
+            2 => "c",
+            _ => "d",
+        }
+    }
+
+    // An operation.
+    fn op(&mut self, alloc: Global, id: u64) -> Result<Op, Fail> {
+        let row = self.row();
+        let sum = u32::try_from(self.below(4294967296))?;
+        if self.below(3) == 0 {
+            put(alloc, id, row, sum)
+        } else {
+            remove(alloc, id, row, sum)
+        }
+    }
+}
+
+// Puts up to twelve operations behind those of a log.
+fn grown(alloc: Global, chance: &mut Chance, log: &BucketLog) -> Result<BucketLog, Fail> {
+    let mut ops = log.ops(alloc)?;
+    let mut id = log.newest_upto(OpId(u64::MAX)).0;
+    let count = chance.below(13);
+    'ops: for _ in 0..count {
+        id = id.wrapping_add(1).wrapping_add(chance.below(2));
+        ops.push(chance.op(alloc, id)?)?;
+    }
+    log_of(alloc, ops)
+}
+
+// Whether a log, compacted at a level, is what the rule says.
+fn agrees(alloc: Global, log: &BucketLog, level: u64) -> Result<bool, Fail> {
+    let ops = log.ops(alloc)?;
+    let plain = compacted(alloc, ops.as_slice(), level)?;
+    let before = ops.len();
+    let mut copy = log_of(alloc, ops)?;
+    let report = compact(alloc, &mut copy, OpId(level))?;
+    let same = copy.ops(alloc)?.as_slice() == plain.ops.as_slice();
+    Ok(same && is_told(&plain, before, &report))
+}
+
+// At how many levels a log, compacted, is not what the rule says; and how many were tried.
+fn differences(alloc: Global, log: &BucketLog) -> Result<(u64, u64), Fail> {
+    let newest = log.newest_upto(OpId(u64::MAX)).0;
+    let mut wrong: u64 = 0;
+    let mut tried: u64 = 0;
+    'levels: for level in 0..=newest {
+        if !agrees(alloc, log, level)? {
+            wrong = wrong.wrapping_add(1);
+        }
+        tried = tried.wrapping_add(1);
+    }
+    Ok((wrong, tried))
+}
+
+/// Compacts so many lists by chance at each level, and each again after it was compacted and grew.
+pub fn write_lists(alloc: Global, words: &str, out: &mut String) -> Result<(), Fail> {
+    let (count, seed) = cut(words);
+    let mut chance = Chance {
+        state: number(seed)?,
+    };
+    let mut wrong: u64 = 0;
+    let mut tried: u64 = 0;
+    'lists: for _ in 0..number(count)? {
+        let mut log = grown(alloc, &mut chance, &BucketLog::new(alloc))?;
+        let (first_wrong, first_tried) = differences(alloc, &log)?;
+        let level = chance.below(14);
+        let _report = compact(alloc, &mut log, OpId(level))?;
+        let log = grown(alloc, &mut chance, &log)?;
+        let (then_wrong, then_tried) = differences(alloc, &log)?;
+        wrong = wrong.wrapping_add(first_wrong).wrapping_add(then_wrong);
+        tried = tried.wrapping_add(first_tried).wrapping_add(then_tried);
+    }
+    Ok(write!(out, "tried {tried} wrong {wrong}")?)
+}

@@ -1,0 +1,62 @@
+//! Events of a log, one after another: `put ID ROW SUM`, `remove ID ROW SUM` and `compact LEVEL`.
+
+use crate::compaction::logs::{log_of, number, put, remove, write_ops};
+use case_words::cut;
+use ps_bucket_log::{BucketLog, Log, Op};
+use ps_compact::{Report, compact};
+use ps_values::OpId;
+use std::alloc::Global;
+use std::test::Fail;
+
+/// The numbers of a report.
+pub fn write_report(out: &mut String, report: &Report) -> Result<(), Fail> {
+    write!(out, "moved {} cleared {}", report.moved, report.cleared)?;
+    Ok(write!(out, " before {} after {}", report.before, report.after)?)
+}
+
+fn appended(alloc: Global, log: &BucketLog, op: Op) -> Result<BucketLog, Fail> {
+    let mut ops = log.ops(alloc)?;
+    ops.push(op)?;
+    log_of(alloc, ops)
+}
+
+// The operation that the words tell.
+fn written(alloc: Global, kind: &str, words: &str) -> Result<Op, Fail> {
+    let (id, words) = cut(words);
+    let (row, sum) = cut(words);
+    let sum = u32::try_from(number(sum)?)?;
+    match kind {
+        "put" => put(alloc, number(id)?, row, sum),
+        "remove" => remove(alloc, number(id)?, row, sum),
+        _ => Err("no event".into()),
+    }
+}
+
+fn write_compacted(
+    alloc: Global,
+    log: &mut BucketLog,
+    level: u64,
+    out: &mut String,
+) -> Result<(), Fail> {
+    let report = compact(alloc, log, OpId(level))?;
+    write_report(out, &report)?;
+    out.push_str(":")?;
+    write_ops(out, log.ops(alloc)?.as_slice())
+}
+
+/// What each compaction reports, and the log after it.
+pub fn write_log(alloc: Global, events: &str, out: &mut String) -> Result<(), Fail> {
+    let mut log = BucketLog::new(alloc);
+    'events: for event in events.split(';') {
+        let (word, words) = cut(event);
+        if word == "compact" {
+            if !out.is_empty() {
+                out.push_str(" | ")?;
+            }
+            write_compacted(alloc, &mut log, number(words)?, out)?;
+        } else {
+            log = appended(alloc, &log, written(alloc, word, words)?)?;
+        }
+    }
+    Ok(())
+}

@@ -1,0 +1,46 @@
+//! Answers the cases of its standard input: behind a heading, `== PART`, each line is a case of that part, and the head of the part's module
+//! says what it may be. A heading is printed as it stands.
+#![tactic(auto)]
+
+mod clients;
+mod compaction;
+mod lines;
+mod made;
+mod numbers;
+mod requests;
+mod scripts;
+mod sessions;
+mod tokens;
+
+use std::io;
+use std::test::Fail;
+
+fn answer_part(rt: HostRuntime, part: &str, cases: &str, out: &mut String) -> Result<(), Fail> {
+    match part {
+        "compaction" => compaction::answer_all(rt, cases, out),
+        "numbers" => numbers::answer_all(rt, cases, out),
+        "made" => made::answer_all(rt, cases, out),
+        "tokens" => tokens::answer_all(rt, cases, out),
+        "scripts" => scripts::answer_all(rt, cases, out),
+        "requests" => requests::answer_all(rt, cases, out),
+        "sessions" => sessions::answer_all(rt, cases, out),
+        "clients" => clients::answer_all(rt, cases, out),
+        _ => Err("no such part".into()),
+    }
+}
+
+fn answer_all(rt: HostRuntime, text: &str, out: &mut String) -> Result<(), Fail> {
+    let parts = text.strip_prefix("== ").ok_or("no heading")?;
+    'parts: for part in parts.split("\n== ") {
+        let (part, cases) = part.split_once('\n').unwrap_or((part, ""));
+        println!(rt; "== {part}")?;
+        answer_part(rt, part, cases, out)?;
+    }
+    Ok(())
+}
+
+fn main(rt: HostRuntime) -> Result<(), Fail> {
+    let text = io::read_to_string(rt.alloc(), rt.reader())?;
+    let mut out = String::new(rt.alloc());
+    answer_all(rt, text.as_str(), &mut out)
+}

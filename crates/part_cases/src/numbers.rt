@@ -1,0 +1,88 @@
+//! Cases of write checkpoints.
+//!
+//! `top COUNT` begins anew, and COUNT is the greatest number. `make USER CLIENT HEAD` makes a write checkpoint and prints its number.
+//! `covered USER CLIENT POSITION` prints the number that the position covers. A line that begins with `#` is a heading.
+
+ghost use Rattle.std.specs.Prelude.{◌≤◌};
+
+use crate::lines::print_line;
+use case_words::cut;
+use ps_values::{GREATEST, Position, Text};
+use ps_write_cp::{NumberFault, WriteCheckpoints};
+use std::alloc::Global;
+use std::test::Fail;
+
+/// Numbers, and a head that none of theirs is past.
+#[derive(Drop)]
+pub struct Desk {
+    numbers: WriteCheckpoints,
+    head: u64,
+    ghost behind: { numbers.head ≤ head },
+}
+
+fn fresh(alloc: Global, top: u64) -> Desk {
+    Desk {
+        numbers: WriteCheckpoints::new(alloc, top),
+        head: 0,
+    }
+}
+
+// The user, the client and the number that stand in a line.
+fn words(alloc: Global, rest: &str) -> Result<(Text, Text, u64), Fail> {
+    let (user, rest) = cut(rest);
+    let (client, number) = cut(rest);
+    Ok((
+        Text::from_str(alloc, user)?,
+        Text::from_str(alloc, client)?,
+        number.parse::<u64>()?,
+    ))
+}
+
+fn write_number(alloc: Global, desk: &mut Desk, rest: &str, out: &mut String) -> Result<(), Fail> {
+    let (user, client, head) = words(alloc, rest)?;
+    if head < desk.head {
+        return Err("the head falls".into());
+    }
+    desk.head = head;
+    match desk.numbers.make(alloc, &user, &client, Position(head)) {
+        Ok(number) => write!(out, "number {number}")?,
+        Err(NumberFault::NumberFull { last }) => write!(out, "full {last}")?,
+        Err(NumberFault::Memory) => out.push_str("memory")?,
+    }
+    Ok(())
+}
+
+fn write_covered(alloc: Global, desk: &Desk, rest: &str, out: &mut String) -> Result<(), Fail> {
+    let (user, client, position) = words(alloc, rest)?;
+    match desk.numbers.covered(&user, &client, Position(position)) {
+        Some(number) => write!(out, "covered {number}")?,
+        None => out.push_str("covered none")?,
+    }
+    Ok(())
+}
+
+// Takes a step.
+fn answer(alloc: Global, desk: &mut Desk, line: &str, out: &mut String) -> Result<(), Fail> {
+    let (word, rest) = cut(line);
+    match word {
+        "top" => {
+            *desk = fresh(alloc, rest.parse::<u64>()?);
+            Ok(out.push_str("none")?)
+        }
+        "make" => write_number(alloc, desk, rest, out),
+        "covered" => write_covered(alloc, desk, rest, out),
+        _ => Ok(out.push_str(line)?),
+    }
+}
+
+/// Answers the cases.
+pub fn answer_all(rt: HostRuntime, cases: &str, out: &mut String) -> Result<(), Fail> {
+    ps_write_cp::covered_is_the_greatest();
+    ps_write_cp::covers_all_before();
+    let mut desk = fresh(rt.alloc(), GREATEST);
+    'lines: for line in cases.lines() {
+        answer(rt.alloc(), &mut desk, line, out)?;
+        print_line(rt, out)?;
+    }
+    Ok(())
+}

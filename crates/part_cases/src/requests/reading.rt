@@ -1,0 +1,153 @@
+//! Requests that are read from sources in memory.
+
+use crate::requests::words;
+use ps_http::{BodyFault, Head, HeadFault, read_body, read_head};
+use ps_io::{MemorySource, Source};
+use ps_values::{Items, Text};
+use std::alloc::Global;
+use std::test::Fail;
+
+// A source of these bytes, of which the calls of these numbers fail.
+fn source(alloc: Global, bytes: &[u8], failing: Vec<u64>) -> Result<MemorySource, Fail> {
+    let content = Items::from_vec(Vec::from_slice(alloc, bytes)?);
+    Ok(MemorySource::new(content, Items::from_vec(failing)))
+}
+
+// How many bytes are left, up to 65,536.
+fn left(alloc: Global, from: &mut MemorySource) -> Result<usize, Fail> {
+    let mut rest = vec![in alloc; 0u8; 65536]?;
+    match from.read(rest.as_mut_slice()) {
+        Ok(count) => Ok(count),
+        Err(_) => Err("no call is to fail here".into()),
+    }
+}
+
+/// The name of a fault.
+pub fn name_of(fault: HeadFault) -> &'static str {
+    match fault {
+        HeadFault::BadHead => "bad-head",
+        HeadFault::HeadTooLong => "head-too-long",
+        HeadFault::CutShort => "cut-short",
+        HeadFault::ReadFault => "read-fault",
+        HeadFault::Memory => "memory",
+    }
+}
+
+fn write_fault(fault: BodyFault, out: &mut String) -> Result<(), Fail> {
+    match fault {
+        BodyFault::LengthRequired => out.push_str("length-required")?,
+        BodyFault::BodyTooLong { length } => write!(out, "body-too-long {length}")?,
+        BodyFault::CutShort => out.push_str("cut-short")?,
+        BodyFault::ReadFault => out.push_str("read-fault")?,
+        BodyFault::Memory => out.push_str("memory")?,
+    }
+    Ok(())
+}
+
+fn write_authorization(value: &Option<Text>, out: &mut String) -> Result<(), Fail> {
+    match value {
+        Some(value) => {
+            out.push_str(" [")?;
+            words::push_shown(value.bytes(), out)?;
+            out.push_str("]")?;
+        }
+        None => out.push_str(" none")?,
+    }
+    Ok(())
+}
+
+/// The method, the path, the query, the authorization, the length and whether the body is chunked.
+pub fn write_head(head: &Head, out: &mut String) -> Result<(), Fail> {
+    out.push_str(head.method.as_str())?;
+    out.push_str(" [")?;
+    words::push_shown(head.path.bytes(), out)?;
+    out.push_str("] [")?;
+    words::push_shown(head.query.bytes(), out)?;
+    out.push_str("]")?;
+    write_authorization(&head.authorization, out)?;
+    match head.length {
+        Some(length) => write!(out, " {length}")?,
+        None => out.push_str(" none")?,
+    }
+    out.push_str(if head.chunked { " chunked" } else { " plain" })?;
+    Ok(())
+}
+
+/// The head of a request, and how many bytes are left behind it.
+pub fn write_head_read(
+    alloc: Global,
+    bytes: &[u8],
+    failing: &str,
+    out: &mut String,
+) -> Result<(), Fail> {
+    let mut from = source(alloc, bytes, words::numbers(alloc, failing)?)?;
+    match read_head(alloc, &mut from) {
+        Ok(head) => write_head(&head, out)?,
+        Err(fault) => out.push_str(name_of(fault))?,
+    }
+    Ok(write!(out, "; {} left", left(alloc, &mut from)?)?)
+}
+
+/// The body of a request, and how many bytes are left behind it.
+pub fn write_body_read(
+    alloc: Global,
+    bytes: &[u8],
+    failing: &str,
+    out: &mut String,
+) -> Result<(), Fail> {
+    let mut from = source(alloc, bytes, words::numbers(alloc, failing)?)?;
+    match read_head(alloc, &mut from) {
+        Ok(head) => match read_body(alloc, &head, &mut from) {
+            Ok(body) => words::push_shown(body.as_slice(), out)?,
+            Err(fault) => write_fault(fault, out)?,
+        },
+        Err(fault) => out.push_str(name_of(fault))?,
+    }
+    Ok(write!(out, "; {} left", left(alloc, &mut from)?)?)
+}
+
+// Whether a request is refused for that reason, with so many bytes left.
+fn is_refused(
+    alloc: Global,
+    from: &mut MemorySource,
+    wanted: &str,
+    rest: usize,
+) -> Result<bool, Fail> {
+    let is_wanted = match read_head(alloc, from) {
+        Ok(_) => false,
+        Err(fault) => name_of(fault) == wanted,
+    };
+    Ok(is_wanted && left(alloc, from)? == rest)
+}
+
+/// How many of the first parts of a request are cut short, and how many are not.
+pub fn write_cuts(alloc: Global, bytes: &[u8], out: &mut String) -> Result<(), Fail> {
+    let mut short = 0u64;
+    let mut other = 0u64;
+    'cuts: for length in 0..bytes.len() {
+        let mut from = source(alloc, &bytes[..length], Vec::new(alloc))?;
+        if is_refused(alloc, &mut from, "cut-short", 0)? {
+            short = short.saturating_add(1);
+        } else {
+            other = other.saturating_add(1);
+        }
+    }
+    Ok(write!(out, "{short} cut-short, {other} other")?)
+}
+
+/// How often a request whose source fails at one call is a read fault that takes what came before, and how often not.
+pub fn write_faults(alloc: Global, bytes: &[u8], out: &mut String) -> Result<(), Fail> {
+    let mut failed = 0u64;
+    let mut other = 0u64;
+    'calls: for taken in 0..bytes.len() {
+        let mut failing = Vec::new(alloc);
+        failing.push((taken as u64).saturating_add(1))?;
+        let mut from = source(alloc, bytes, failing)?;
+        if is_refused(alloc, &mut from, "read-fault", bytes.len() - taken)? {
+            failed = failed.saturating_add(1);
+        } else {
+            other = other.saturating_add(1);
+        }
+    }
+    Ok(write!(out, "{failed} read-fault, {other} other")?)
+}

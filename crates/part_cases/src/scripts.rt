@@ -1,0 +1,47 @@
+//! Lines of scripts: each case is one or several, and its answer what each is read as: an event with its arguments, `skipped`, or the
+//! fault; with ` | ` between where there are several. `case_words` says how bytes are written that fit no line, a line feed among them.
+
+mod events;
+
+use crate::lines::print_line;
+use case_words::unescaped;
+use events::show_event;
+use ps_script::{is_skipped, read_event, split_line};
+use ps_values::Memory;
+use std::alloc::Global;
+use std::test::Fail;
+
+// What a script's line is read as.
+fn show_line(alloc: Global, out: &mut String, line: &[u8]) -> Result<(), Memory> {
+    if is_skipped(line) {
+        return Ok(out.push_str("skipped")?);
+    }
+    match read_event(alloc, line) {
+        Ok(event) => show_event(out, &event),
+        Err(fault) => Ok(write!(out, "{fault:?}")?),
+    }
+}
+
+// What each of the lines is read as.
+fn answer(alloc: Global, out: &mut String, bytes: &[u8]) -> Result<(), Memory> {
+    let (line, mut rest) = split_line(bytes);
+    show_line(alloc, out, line)?;
+    'lines: while let Some(bytes) = rest {
+        let (line, after) = split_line(bytes);
+        rest = after;
+        out.push_str(" | ")?;
+        show_line(alloc, out, line)?;
+    }
+    Ok(())
+}
+
+/// Answers the cases.
+pub fn answer_all(rt: HostRuntime, cases: &str, out: &mut String) -> Result<(), Fail> {
+    ps_script::events_are_spelled();
+    'lines: for line in cases.lines() {
+        let bytes = unescaped(rt.alloc(), line)?;
+        answer(rt.alloc(), out, &bytes)?;
+        print_line(rt, out)?;
+    }
+    Ok(())
+}

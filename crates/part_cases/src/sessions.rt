@@ -1,0 +1,155 @@
+//! Steps of a session and questions to it.
+//!
+//! - `begin NAME:AFTER ..` begins anew, for a client that holds these buckets up to these ids.
+//! - `action` prints what the session wants next.
+//! - `take POSITION HEAD open|closed OP NUMBER|none NAME:SUM:COUNT:NEWEST ..` takes a checkpoint and prints the line.
+//! - `batch more|last TARGET|none ID:SUM ..` takes a batch of operations, `passed ID` one that was passed by.
+//! - `finish` prints the line that ends a checkpoint, `drained` whether the session has come to the end.
+//!
+//! A line that begins with `#` is a heading.
+
+mod names;
+mod readings;
+mod texts;
+
+ghost use Rattle.std.specs.Prelude.{◌≢◌, ◌⊎◌, [], None};
+
+use crate::lines::print_line;
+use names::names_rise;
+use ps_bucket_log::Batch;
+use ps_session::{Action, Session, StreamRequest};
+use ps_sql_eval::Asker;
+use ps_values::{Items, OpId, Text};
+use readings::{cut, id_of, id_or_none, known_of, ops_of, taken_of};
+use std::alloc::Global;
+use std::test::Fail;
+use texts::{write_action, write_answer, write_line};
+
+fn nobody(alloc: Global) -> Asker {
+    Asker {
+        user: Text::from_string(String::new(alloc)),
+        payload: Text::from_string(String::new(alloc)),
+        parameters: Text::from_string(String::new(alloc)),
+        client: None,
+    }
+}
+
+fn begin(alloc: Global, rest: &str) -> Result<Session, Fail> {
+    Ok(Session::begin(
+        alloc,
+        StreamRequest {
+            asker: nobody(alloc),
+            positions: Items::from_vec(known_of(alloc, rest)?),
+        },
+    ))
+}
+
+fn take(alloc: Global, session: &mut Session, rest: &str, out: &mut String) -> Result<(), Fail> {
+    let taken = taken_of(alloc, rest)?;
+    if !names_rise(taken.buckets.as_slice()) {
+        return Err("the names do not rise".into());
+    }
+    match session.next_action() {
+        Action::Take | Action::Wait => write_answer(&session.took(alloc, taken)?, out),
+        Action::Read { .. } | Action::Complete => Err("no checkpoint is due".into()),
+    }
+}
+
+fn read(alloc: Global, session: &mut Session, batch: Batch, out: &mut String) -> Result<(), Fail>
+    requires { (batch.ops ≢ []) ⊎ (batch.passed ≢ None) }
+{
+    match session.next_action() {
+        Action::Read { .. } => write_answer(&session.read(alloc, batch)?, out),
+        Action::Take | Action::Complete | Action::Wait => Err("no batch is due".into()),
+    }
+}
+
+fn read_ops(
+    alloc: Global,
+    session: &mut Session,
+    rest: &str,
+    out: &mut String,
+) -> Result<(), Fail> {
+    let (more, rest) = cut(rest, ' ');
+    let (target, rest) = cut(rest, ' ');
+    let ops = Items::from_vec(ops_of(alloc, rest)?);
+    if ops.is_empty() {
+        return Err("no operations".into());
+    }
+    let batch = Batch {
+        ops,
+        has_more: more == "more",
+        target: id_or_none(target)?,
+        passed: None,
+    };
+    read(alloc, session, batch, out)
+}
+
+fn read_passed(
+    alloc: Global,
+    session: &mut Session,
+    rest: &str,
+    out: &mut String,
+) -> Result<(), Fail> {
+    let batch = Batch {
+        ops: Items::new(alloc),
+        has_more: false,
+        target: None,
+        passed: Some(OpId(id_of(rest)?)),
+    };
+    read(alloc, session, batch, out)
+}
+
+fn finish(session: &mut Session, out: &mut String) -> Result<(), Fail> {
+    match session.next_action() {
+        Action::Complete => write_line(&session.finish(), out),
+        Action::Take | Action::Read { .. } | Action::Wait => Err("nothing is complete".into()),
+    }
+}
+
+fn action(session: &Session, out: &mut String) -> Result<(), Fail> {
+    match session.next_action() {
+        Action::Read { place, after, upto } => {
+            let name = session.bucket_at(place).as_str();
+            Ok(write!(out, "read {place} {name} after {} upto {}", after.0, upto.0)?)
+        }
+        Action::Take => write_action("take", out),
+        Action::Complete => write_action("complete", out),
+        Action::Wait => write_action("wait", out),
+    }
+}
+
+fn answer(alloc: Global, session: &mut Session, line: &str, out: &mut String) -> Result<(), Fail> {
+    let (word, rest) = cut(line, ' ');
+    match word {
+        "#" => write_action(line, out),
+        "begin" => {
+            *session = begin(alloc, rest)?;
+            write_action("begun", out)
+        }
+        "action" => action(session, out),
+        "take" => take(alloc, session, rest, out),
+        "batch" => read_ops(alloc, session, rest, out),
+        "passed" => read_passed(alloc, session, rest, out),
+        "finish" => finish(session, out),
+        "drained" => write_action(
+            if session.drained() {
+                "drained"
+            } else {
+                "not drained"
+            },
+            out,
+        ),
+        _ => Err("no such case".into()),
+    }
+}
+
+/// Answers the cases.
+pub fn answer_all(rt: HostRuntime, cases: &str, out: &mut String) -> Result<(), Fail> {
+    let mut session = begin(rt.alloc(), "")?;
+    'lines: for line in cases.lines() {
+        answer(rt.alloc(), &mut session, line, out)?;
+        print_line(rt, out)?;
+    }
+    Ok(())
+}

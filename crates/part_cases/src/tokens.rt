@@ -1,0 +1,180 @@
+//! Cases of keys, tokens and codes.
+//!
+//! `mac KEY MESSAGE` has both in hexadecimal digits, `-` for none. `keys JSON` reads a key file, whose keys serve the lines behind it.
+//! `verify SECOND TOKEN` and `verify-bytes SECOND DIGITS` verify a token, `sign KID PAYLOAD` signs one. `signed SECOND KID PAYLOAD` signs
+//! one and verifies it.
+//!
+//! The expected answers were computed by Python 3.11, whose tokens are those of
+//!
+//! ```python
+//! import base64, hashlib, hmac
+//! part = lambda b: base64.urlsafe_b64encode(b).rstrip(b'=')
+//! def token(key, header, payload):
+//!     signed = part(header) + b'.' + part(payload)
+//!     return signed + b'.' + part(hmac.new(key, signed, hashlib.sha256).digest())
+//! ```
+//!
+//! but for the codes of RFC 4231, which stand as its section 4 prints them.
+
+mod words;
+
+use crate::lines::print_line;
+use case_words::cut;
+use ps_token::{Claims, Keys, KeysFault, SignFault, TokenFault, mac, read_keys, sign, verify};
+use ps_values::Text;
+use std::alloc::Global;
+use std::test::Fail;
+
+fn write_mac(alloc: Global, rest: &str, out: &mut String) -> Result<(), Fail> {
+    let (key, message) = cut(rest);
+    let key = words::bytes(alloc, key)?;
+    let message = words::bytes(alloc, message)?;
+    let code = mac(key.as_slice(), message.as_slice());
+    out.push_str(hex::encode(alloc, &code)?.as_str())?;
+    Ok(())
+}
+
+// The keys of a file, which it writes one after another.
+fn write_keys(alloc: Global, rest: &str, out: &mut String) -> Result<Option<Keys>, Fail> {
+    let fault = match read_keys(alloc, rest.as_bytes()) {
+        Ok(keys) => {
+            write_list(alloc, &keys, out)?;
+            return Ok(Some(keys));
+        }
+        Err(KeysFault::BadJson) => "bad-json",
+        Err(KeysFault::BadShape) => "bad-shape",
+        Err(KeysFault::Memory) => "memory",
+    };
+    out.push_str(fault)?;
+    Ok(None)
+}
+
+fn write_list(alloc: Global, keys: &Keys, out: &mut String) -> Result<(), Fail> {
+    out.push_str("keys")?;
+    'keys: for key in keys.as_slice() {
+        out.push_str(" ")?;
+        out.push_str(key.kid.as_str())?;
+        out.push_str(":")?;
+        out.push_str(hex::encode(alloc, key.bytes.as_slice())?.as_str())?;
+    }
+    Ok(())
+}
+
+fn write_claims(claims: &Claims, out: &mut String) -> Result<(), Fail> {
+    out.push_str("accepted ")?;
+    out.push_str(claims.subject.as_str())?;
+    out.push_str(" ")?;
+    write!(out, "{}", claims.exp)?;
+    out.push_str(" ")?;
+    out.push_str(claims.payload.as_str())?;
+    Ok(())
+}
+
+fn write_verified(
+    alloc: Global,
+    keys: &Keys,
+    now: u64,
+    token: &[u8],
+    out: &mut String,
+) -> Result<(), Fail> {
+    let fault = match verify(alloc, keys, token, now) {
+        Ok(claims) => return write_claims(&claims, out),
+        Err(TokenFault::Malformed) => "malformed",
+        Err(TokenFault::UnknownKey) => "unknown-key",
+        Err(TokenFault::BadSignature) => "bad-signature",
+        Err(TokenFault::Expired { exp }) => {
+            write!(out, "expired {exp}")?;
+            return Ok(());
+        }
+        Err(TokenFault::NoSubject) => "no-subject",
+        Err(TokenFault::Memory) => "memory",
+    };
+    out.push_str(fault)?;
+    Ok(())
+}
+
+// The token that is signed; where it is refused, the refusal is written.
+fn signed(alloc: Global, keys: &Keys, rest: &str, out: &mut String) -> Result<Option<Text>, Fail> {
+    let (kid, payload) = cut(rest);
+    let kid = Text::from_str(alloc, kid)?;
+    let payload = Text::from_str(alloc, payload)?;
+    let fault = match sign(alloc, keys, &kid, &payload) {
+        Ok(token) => return Ok(Some(token)),
+        Err(SignFault::UnknownKey) => "unknown-key",
+        Err(SignFault::Memory) => "memory",
+    };
+    out.push_str(fault)?;
+    Ok(None)
+}
+
+fn write_signed(alloc: Global, keys: &Keys, rest: &str, out: &mut String) -> Result<(), Fail> {
+    if let Some(token) = signed(alloc, keys, rest, out)? {
+        out.push_str(token.as_str())?;
+    }
+    Ok(())
+}
+
+fn write_round(alloc: Global, keys: &Keys, rest: &str, out: &mut String) -> Result<(), Fail> {
+    let (now, rest) = cut(rest);
+    let now = now.parse::<u64>()?;
+    if let Some(token) = signed(alloc, keys, rest, out)? {
+        write_verified(alloc, keys, now, token.bytes(), out)?;
+    }
+    Ok(())
+}
+
+fn write_token(
+    alloc: Global,
+    keys: &Keys,
+    word: &str,
+    rest: &str,
+    out: &mut String,
+) -> Result<(), Fail> {
+    if word == "sign" {
+        return write_signed(alloc, keys, rest, out);
+    }
+    if word == "signed" {
+        return write_round(alloc, keys, rest, out);
+    }
+    let (now, token) = cut(rest);
+    let now = now.parse::<u64>()?;
+    if word == "verify" {
+        return write_verified(alloc, keys, now, token.as_bytes(), out);
+    }
+    if word == "verify-bytes" {
+        let token = words::bytes(alloc, token)?;
+        return write_verified(alloc, keys, now, token.as_slice(), out);
+    }
+    Err("no such case".into())
+}
+
+fn answer(
+    alloc: Global,
+    keys: &mut Option<Keys>,
+    line: &str,
+    out: &mut String,
+) -> Result<(), Fail> {
+    let (word, rest) = cut(line);
+    if word == "mac" {
+        return write_mac(alloc, rest, out);
+    }
+    if word == "keys" {
+        *keys = write_keys(alloc, rest, out)?;
+        return Ok(());
+    }
+    match keys {
+        Some(keys) => write_token(alloc, keys, word, rest, out),
+        None => Ok(out.push_str("no keys")?),
+    }
+}
+
+/// Answers the cases.
+pub fn answer_all(rt: HostRuntime, cases: &str, out: &mut String) -> Result<(), Fail> {
+    ps_token::base64url_is_strict();
+    let mut keys = None;
+    'lines: for line in cases.lines() {
+        answer(rt.alloc(), &mut keys, line, out)?;
+        print_line(rt, out)?;
+    }
+    Ok(())
+}

@@ -1,5 +1,0 @@
-use Rattle.session_cases.proofs.Orders.{rise_where}
-use Rattle.session_cases.proofs.names.names_rise.Goals as goal
-
-pub returns : goal.returns
-returns c = rise_where c.rise_on.result c.args.buckets.now c.rise_on.ensures
