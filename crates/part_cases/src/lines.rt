@@ -1,6 +1,11 @@
-//! Lines of answers.
+//! What is read of lines and how they are printed, in every part.
 
 use std::test::Fail;
+
+/// A number.
+pub fn number(word: &str) -> Result<u64, Fail> {
+    Ok(word.parse::<u64>()?)
+}
 
 /// Prints an answer in a line, and empties it for the next.
 pub fn print_line(rt: HostRuntime, out: &mut String) -> Result<(), Fail> {

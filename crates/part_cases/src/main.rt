@@ -2,6 +2,7 @@
 //! says what it may be. A heading is printed as it stands.
 #![tactic(auto)]
 
+mod changes;
 mod clients;
 mod compaction;
 mod lines;

@@ -17,7 +17,7 @@ mod outside;
 mod reading;
 mod words;
 
-use crate::lines::print_line;
+use crate::lines::{number, print_line};
 use case_words::{cut, push_spelled};
 use ps_http::query_value;
 use ps_values::Text;
@@ -46,7 +46,7 @@ fn is_added(word: &str, rest: &str, request: &mut Vec<u8>) -> Result<bool, Fail>
     }
     if word == "times" {
         let (count, text) = cut(rest);
-        'times: for _ in 0..words::number(count)? {
+        'times: for _ in 0..number(count)? {
             push_spelled(text, request)?;
         }
         return Ok(true);

@@ -14,13 +14,13 @@ mod texts;
 
 ghost use Rattle.std.specs.Prelude.{◌≢◌, ◌⊎◌, [], None};
 
-use crate::lines::print_line;
+use crate::lines::{number, print_line};
 use names::names_rise;
 use ps_bucket_log::Batch;
 use ps_session::{Action, Session, StreamRequest};
 use ps_sql_eval::Asker;
 use ps_values::{Items, OpId, Text};
-use readings::{cut, id_of, id_or_none, known_of, ops_of, taken_of};
+use readings::{cut, id_or_none, known_of, ops_of, taken_of};
 use std::alloc::Global;
 use std::test::Fail;
 use texts::{write_action, write_answer, write_line};
@@ -95,7 +95,7 @@ fn read_passed(
         ops: Items::new(alloc),
         has_more: false,
         target: None,
-        passed: Some(OpId(id_of(rest)?)),
+        passed: Some(OpId(number(rest)?)),
     };
     read(alloc, session, batch, out)
 }

@@ -1,7 +1,8 @@
 //! Lists made by chance, compacted at each level, and beside them the rule as it is told.
 
-use crate::compaction::logs::{log_of, number, put, remove};
+use crate::compaction::logs::{log_of, put, remove};
 use crate::compaction::plain::{compacted, is_told};
+use crate::lines::number;
 use case_words::cut;
 use ps_bucket_log::{BucketLog, Log, Op};
 use ps_compact::compact;

@@ -1,6 +1,7 @@
 //! Events of a log, one after another: `put ID ROW SUM`, `remove ID ROW SUM` and `compact LEVEL`.
 
-use crate::compaction::logs::{log_of, number, put, remove, write_ops};
+use crate::compaction::logs::{log_of, put, remove, write_ops};
+use crate::lines::number;
 use case_words::cut;
 use ps_bucket_log::{BucketLog, Log, Op};
 use ps_compact::{Report, compact};

@@ -10,11 +10,6 @@ use ps_values::{Items, OpId, Text};
 use std::alloc::Global;
 use std::test::Fail;
 
-/// A number.
-pub fn number(word: &str) -> Result<u64, Fail> {
-    Ok(word.parse::<u64>()?)
-}
-
 /// The key of a row.
 pub fn key(alloc: Global, id: &str) -> Result<Key, Fail> {
     Ok(Key {
@@ -102,29 +97,26 @@ pub fn log_of(alloc: Global, ops: Items<Op>) -> Result<BucketLog, Fail> {
 }
 
 fn write_op(out: &mut String, op: &Op) -> Result<(), Fail> {
-    match op {
+    let written = match op {
         Op::Put {
             id,
             key,
             content,
             sum,
         } => {
-            write!(out, " put {} {}", id.0, key.id.as_str())?;
-            write!(out, " {} {};", sum.0, content.as_str())?;
+            let (row, content) = (key.id.as_str(), content.as_str());
+            write!(out, " put {} {row} {} {content};", id.0, sum.0)
         }
         Op::Remove { id, key, sum } => {
-            write!(out, " remove {} {} {};", id.0, key.id.as_str(), sum.0)?;
+            write!(out, " remove {} {} {};", id.0, key.id.as_str(), sum.0)
         }
-        Op::Move { id, sum, target } => write!(out, " move {} {} {};", id.0, sum.0, target.0)?,
-        Op::Clear { id, sum, target } => {
-            write!(out, " clear {} {}", id.0, sum.0)?;
-            match target {
-                Some(target) => write!(out, " {};", target.0)?,
-                None => out.push_str(" none;")?,
-            }
-        }
-    }
-    Ok(())
+        Op::Move { id, sum, target } => write!(out, " move {} {} {};", id.0, sum.0, target.0),
+        Op::Clear { id, sum, target } => match target {
+            Some(target) => write!(out, " clear {} {} {};", id.0, sum.0, target.0),
+            None => write!(out, " clear {} {} none;", id.0, sum.0),
+        },
+    };
+    Ok(written?)
 }
 
 /// The texts of operations.

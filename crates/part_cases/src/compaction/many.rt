@@ -1,7 +1,8 @@
 //! A log of very many operations.
 
 use crate::compaction::events::write_report;
-use crate::compaction::logs::{log_of, number, put};
+use crate::compaction::logs::{log_of, put};
+use crate::lines::number;
 use case_words::cut;
 use ps_bucket_log::Op;
 use ps_compact::compact;

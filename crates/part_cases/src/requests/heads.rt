@@ -1,6 +1,7 @@
 //! Heads of answers.
 
-use crate::requests::words;
+use crate::lines::number;
+use crate::requests::words::push_shown;
 use case_words::cut;
 use ps_http::write_head;
 use std::alloc::Global;
@@ -28,8 +29,8 @@ pub fn write_answer(alloc: Global, rest: &str, out: &mut String) -> Result<(), F
     let length = if length == "-" {
         None
     } else {
-        Some(words::number(length)?)
+        Some(number(length)?)
     };
-    let head = head_of(alloc, words::number(status)?, length)?;
-    words::push_shown(head.as_slice(), out)
+    let head = head_of(alloc, number(status)?, length)?;
+    push_shown(head.as_slice(), out)
 }

@@ -1,7 +1,7 @@
 //! Sources and clocks of the system.
 
+use crate::lines::number;
 use crate::requests::reading::{name_of, write_head};
-use crate::requests::words::number;
 use case_words::cut;
 use ps_http::read_head;
 use ps_io::{Clock, MemoryClock, Source, StdSource, WallClock};

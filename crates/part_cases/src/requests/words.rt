@@ -1,12 +1,8 @@
 //! The words of a line, and the bytes that a text spells.
 
+use crate::lines::number;
 use std::alloc::Global;
 use std::test::Fail;
-
-/// A number.
-pub fn number(word: &str) -> Result<u64, Fail> {
-    Ok(word.parse::<u64>()?)
-}
 
 /// The number that a word gives, or none for `-`.
 pub fn numbers(alloc: Global, word: &str) -> Result<Vec<u64>, Fail> {

@@ -1,71 +1,57 @@
 //! Events, as they are printed.
 
+use crate::changes::write_change;
 use case_words::push_escaped;
-use ps_rows::{Change, Row};
+use ps_rows::Change;
 use ps_script::ScriptEvent;
-use ps_values::{Memory, Text, Value};
+use ps_sql_eval::Asker;
+use ps_values::{Memory, Text};
+use std::alloc::AllocError;
 
 /// An event: its word, and its arguments.
 pub fn show_event(out: &mut String, event: &ScriptEvent) -> Result<(), Memory> {
-    match event {
-        ScriptEvent::Feed { count } => Ok(write!(out, "feed {count}")?),
-        ScriptEvent::Close => Ok(out.push_str("close")?),
-        ScriptEvent::Write { limit } => Ok(write!(out, "write {limit}")?),
-        ScriptEvent::Commit => Ok(out.push_str("commit")?),
-        ScriptEvent::Compact { bucket } => {
-            out.push_str("compact '")?;
-            push_escaped(out, bucket.as_str())?;
-            Ok(out.push_str("'")?)
-        }
-        ScriptEvent::Client { name, asker } => {
-            write!(out, "client {} user ", name.as_str())?;
-            push_escaped(out, asker.user.as_str())?;
-            let (payload, parameters) = (asker.payload.as_str(), asker.parameters.as_str());
-            write!(out, " payload {payload} parameters {parameters}")?;
-            match &asker.client {
-                Some(id) => Ok(write!(out, " id {}", id.as_str())?),
-                None => Ok(()),
-            }
-        }
-        ScriptEvent::Local { name, change } => {
-            write!(out, "local {}", name.as_str())?;
-            show_change(out, change)
-        }
-        ScriptEvent::Open { name } => show_named(out, "open", name),
-        ScriptEvent::Turn { name } => show_named(out, "turn", name),
-        ScriptEvent::Take { name } => show_named(out, "take", name),
-        ScriptEvent::Cut { name } => show_named(out, "cut", name),
-        ScriptEvent::Upload { name } => show_named(out, "upload", name),
-        ScriptEvent::Number { name } => show_named(out, "number", name),
-        ScriptEvent::Rows { name } => show_named(out, "rows", name),
-        ScriptEvent::Totals => Ok(out.push_str("totals")?),
+    let written = match event {
+        ScriptEvent::Feed { count } => write!(out, "feed {count}"),
+        ScriptEvent::Close => out.push_str("close"),
+        ScriptEvent::Write { limit } => write!(out, "write {limit}"),
+        ScriptEvent::Commit => out.push_str("commit"),
+        ScriptEvent::Compact { bucket } => return show_compaction(out, bucket),
+        ScriptEvent::Client { name, asker } => return show_client(out, name, asker),
+        ScriptEvent::Local { name, change } => return show_local(out, name, change),
+        ScriptEvent::Open { name } => push_named(out, "open", name),
+        ScriptEvent::Turn { name } => push_named(out, "turn", name),
+        ScriptEvent::Take { name } => push_named(out, "take", name),
+        ScriptEvent::Cut { name } => push_named(out, "cut", name),
+        ScriptEvent::Upload { name } => push_named(out, "upload", name),
+        ScriptEvent::Number { name } => push_named(out, "number", name),
+        ScriptEvent::Rows { name } => push_named(out, "rows", name),
+        ScriptEvent::Totals => out.push_str("totals"),
+    };
+    Ok(written?)
+}
+
+fn show_compaction(out: &mut String, bucket: &Text) -> Result<(), Memory> {
+    out.push_str("compact '")?;
+    push_escaped(out, bucket.as_str())?;
+    Ok(out.push_str("'")?)
+}
+
+fn show_client(out: &mut String, name: &Text, asker: &Asker) -> Result<(), Memory> {
+    write!(out, "client {} user ", name.as_str())?;
+    push_escaped(out, asker.user.as_str())?;
+    let (payload, parameters) = (asker.payload.as_str(), asker.parameters.as_str());
+    write!(out, " payload {payload} parameters {parameters}")?;
+    match &asker.client {
+        Some(id) => Ok(write!(out, " id {}", id.as_str())?),
+        None => Ok(()),
     }
 }
 
-fn show_named(out: &mut String, word: &str, name: &Text) -> Result<(), Memory> {
-    Ok(write!(out, "{word} {}", name.as_str())?)
+fn show_local(out: &mut String, name: &Text, change: &Change) -> Result<(), Memory> {
+    write!(out, "local {}", name.as_str())?;
+    write_change(out, change, "=null")
 }
 
-// A change: its table, its id and the columns of its row.
-fn show_change(out: &mut String, change: &Change) -> Result<(), Memory> {
-    let (table, id) = (change.table.as_str(), change.id.as_str());
-    match &change.row {
-        Some(row) => {
-            write!(out, " put {table} {id}")?;
-            show_row(out, row)
-        }
-        None => Ok(write!(out, " delete {table} {id}")?),
-    }
-}
-
-fn show_row(out: &mut String, row: &Row) -> Result<(), Memory> {
-    'columns: for column in row.columns() {
-        let name = column.name.as_str();
-        match &column.value {
-            Value::Null => write!(out, " {name}=null")?,
-            Value::Int(number) => write!(out, " {name}={number}")?,
-            Value::Text(text) => write!(out, " {name}='{}'", text.as_str())?,
-        }
-    }
-    Ok(())
+fn push_named(out: &mut String, word: &str, name: &Text) -> Result<(), AllocError> {
+    write!(out, "{word} {}", name.as_str())
 }

@@ -1,5 +1,6 @@
 //! The words of a case.
 
+use crate::lines::number;
 use ps_bucket_log::{Op, Taken, TakenBucket};
 use ps_checksum::Sum;
 use ps_lines::Known;
@@ -15,23 +16,19 @@ pub fn cut(line: &str, mark: char) -> (&str, &str) {
     }
 }
 
-pub fn id_of(word: &str) -> Result<u64, Fail> {
-    Ok(word.parse::<u64>()?)
-}
-
 // The id, where the word is not `none`.
 pub fn id_or_none(word: &str) -> Result<Option<OpId>, Fail> {
     if word == "none" {
         return Ok(None);
     }
-    Ok(Some(OpId(id_of(word)?)))
+    Ok(Some(OpId(number(word)?)))
 }
 
 fn number_or_none(word: &str) -> Result<Option<u64>, Fail> {
     if word == "none" {
         return Ok(None);
     }
-    Ok(Some(id_of(word)?))
+    Ok(Some(number(word)?))
 }
 
 pub fn known_of(alloc: Global, rest: &str) -> Result<Vec<Known>, Fail> {
@@ -40,7 +37,7 @@ pub fn known_of(alloc: Global, rest: &str) -> Result<Vec<Known>, Fail> {
         let (name, after) = cut(word, ':');
         known.push(Known {
             bucket: Text::from_str(alloc, name)?,
-            after: OpId(id_of(after)?),
+            after: OpId(number(after)?),
         })?;
     }
     Ok(known)
@@ -53,8 +50,8 @@ fn bucket_of(alloc: Global, word: &str) -> Result<TakenBucket, Fail> {
     Ok(TakenBucket {
         name: Text::from_str(alloc, name)?,
         sum: Sum(sum.parse::<u32>()?),
-        count: id_of(count)?,
-        newest: OpId(id_of(newest)?),
+        count: number(count)?,
+        newest: OpId(number(newest)?),
     })
 }
 
@@ -71,13 +68,13 @@ pub fn taken_of(alloc: Global, rest: &str) -> Result<Taken, Fail> {
     let (head, rest) = cut(rest, ' ');
     let (feed, rest) = cut(rest, ' ');
     let (op, rest) = cut(rest, ' ');
-    let (number, rest) = cut(rest, ' ');
+    let (covered, rest) = cut(rest, ' ');
     Ok(Taken {
-        position: Position(id_of(position)?),
-        head: Position(id_of(head)?),
+        position: Position(number(position)?),
+        head: Position(number(head)?),
         closed: feed == "closed",
-        last_op: OpId(id_of(op)?),
-        number: number_or_none(number)?,
+        last_op: OpId(number(op)?),
+        number: number_or_none(covered)?,
         buckets: Items::from_vec(buckets_of(alloc, rest)?),
     })
 }
@@ -87,7 +84,7 @@ pub fn ops_of(alloc: Global, rest: &str) -> Result<Vec<Op>, Fail> {
     let mut ops = Vec::new(alloc);
     'words: for word in rest.split_whitespace() {
         let (id, sum) = cut(word, ':');
-        let id = OpId(id_of(id)?);
+        let id = OpId(number(id)?);
         ops.push(Op::Move {
             id,
             sum: Sum(sum.parse::<u32>()?),

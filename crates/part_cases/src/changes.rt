@@ -1,0 +1,29 @@
+//! Changes, as they are printed.
+
+use ps_rows::{Change, Row};
+use ps_values::{Memory, Value};
+
+/// What a change does, its table and its id, and the columns of its row; behind the name of a null stands `null`.
+pub fn write_change(out: &mut String, change: &Change, null: &str) -> Result<(), Memory> {
+    let (table, id) = (change.table.as_str(), change.id.as_str());
+    match &change.row {
+        Some(row) => {
+            write!(out, " put {table} {id}")?;
+            write_row(out, row, null)
+        }
+        None => Ok(write!(out, " delete {table} {id}")?),
+    }
+}
+
+fn write_row(out: &mut String, row: &Row, null: &str) -> Result<(), Memory> {
+    'columns: for column in row.columns() {
+        let name = column.name.as_str();
+        let written = match &column.value {
+            Value::Null => write!(out, " {name}{null}"),
+            Value::Int(number) => write!(out, " {name}={number}"),
+            Value::Text(text) => write!(out, " {name}='{}'", text.as_str()),
+        };
+        written?;
+    }
+    Ok(())
+}
