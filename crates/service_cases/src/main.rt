@@ -1,4 +1,5 @@
-//! Answers the lines of its standard input: texts are made by some, and each of the others is a case of the upper crates.
+//! Answers the cases of its standard input: behind a heading, `== PART`, each line is a case of that part, and the head of the part's module
+//! says what it may be. A heading is printed as it stands.
 #![tactic(auto)]
 
 mod chance;
@@ -6,95 +7,37 @@ mod commands;
 mod granting;
 mod lines;
 mod lookups;
+mod over_texts;
 mod placing;
 mod reading;
+mod replaying;
+mod serving;
 mod storing;
 mod texts;
 mod turns;
 
-use case_words::{Stop, cut};
-use std::alloc::Global;
-use std::thread;
-use texts::Texts;
+use case_words::Stop;
+use std::{io, thread};
 
 // That of the program: reading, checking and dropping a hostile file may nest as deep as it is long.
 const STACK: usize = 1610612736;
 
-// Cases of commands; false where the word begins none.
-fn answer_command(
-    alloc: Global,
-    texts: &Texts,
-    word: &str,
-    rest: &str,
-    out: &mut String,
-) -> Result<bool, Stop> {
-    let answered = match word {
-        "run" => commands::write_run(alloc, texts, rest, out),
-        "count" => commands::write_count(alloc, texts, rest, out),
-        "unread" => commands::write_unread(alloc, texts, rest, out),
-        "unwritten" => commands::write_unwritten(alloc, texts, rest, out),
-        "chance" => chance::write_tries(alloc, rest, out),
-        _ => return Ok(false),
-    };
-    answered?;
-    Ok(true)
-}
-
-// Cases of the crates below.
-fn answer_part(
-    alloc: Global,
-    texts: &Texts,
-    word: &str,
-    rest: &str,
-    out: &mut String,
-) -> Result<bool, Stop> {
-    let answered = match word {
-        "entries" => placing::write_entries(alloc, texts, rest, out),
-        "wide" => placing::write_wide(alloc, texts, rest, out),
-        "name" => placing::write_name(alloc, rest, out),
-        "memory" => placing::write_memory(out),
-        "due" => granting::write_due(alloc, texts, rest, out),
-        "copies" => granting::write_copies(alloc, texts, rest, out),
-        "names" => lookups::write_names(alloc, texts, rest, out),
-        "written" => storing::write_written(alloc, texts, rest, out),
-        "at-once" => storing::write_at_once(alloc, texts, rest, out),
-        "lines" => lines::write_lines(alloc, texts, rest, out),
-        "line-end" => lines::write_line_end(alloc, texts, rest, out),
-        "sent" => lines::write_sent(alloc, texts, rest, out),
-        _ => return Ok(false),
-    };
-    answered?;
-    Ok(true)
-}
-
-// Answers a line, or takes what it adds to a text. Lines that begin with `-` say what follows.
-fn answer(alloc: Global, texts: &mut Texts, line: &str, out: &mut String) -> Result<(), Stop> {
-    if line.is_empty() || texts.add(line)? {
-        return Ok(());
-    }
-    let (word, rest) = cut(line);
-    if word == "text" {
-        return texts.begin(alloc, rest);
-    }
-    if word == "-" {
-        return Ok(write!(out, "{line}\n")?);
-    }
-    if answer_command(alloc, texts, word, rest, out)?
-        || answer_part(alloc, texts, word, rest, out)?
-    {
-        Ok(out.push_str("\n")?)
-    } else {
-        Err("no such case".into())
+fn answer_part(rt: &HostRuntime, part: &str, cases: &str) -> Result<(), Stop> {
+    match part {
+        "texts" => over_texts::answer_all(rt, cases),
+        "connections" => serving::answer_all(rt, cases),
+        "replays" => replaying::answer_all(rt, cases),
+        _ => Err("no such part".into()),
     }
 }
 
 fn answer_all(rt: &HostRuntime) -> Result<(), Stop> {
-    let mut texts = Texts::new(rt.alloc());
-    'lines: for line in rt.lines(rt.alloc()) {
-        let line = line?;
-        let mut out = String::new(rt.alloc());
-        answer(rt.alloc(), &mut texts, line.as_str(), &mut out)?;
-        print!(rt; "{}", out.as_str())?;
+    let text = io::read_to_string(rt.alloc(), rt.reader())?;
+    let parts = text.as_str().strip_prefix("== ").ok_or("no heading")?;
+    'parts: for part in parts.split("\n== ") {
+        let (part, cases) = part.split_once('\n').unwrap_or((part, ""));
+        println!(rt; "== {part}")?;
+        answer_part(rt, part, cases)?;
     }
     Ok(())
 }

@@ -1,0 +1,37 @@
+//! Each line names a first number and how many scripts by chance are to be played: `streams SEED COUNT`, and `uploads SEED COUNT` with local
+//! writes, uploads and numbers. At each checkpoint that a client applies, the rows that it shows are those that the definitions grant.
+
+mod beside;
+mod chance;
+mod changes;
+mod counting;
+mod playing;
+mod readers;
+mod scripts;
+mod stages;
+mod stops;
+
+use std::alloc::Global;
+use stops::Stop;
+
+fn answer(alloc: Global, line: &str, out: &mut String) -> Result<(), Stop> {
+    match line.split_once(' ') {
+        Some(("streams", words)) => counting::write_scripts(alloc, words, false, out),
+        Some(("uploads", words)) => counting::write_scripts(alloc, words, true, out),
+        _ => Err(Stop::Broken),
+    }
+}
+
+fn answer_lines(rt: &HostRuntime, cases: &str) -> Result<(), Stop> {
+    'lines: for line in cases.lines() {
+        let mut out = String::new(rt.alloc());
+        answer(rt.alloc(), line, &mut out)?;
+        println!(rt; "{}", out.as_str())?;
+    }
+    Ok(())
+}
+
+/// Answers the cases.
+pub fn answer_all(rt: &HostRuntime, cases: &str) -> Result<(), case_words::Stop> {
+    Ok(answer_lines(rt, cases).ok().ok_or("a line has no answer")?)
+}
