@@ -1,3 +1,5 @@
 pub mod Left
 pub mod Orders
+pub mod Rising
 pub mod Steps
+pub mod Together

@@ -2,6 +2,7 @@
 //! says what it may be. A heading is printed as it stands.
 #![tactic(auto)]
 
+mod base;
 mod changes;
 mod clients;
 mod compaction;
@@ -26,6 +27,7 @@ fn answer_part(rt: HostRuntime, part: &str, cases: &str, out: &mut String) -> Re
         "requests" => requests::answer_all(rt, cases, out),
         "sessions" => sessions::answer_all(rt, cases, out),
         "clients" => clients::answer_all(rt, cases, out),
+        "base" => base::answer_all(rt, cases, out),
         _ => Err("no such part".into()),
     }
 }

@@ -1,12 +1,8 @@
 //! The words of a line.
 
+use crate::lines::number;
 use std::alloc::Global;
 use std::test::Fail;
-
-/// A number.
-pub fn number(word: &str) -> Result<u64, Fail> {
-    Ok(word.parse::<u64>()?)
-}
 
 /// The numbers between commas; none for `-`.
 pub fn numbers(alloc: Global, word: &str) -> Result<Vec<u64>, Fail> {

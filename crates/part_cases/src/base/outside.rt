@@ -1,6 +1,7 @@
 //! Files and sinks, in memory and in the system.
 
-use crate::words::{number, numbers};
+use crate::base::words::numbers;
+use crate::lines::number;
 use case_words::cut;
 use ps_checksum::first_four;
 use ps_io::{

@@ -1,5 +1,5 @@
-//! Answers the lines of its standard input: each is a case of the lower crates, and its answer a line.
-#![tactic(auto)]
+//! Cases of the lower crates: values, numbers and JSON, sums, logs and what clients keep of them, files and sinks. Each line is a case, and its
+//! first word says of what.
 
 mod clients;
 mod logs;
@@ -8,6 +8,7 @@ mod sums;
 mod values;
 mod words;
 
+use crate::lines::print_line;
 use case_words::cut;
 use std::alloc::Global;
 use std::test::Fail;
@@ -100,12 +101,11 @@ fn answer(rt: &HostRuntime, line: &str, out: &mut String) -> Result<(), Fail> {
     }
 }
 
-fn main(rt: HostRuntime) -> Result<(), Fail> {
-    'lines: for line in rt.lines(rt.alloc()) {
-        let line = line?;
-        let mut out = String::new(rt.alloc());
-        answer(&rt, line.as_str(), &mut out)?;
-        println!(rt; "{}", out.as_str())?;
+/// Answers the cases.
+pub fn answer_all(rt: HostRuntime, cases: &str, out: &mut String) -> Result<(), Fail> {
+    'lines: for line in cases.lines() {
+        answer(&rt, line, out)?;
+        print_line(rt, out)?;
     }
     Ok(())
 }

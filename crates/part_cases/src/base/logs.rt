@@ -4,7 +4,7 @@ ghost use Rattle.std.specs.Prelude.{◌≡◌, false, IfOk};
 ghost use Rattle.ps_bucket_log.specs.Ops.{id_of, is_clear, newest};
 ghost use Rattle.ps_bucket_log.specs.Logs.{IsLog};
 
-use crate::words::number;
+use crate::lines::number;
 use case_words::cut;
 use ps_bucket_log::{
     Batch, BucketLog, Key, Log, Op, batches_are_the_log, batches_keep_readers_honest,

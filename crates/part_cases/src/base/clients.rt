@@ -6,7 +6,7 @@ ghost use Rattle.ps_client_log.specs.Kept.{Kept};
 ghost use Rattle.ps_client_log.specs.Soundness.{IsSound, same_row};
 ghost use Rattle.ps_client_log.specs.Edits.{CanTake, CanMakeAll};
 
-use crate::words::number;
+use crate::lines::number;
 use ps_bucket_log::{Key, Op};
 use ps_checksum::Sum;
 use ps_client_log::{

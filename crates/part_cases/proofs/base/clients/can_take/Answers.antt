@@ -1,7 +1,7 @@
 use Rattle.std.proofs.Common.{◌≡◌, ◌<◌, ◌∙◌, length, take, sym, arith, rules}
 use Rattle.ps_bucket_log.specs.Ops.{id_of}
-use Rattle.base_cases.proofs.Rising.{last_of, take_rising}
-use Rattle.base_cases.proofs.clients.can_take.Goals as goal
+use Rattle.part_cases.proofs.Rising.{last_of, take_rising}
+use Rattle.part_cases.proofs.base.clients.can_take.Goals as goal
 
 pub ops-preserved : goal.ops-preserved
 ops-preserved c =

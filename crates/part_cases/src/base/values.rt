@@ -1,6 +1,6 @@
 //! Values, numbers and JSON.
 
-use crate::words::bytes;
+use crate::base::words::bytes;
 use case_words::cut;
 use ps_values::{
     Boxed, Column, Items, Text, TextFault, Truth, Value, ValueFault, compare,
