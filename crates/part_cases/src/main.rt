@@ -9,13 +9,18 @@ mod compaction;
 mod lines;
 mod made;
 mod numbers;
+mod readers;
 mod requests;
 mod scripts;
 mod sessions;
 mod tokens;
 
-use std::io;
+use std::process::{ExitCode, Termination};
 use std::test::Fail;
+use std::{io, thread};
+
+// Half a gibibyte more than that of `powersync`: the cases of readers nest deep, and another compiler may make larger frames.
+const STACK: usize = 2147483648;
 
 fn answer_part(rt: HostRuntime, part: &str, cases: &str, out: &mut String) -> Result<(), Fail> {
     match part {
@@ -28,6 +33,7 @@ fn answer_part(rt: HostRuntime, part: &str, cases: &str, out: &mut String) -> Re
         "sessions" => sessions::answer_all(rt, cases, out),
         "clients" => clients::answer_all(rt, cases, out),
         "base" => base::answer_all(rt, cases, out),
+        "readers" => readers::answer_all(rt, cases, out),
         _ => Err("no such part".into()),
     }
 }
@@ -42,8 +48,18 @@ fn answer_all(rt: HostRuntime, text: &str, out: &mut String) -> Result<(), Fail>
     Ok(())
 }
 
-fn main(rt: HostRuntime) -> Result<(), Fail> {
+fn answer_input(rt: HostRuntime) -> Result<(), Fail> {
     let text = io::read_to_string(rt.alloc(), rt.reader())?;
     let mut out = String::new(rt.alloc());
     answer_all(rt, text.as_str(), &mut out)
+}
+
+fn main(rt: HostRuntime) -> Result<ExitCode, &'static str> {
+    match thread::Builder::new()
+        .stack_size(STACK)
+        .spawn(&rt, move || answer_input(rt).report(&rt))
+    {
+        Ok(handle) => Ok(handle.join(&rt)),
+        Err(_) => Err("no thread"),
+    }
 }

@@ -1,18 +1,32 @@
-//! Answers the lines of its standard input: each is a case of threads that share a store.
+//! Answers the lines of its standard input: each is a case of seats at a lock, most in threads, round a store, a counter or a diary.
 //!
-//! `seats` has a first seat feed a transaction, and says what a second one has seen before its turn and after it, and what a store is then kept. `alone COUNT
+//! Of stores: `seats` has a first seat feed a transaction, and says what a second one has seen before its turn and after it, and what a store is then kept. `alone COUNT
 //! LIMIT` feeds so many made transactions, writes them in batches and commits, all by one seat, and says what is counted then; `four COUNT LIMIT` does the same by
 //! the turns of four threads. `requests` has one seat upload a change, ask for two numbers of a client, close the feed and upload once more, and says what each
-//! call answers and how many events the seat has seen. A line that begins with `#` is a heading.
+//! call answers and how many events the seat has seen.
+//!
+//! Of the counters and diaries of `lock_tests`: `counter sees MOST AMOUNT` has a first seat add the amount to a counter that does not pass MOST, and says whether it
+//! did, what it and a second one have seen then, what the second has seen after a turn of its own, and what is kept; `counter four MOST TIMES` has four threads add
+//! 1 so many times each; `counter fits MOST ONE TWO` adds both amounts by one seat, and `counter adds MOST ONE TWO` by two threads; `counter joins MOST ONE TWO`
+//! joins a second seat into the first after the first has added ONE, and again after a new second one has added TWO, and says what is seen after each. `diary NUMBER
+//! TEXT` notes the number, remarks the text, and says what is seen and which numbers are kept.
+//!
+//! `turns SEATS TURNS` takes so many turns of each seat at a lock round a counter, all seats at once, each in a thread of its own; `wait SEATS MILLISECONDS` has one
+//! seat sleep so long in its turn while the others wait, and then lets each have one turn. Both say what was counted, and `bench/lock` times them. A line that begins
+//! with `#` is a heading.
 #![tactic(auto)]
 
+mod counters;
+mod diaries;
 mod stores;
 mod threads;
+mod turns;
 
 use std::alloc::Global;
 use std::sync::Wait;
 use std::test::Fail;
 use std::thread::Threads;
+use std::time::Clock;
 
 // The first word, and what stands behind the space after it.
 fn cut(line: &str) -> (&str, &str) {
@@ -40,21 +54,30 @@ fn write_counts<R: Threads + Wait + Sync>(
     stores::write_store(alloc, &store, out)
 }
 
+fn write_answer<R: Threads + Wait + Clock + Sync>(
+    rt: &R,
+    alloc: Global,
+    line: &str,
+    out: &mut String,
+) -> Result<(), Fail> {
+    let (word, rest) = cut(line);
+    match word {
+        "seats" => threads::write_seats(rt, alloc, out),
+        "requests" => threads::write_requests(rt, alloc, out),
+        "four" | "alone" => write_counts(rt, alloc, word, rest, out),
+        "counter" => counters::write_case(rt, alloc, rest, out),
+        "diary" => diaries::write_diary(rt, alloc, rest, out),
+        "turns" | "wait" => turns::write_count(rt, alloc, word, rest, out),
+        _ => Ok(out.push_str(line)?),
+    }
+}
+
 fn main(rt: HostRuntime) -> Result<(), Fail> {
     let alloc = rt.alloc();
     'lines: for line in rt.lines(alloc) {
         let line = line?;
         let mut out = String::new(alloc);
-        let (word, rest) = cut(line.as_str());
-        if word == "seats" {
-            threads::write_seats(&rt, alloc, &mut out)?;
-        } else if word == "requests" {
-            threads::write_requests(&rt, alloc, &mut out)?;
-        } else if word == "four" || word == "alone" {
-            write_counts(&rt, alloc, word, rest, &mut out)?;
-        } else {
-            out.push_str(line.as_str())?;
-        }
+        write_answer(&rt, alloc, line.as_str(), &mut out)?;
         println!(rt; "{}", out.as_str())?;
     }
     Ok(())

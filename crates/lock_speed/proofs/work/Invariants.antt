@@ -1,5 +1,0 @@
-use Rattle.ps_lock.specs.Words.{IsSeatOf}
-use Rattle.lock_speed.proofs.work.Given as goal
-
-abbrev pub invariant-turns : goal.invariant-turns
-invariant-turns g l = IsSeatOf l.lock l.seat

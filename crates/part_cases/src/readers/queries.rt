@@ -1,0 +1,115 @@
+use crate::readers::expressions::{show_condition, show_fault};
+use ps_queries::{DataQuery, Expr, Output, ParameterQuery};
+use ps_sql::{SqlFault, Token, TokenKind, read_data_query, read_parameter_query, tokens};
+use ps_values::{Memory, Text};
+use std::alloc::{AllocError, Global};
+
+/// The text of bytes; of what is no UTF-8, that it is not.
+pub fn text_of(alloc: Global, bytes: &[u8]) -> Result<Text, Memory> {
+    match Text::from_bytes(alloc, bytes) {
+        Ok(text) => Ok(text),
+        Err(_) => Text::from_str(alloc, "not UTF-8"),
+    }
+}
+
+/// What a data query is read as: whether it has `*`, its outputs, its table, its kind and its condition.
+pub fn data_query(alloc: Global, bytes: &[u8]) -> Result<String, Memory> {
+    let mut out = String::new(alloc);
+    let text = text_of(alloc, bytes)?;
+    if text.bytes().len() >= 4294967295 {
+        return Ok(out);
+    }
+    match read_data_query(alloc, &text) {
+        Ok(query) => show_data(&mut out, &query)?,
+        Err(fault) => show_fault(&mut out, &fault)?,
+    }
+    Ok(out)
+}
+
+fn show_data(out: &mut String, query: &DataQuery) -> Result<(), AllocError> {
+    write!(out, "{} ", query.star)?;
+    show_outputs(out, query.outputs.as_slice())?;
+    write!(out, "{} {} ", query.table.as_str(), query.kind.as_str())?;
+    show_condition(out, &query.condition)
+}
+
+fn show_outputs(out: &mut String, outputs: &[Output]) -> Result<(), AllocError> {
+    'outputs: for output in outputs {
+        write!(out, "{}=", output.name.as_str())?;
+        crate::readers::expressions::show(out, &output.expr)?;
+        out.push(' ')?;
+    }
+    Ok(())
+}
+
+/// What a parameter query is read as: its outputs, its table or `-`, and its condition.
+pub fn parameter_query(alloc: Global, bytes: &[u8]) -> Result<String, Memory> {
+    let mut out = String::new(alloc);
+    let text = text_of(alloc, bytes)?;
+    if text.bytes().len() >= 4294967295 {
+        return Ok(out);
+    }
+    match read_parameter_query(alloc, &text) {
+        Ok(query) => show_parameter(&mut out, &query)?,
+        Err(fault) => show_fault(&mut out, &fault)?,
+    }
+    Ok(out)
+}
+
+fn show_parameter(out: &mut String, query: &ParameterQuery) -> Result<(), AllocError> {
+    show_outputs(out, query.outputs.as_slice())?;
+    match &query.table {
+        Some(table) => write!(out, "{} ", table.as_str())?,
+        None => out.push_str("- ")?,
+    }
+    show_condition(out, &query.condition)
+}
+
+/// A copy of a data query's condition.
+pub fn copied(alloc: Global, bytes: &[u8]) -> Result<String, Memory> {
+    let mut out = String::new(alloc);
+    let text = text_of(alloc, bytes)?;
+    if text.bytes().len() >= 4294967295 {
+        return Ok(out);
+    }
+    match copied_condition(alloc, &text) {
+        Ok(condition) => show_condition(&mut out, &condition)?,
+        Err(fault) => show_fault(&mut out, &fault)?,
+    }
+    Ok(out)
+}
+
+// The copy, which outlives its query.
+fn copied_condition(alloc: Global, text: &Text) -> Result<Option<Expr>, SqlFault> {
+    if text.bytes().len() >= 4294967295 {
+        return Ok(None);
+    }
+    let query = read_data_query(alloc, text)?;
+    match &query.condition {
+        Some(condition) => Ok(Some(condition.copy(alloc)?)),
+        None => Ok(None),
+    }
+}
+
+/// The tokens of a text: how many there are, and each one's kind and the places where it begins and ends.
+pub fn token_places(alloc: Global, bytes: &[u8]) -> Result<String, Memory> {
+    let mut out = String::new(alloc);
+    let text = text_of(alloc, bytes)?;
+    if text.bytes().len() >= 4294967295 {
+        return Ok(out);
+    }
+    match tokens(alloc, &text) {
+        Ok(tokens) => show_tokens(&mut out, tokens.as_slice())?,
+        Err(fault) => show_fault(&mut out, &fault)?,
+    }
+    Ok(out)
+}
+
+fn show_tokens(out: &mut String, tokens: &[Token]) -> Result<(), AllocError> {
+    write!(out, "{}", tokens.len())?;
+    'tokens: for token in tokens {
+        let (kind, from, upto) = (token.kind, token.from, token.upto);
+        write!(out, " {kind:?} {from}-{upto}")?;
+    }
+    Ok(())
+}

@@ -1,0 +1,10 @@
+-- A store that was made and changed by its calls alone.
+use Rattle.std.specs.Prelude.{List}
+use Rattle.ps_store.specs.declared.events.Event.{Event}
+use Rattle.ps_store.specs.declared.fixed.Fixed.{Fixed}
+use Rattle.ps_store.specs.declared.stores.Store.{Store}
+use Rattle.ps_store.specs.Stores.{StoreStandsFor}
+
+-- it stands for some history
+abbrev pub HasHistory : Store → Type 0
+HasHistory store = (fixed : Fixed) × (history : List Event) × StoreStandsFor fixed store history

@@ -1,6 +1,0 @@
-use Rattle.store_cases.specs.Standing.{IsStore}
-use Rattle.store_cases.proofs.answer_all.Given as goal
-
--- the store stays one
-abbrev pub invariant-lines : goal.invariant-lines
-invariant-lines l = IsStore l.store

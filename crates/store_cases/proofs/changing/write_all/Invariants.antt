@@ -1,6 +1,0 @@
-use Rattle.store_cases.specs.Standing.{IsStore}
-use Rattle.store_cases.proofs.changing.write_all.Given as goal
-
--- the store stays one
-abbrev pub invariant-batches : goal.invariant-batches
-invariant-batches l = IsStore l.store

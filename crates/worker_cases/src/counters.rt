@@ -1,0 +1,170 @@
+//! Counters under a lock, as `lock_tests` has them.
+
+ghost use Rattle.std.specs.Prelude.{IfOk};
+ghost use Rattle.ps_lock.specs.Words.{IsSeatOf};
+
+use crate::cut;
+use lock_tests::{Counter, add, add_by_four, added_by_two, refreshed};
+use ps_lock::{Seat, StoreLock, open_lock};
+use std::alloc::Global;
+use std::sync::Wait;
+use std::test::Fail;
+use std::thread::Threads;
+
+// A lock round a counter with nothing added, and its first seat.
+fn made_counter(alloc: Global, most: u64) -> Result<(StoreLock<Counter>, Seat<Counter>), Fail>
+    ensures { IfOk result (λ r. IsSeatOf r.0 r.1) }
+{
+    Ok(
+        open_lock(alloc, Counter { most, total: 0 })
+            .ok()
+            .ok_or("no memory")?,
+    )
+}
+
+fn yes_or_no(is: bool) -> &'static str {
+    if is { "yes" } else { "no" }
+}
+
+// What a first seat and a second have seen once the first has added the amount, what the second has seen after a turn that adds nothing, and what is kept.
+fn write_sees<R: Wait>(
+    rt: &R,
+    alloc: Global,
+    most: u64,
+    amount: u64,
+    out: &mut String,
+) -> Result<(), Fail> {
+    let (lock, mut first) = made_counter(alloc, most)?;
+    let second = lock.split(&mut first)?;
+    let (first, added) = add(rt, &lock, first, amount);
+    let (one, before) = (first.seen(), second.seen());
+    let after = refreshed(rt, &lock, second).seen();
+    let counter = lock.turn(rt, first).keep();
+    write!(
+        out,
+        "added {}, seen {one} and {before}, then {after}, kept {} of {}",
+        yes_or_no(added),
+        counter.total,
+        counter.most
+    )?;
+    Ok(())
+}
+
+// What is seen and kept after four threads have added 1 so many times each.
+fn write_four<R: Threads + Wait + Sync>(
+    rt: &R,
+    alloc: Global,
+    most: u64,
+    times: u32,
+    out: &mut String,
+) -> Result<(), Fail> {
+    let (lock, seat) = made_counter(alloc, most)?;
+    let seat = add_by_four(rt, &lock, seat, times).ok_or("no memory")?;
+    let seat = refreshed(rt, &lock, seat);
+    let seen = seat.seen();
+    let counter = lock.turn(rt, seat).keep();
+    write!(out, "seen {seen}, kept {}", counter.total)?;
+    Ok(())
+}
+
+// Which of two amounts one seat has added, and what it has seen.
+fn write_fits<R: Wait>(
+    rt: &R,
+    alloc: Global,
+    most: u64,
+    amounts: (u64, u64),
+    out: &mut String,
+) -> Result<(), Fail> {
+    let (lock, seat) = made_counter(alloc, most)?;
+    let (seat, first) = add(rt, &lock, seat, amounts.0);
+    let (seat, second) = add(rt, &lock, seat, amounts.1);
+    write!(
+        out,
+        "added {} and {}, seen {}",
+        yes_or_no(first),
+        yes_or_no(second),
+        seat.seen()
+    )?;
+    Ok(())
+}
+
+// What a first seat has seen after it has added an amount and a second one was joined in; what it and a new second one have seen after that one has added
+// another; and what it has seen after that one was joined in.
+fn write_joins<R: Wait>(
+    rt: &R,
+    alloc: Global,
+    most: u64,
+    amounts: (u64, u64),
+    out: &mut String,
+) -> Result<(), Fail> {
+    let (lock, mut first) = made_counter(alloc, most)?;
+    let second = lock.split(&mut first)?;
+    let (mut first, _) = add(rt, &lock, first, amounts.0);
+    lock.join_in(&mut first, second);
+    let joined = first.seen();
+    let second = lock.split(&mut first)?;
+    let (second, _) = add(rt, &lock, second, amounts.1);
+    let (one, two) = (first.seen(), second.seen());
+    lock.join_in(&mut first, second);
+    write!(
+        out,
+        "seen {joined}, then {one} and {two}, then {}",
+        first.seen()
+    )?;
+    Ok(())
+}
+
+// Which of two amounts two threads have added, and what is kept.
+fn write_adds<R: Threads + Wait + Sync>(
+    rt: &R,
+    alloc: Global,
+    most: u64,
+    amounts: (u64, u64),
+    out: &mut String,
+) -> Result<(), Fail> {
+    let (counter, first, second) = added_by_two(rt, alloc, most, amounts.0, amounts.1).ok_or(
+        "no memory",
+    )?;
+    write!(
+        out,
+        "added {} and {}, kept {}",
+        yes_or_no(first),
+        yes_or_no(second),
+        counter.total
+    )?;
+    Ok(())
+}
+
+fn write_two<R: Threads + Wait + Sync>(
+    rt: &R,
+    alloc: Global,
+    word: &str,
+    most: u64,
+    rest: &str,
+    out: &mut String,
+) -> Result<(), Fail> {
+    let (one, two) = cut(rest);
+    let amounts = (one.parse::<u64>()?, two.parse::<u64>()?);
+    match word {
+        "fits" => write_fits(rt, alloc, most, amounts, out),
+        "joins" => write_joins(rt, alloc, most, amounts, out),
+        _ => write_adds(rt, alloc, most, amounts, out),
+    }
+}
+
+/// Answers a case of a counter that does not pass a number.
+pub fn write_case<R: Threads + Wait + Sync>(
+    rt: &R,
+    alloc: Global,
+    rest: &str,
+    out: &mut String,
+) -> Result<(), Fail> {
+    let (word, rest) = cut(rest);
+    let (most, rest) = cut(rest);
+    let most = most.parse::<u64>()?;
+    match word {
+        "sees" => write_sees(rt, alloc, most, rest.parse::<u64>()?, out),
+        "four" => write_four(rt, alloc, most, rest.parse::<u32>()?, out),
+        _ => write_two(rt, alloc, word, most, rest, out),
+    }
+}
