@@ -9,12 +9,11 @@ mod values;
 mod words;
 
 use crate::lines::print_line;
-use case_words::cut;
+use case_words::{Stop, cut};
 use std::alloc::Global;
-use std::test::Fail;
 
 // Cases of values, numbers and JSON; false where the word begins none.
-fn answer_value(alloc: Global, word: &str, rest: &str, out: &mut String) -> Result<bool, Fail> {
+fn answer_value(alloc: Global, word: &str, rest: &str, out: &mut String) -> Result<bool, Stop> {
     let written = match word {
         "quoted" => values::write_quoted(alloc, rest.as_bytes(), out),
         "quoted-bytes" => {
@@ -47,7 +46,7 @@ fn answer_value(alloc: Global, word: &str, rest: &str, out: &mut String) -> Resu
 }
 
 // Cases of sums and logs.
-fn answer_log(alloc: Global, word: &str, rest: &str, out: &mut String) -> Result<bool, Fail> {
+fn answer_log(alloc: Global, word: &str, rest: &str, out: &mut String) -> Result<bool, Stop> {
     let written = match word {
         "add" => sums::write_added(rest, out),
         "first-four" => sums::write_first_four(rest, out),
@@ -66,7 +65,7 @@ fn answer_log(alloc: Global, word: &str, rest: &str, out: &mut String) -> Result
 }
 
 // Cases of files and sinks.
-fn answer_io(rt: &HostRuntime, word: &str, rest: &str, out: &mut String) -> Result<bool, Fail> {
+fn answer_io(rt: &HostRuntime, word: &str, rest: &str, out: &mut String) -> Result<bool, Stop> {
     let written = match word {
         "memory-files" => outside::write_of_memory(rt.alloc(), rest, out),
         "sure-files" => outside::write_of_sure(rt.alloc(), rest, out),
@@ -80,7 +79,7 @@ fn answer_io(rt: &HostRuntime, word: &str, rest: &str, out: &mut String) -> Resu
 }
 
 // Calls the laws, which do nothing.
-fn call_laws(out: &mut String) -> Result<bool, Fail> {
+fn call_laws(out: &mut String) -> Result<bool, Stop> {
     values::call_laws();
     sums::call_law();
     logs::call_laws();
@@ -88,7 +87,7 @@ fn call_laws(out: &mut String) -> Result<bool, Fail> {
     Ok(true)
 }
 
-fn answer(rt: &HostRuntime, line: &str, out: &mut String) -> Result<(), Fail> {
+fn answer(rt: &HostRuntime, line: &str, out: &mut String) -> Result<(), Stop> {
     let (word, rest) = cut(line);
     let is_answered = answer_value(rt.alloc(), word, rest, out)?
         || answer_log(rt.alloc(), word, rest, out)?
@@ -102,7 +101,7 @@ fn answer(rt: &HostRuntime, line: &str, out: &mut String) -> Result<(), Fail> {
 }
 
 /// Answers the cases.
-pub fn answer_all(rt: HostRuntime, cases: &str, out: &mut String) -> Result<(), Fail> {
+pub fn answer_all(rt: HostRuntime, cases: &str, out: &mut String) -> Result<(), Stop> {
     'lines: for line in cases.lines() {
         answer(&rt, line, out)?;
         print_line(rt, out)?;

@@ -11,15 +11,14 @@ mod locals;
 mod streams;
 
 use crate::lines::print_line;
-use case_words::cut;
+use case_words::{Stop, cut};
 use ps_client::Client;
 use ps_client_log::{KeepFault, MemoryKeeper};
 use ps_values::{Items, Text};
 use std::alloc::Global;
-use std::test::Fail;
 
 // The numbers between commas; none for `-`.
-fn numbers(alloc: Global, word: &str) -> Result<Items<u64>, Fail> {
+fn numbers(alloc: Global, word: &str) -> Result<Items<u64>, Stop> {
     let mut all = Items::new(alloc);
     if word == "-" {
         return Ok(all);
@@ -48,7 +47,7 @@ fn open(
 fn reopened(
     alloc: Global,
     keeper: Option<MemoryKeeper>,
-) -> Result<Option<Client<MemoryKeeper>>, Fail> {
+) -> Result<Option<Client<MemoryKeeper>>, Stop> {
     match open(alloc, keeper) {
         Ok(client) => Ok(Some(client)),
         Err(_) => Err("the keeper failed twice, or there is no memory".into()),
@@ -60,7 +59,7 @@ fn opened(
     alloc: Global,
     keeper: Option<MemoryKeeper>,
     out: &mut String,
-) -> Result<Option<Client<MemoryKeeper>>, Fail> {
+) -> Result<Option<Client<MemoryKeeper>>, Stop> {
     match open(alloc, keeper) {
         Ok(client) => {
             let client = Some(client);
@@ -78,7 +77,7 @@ fn begun(
     alloc: Global,
     calls: &str,
     out: &mut String,
-) -> Result<Option<Client<MemoryKeeper>>, Fail> {
+) -> Result<Option<Client<MemoryKeeper>>, Stop> {
     let keeper = MemoryKeeper::new(alloc, numbers(alloc, calls)?);
     opened(alloc, Some(keeper), out)
 }
@@ -93,7 +92,7 @@ fn renew(
     client: &mut Option<Client<MemoryKeeper>>,
     calls: &str,
     out: &mut String,
-) -> Result<(), Fail> {
+) -> Result<(), Stop> {
     *client = begun(alloc, calls, out)?;
     Ok(())
 }
@@ -103,7 +102,7 @@ fn open_again(
     alloc: Global,
     client: &mut Option<Client<MemoryKeeper>>,
     out: &mut String,
-) -> Result<(), Fail> {
+) -> Result<(), Stop> {
     let keeper = closed(client.take());
     *client = opened(alloc, keeper, out)?;
     Ok(())
@@ -114,7 +113,7 @@ fn answer(
     client: &mut Client<MemoryKeeper>,
     line: &str,
     out: &mut String,
-) -> Result<(), Fail> {
+) -> Result<(), Stop> {
     let (word, rest) = cut(line);
     if streams::answer(alloc, client, word, rest, out)? {
         return Ok(());
@@ -130,7 +129,7 @@ fn answer_open(
     client: &mut Option<Client<MemoryKeeper>>,
     line: &str,
     out: &mut String,
-) -> Result<(), Fail> {
+) -> Result<(), Stop> {
     match client {
         Some(client) => answer(alloc, client, line, out),
         None => Err("no client is open".into()),
@@ -143,7 +142,7 @@ fn step(
     client: &mut Option<Client<MemoryKeeper>>,
     line: &str,
     out: &mut String,
-) -> Result<(), Fail> {
+) -> Result<(), Stop> {
     let (word, rest) = cut(line);
     match word {
         "keeper" => renew(alloc, client, rest, out),
@@ -153,7 +152,7 @@ fn step(
 }
 
 /// Answers the cases.
-pub fn answer_all(rt: HostRuntime, cases: &str, out: &mut String) -> Result<(), Fail> {
+pub fn answer_all(rt: HostRuntime, cases: &str, out: &mut String) -> Result<(), Stop> {
     let mut client = begun(rt.alloc(), "-", out)?;
     out.clear();
     'lines: for line in cases.lines() {

@@ -8,16 +8,15 @@ mod many;
 mod plain;
 
 use crate::lines::print_line;
-use case_words::cut;
+use case_words::{Stop, cut};
 use ps_compact::{
     compacted_logs_are_logs, compacted_logs_keep_readers_honest, compacted_logs_keep_sums,
     compacted_logs_stand, twice_is_once,
 };
 use std::alloc::Global;
-use std::test::Fail;
 
 // Calls the laws, which do nothing.
-fn call_laws(out: &mut String) -> Result<(), Fail> {
+fn call_laws(out: &mut String) -> Result<(), Stop> {
     compacted_logs_are_logs();
     compacted_logs_stand();
     compacted_logs_keep_sums();
@@ -26,7 +25,7 @@ fn call_laws(out: &mut String) -> Result<(), Fail> {
     Ok(out.push_str("nothing")?)
 }
 
-fn answer(alloc: Global, line: &str, out: &mut String) -> Result<(), Fail> {
+fn answer(alloc: Global, line: &str, out: &mut String) -> Result<(), Stop> {
     let (word, rest) = cut(line);
     match word {
         "log" => events::write_log(alloc, rest, out),
@@ -38,7 +37,7 @@ fn answer(alloc: Global, line: &str, out: &mut String) -> Result<(), Fail> {
 }
 
 /// Answers the cases.
-pub fn answer_all(rt: HostRuntime, cases: &str, out: &mut String) -> Result<(), Fail> {
+pub fn answer_all(rt: HostRuntime, cases: &str, out: &mut String) -> Result<(), Stop> {
     'lines: for line in cases.lines() {
         answer(rt.alloc(), line, out)?;
         print_line(rt, out)?;

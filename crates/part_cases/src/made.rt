@@ -2,11 +2,11 @@
 
 use crate::changes::write_change;
 use crate::lines::print_line;
+use case_words::Stop;
 use ps_gen::{make_input, make_rules};
 use ps_rows::Transaction;
-use std::test::Fail;
 
-fn write_transaction(out: &mut String, transaction: &Transaction) -> Result<(), Fail> {
+fn write_transaction(out: &mut String, transaction: &Transaction) -> Result<(), Stop> {
     write!(out, "{}", transaction.position.0)?;
     'changes: for change in transaction.changes.as_slice() {
         write_change(out, change, "")?;
@@ -15,7 +15,7 @@ fn write_transaction(out: &mut String, transaction: &Transaction) -> Result<(), 
 }
 
 // Prints so many transactions.
-fn print_made(rt: HostRuntime, count: u32, out: &mut String) -> Result<(), Fail> {
+fn print_made(rt: HostRuntime, count: u32, out: &mut String) -> Result<(), Stop> {
     let transactions = make_input(rt.alloc(), count)?;
     'transactions: for transaction in transactions.as_slice() {
         write_transaction(out, transaction)?;
@@ -25,7 +25,7 @@ fn print_made(rt: HostRuntime, count: u32, out: &mut String) -> Result<(), Fail>
 }
 
 /// Prints the rules, and the transactions of each line.
-pub fn answer_all(rt: HostRuntime, cases: &str, out: &mut String) -> Result<(), Fail> {
+pub fn answer_all(rt: HostRuntime, cases: &str, out: &mut String) -> Result<(), Stop> {
     let rules = make_rules(rt.alloc())?;
     print!(rt; "{}", str::from_utf8(&rules)?)?;
     'lines: for line in cases.lines() {

@@ -15,14 +15,13 @@ mod scripts;
 mod sessions;
 mod tokens;
 
-use std::process::{ExitCode, Termination};
-use std::test::Fail;
+use case_words::Stop;
 use std::{io, thread};
 
 // Half a gibibyte more than that of `powersync`: the cases of readers nest deep, and another compiler may make larger frames.
 const STACK: usize = 2147483648;
 
-fn answer_part(rt: HostRuntime, part: &str, cases: &str, out: &mut String) -> Result<(), Fail> {
+fn answer_part(rt: HostRuntime, part: &str, cases: &str, out: &mut String) -> Result<(), Stop> {
     match part {
         "compaction" => compaction::answer_all(rt, cases, out),
         "numbers" => numbers::answer_all(rt, cases, out),
@@ -38,7 +37,7 @@ fn answer_part(rt: HostRuntime, part: &str, cases: &str, out: &mut String) -> Re
     }
 }
 
-fn answer_all(rt: HostRuntime, text: &str, out: &mut String) -> Result<(), Fail> {
+fn answer_all(rt: HostRuntime, text: &str, out: &mut String) -> Result<(), Stop> {
     let parts = text.strip_prefix("== ").ok_or("no heading")?;
     'parts: for part in parts.split("\n== ") {
         let (part, cases) = part.split_once('\n').unwrap_or((part, ""));
@@ -48,18 +47,26 @@ fn answer_all(rt: HostRuntime, text: &str, out: &mut String) -> Result<(), Fail>
     Ok(())
 }
 
-fn answer_input(rt: HostRuntime) -> Result<(), Fail> {
+fn answer_input(rt: HostRuntime) -> Result<(), Stop> {
     let text = io::read_to_string(rt.alloc(), rt.reader())?;
     let mut out = String::new(rt.alloc());
     answer_all(rt, text.as_str(), &mut out)
 }
 
-fn main(rt: HostRuntime) -> Result<ExitCode, &'static str> {
-    match thread::Builder::new()
+// Whether all lines were answered.
+fn answered(rt: HostRuntime) -> bool {
+    answer_input(rt).is_ok()
+}
+
+fn main(rt: HostRuntime) -> Result<(), &'static str> {
+    let handle = thread::Builder::new()
         .stack_size(STACK)
-        .spawn(&rt, move || answer_input(rt).report(&rt))
-    {
-        Ok(handle) => Ok(handle.join(&rt)),
-        Err(_) => Err("no thread"),
+        .spawn(&rt, move || answered(rt))
+        .ok()
+        .ok_or("no thread")?;
+    if handle.join(&rt) {
+        Ok(())
+    } else {
+        Err("a line has no answer")
     }
 }

@@ -6,11 +6,10 @@
 ghost use Rattle.std.specs.Prelude.{◌≤◌};
 
 use crate::lines::print_line;
-use case_words::cut;
+use case_words::{Stop, cut};
 use ps_values::{GREATEST, Position, Text};
 use ps_write_cp::{NumberFault, WriteCheckpoints};
 use std::alloc::Global;
-use std::test::Fail;
 
 /// Numbers, and a head that none of theirs is past.
 #[derive(Drop)]
@@ -28,7 +27,7 @@ fn fresh(alloc: Global, top: u64) -> Desk {
 }
 
 // The user, the client and the number that stand in a line.
-fn words(alloc: Global, rest: &str) -> Result<(Text, Text, u64), Fail> {
+fn words(alloc: Global, rest: &str) -> Result<(Text, Text, u64), Stop> {
     let (user, rest) = cut(rest);
     let (client, number) = cut(rest);
     Ok((
@@ -38,7 +37,7 @@ fn words(alloc: Global, rest: &str) -> Result<(Text, Text, u64), Fail> {
     ))
 }
 
-fn write_number(alloc: Global, desk: &mut Desk, rest: &str, out: &mut String) -> Result<(), Fail> {
+fn write_number(alloc: Global, desk: &mut Desk, rest: &str, out: &mut String) -> Result<(), Stop> {
     let (user, client, head) = words(alloc, rest)?;
     if head < desk.head {
         return Err("the head falls".into());
@@ -52,7 +51,7 @@ fn write_number(alloc: Global, desk: &mut Desk, rest: &str, out: &mut String) ->
     Ok(())
 }
 
-fn write_covered(alloc: Global, desk: &Desk, rest: &str, out: &mut String) -> Result<(), Fail> {
+fn write_covered(alloc: Global, desk: &Desk, rest: &str, out: &mut String) -> Result<(), Stop> {
     let (user, client, position) = words(alloc, rest)?;
     match desk.numbers.covered(&user, &client, Position(position)) {
         Some(number) => write!(out, "covered {number}")?,
@@ -62,7 +61,7 @@ fn write_covered(alloc: Global, desk: &Desk, rest: &str, out: &mut String) -> Re
 }
 
 // Takes a step.
-fn answer(alloc: Global, desk: &mut Desk, line: &str, out: &mut String) -> Result<(), Fail> {
+fn answer(alloc: Global, desk: &mut Desk, line: &str, out: &mut String) -> Result<(), Stop> {
     let (word, rest) = cut(line);
     match word {
         "top" => {
@@ -76,7 +75,7 @@ fn answer(alloc: Global, desk: &mut Desk, line: &str, out: &mut String) -> Resul
 }
 
 /// Answers the cases.
-pub fn answer_all(rt: HostRuntime, cases: &str, out: &mut String) -> Result<(), Fail> {
+pub fn answer_all(rt: HostRuntime, cases: &str, out: &mut String) -> Result<(), Stop> {
     ps_write_cp::covered_is_the_greatest();
     ps_write_cp::covers_all_before();
     let mut desk = fresh(rt.alloc(), GREATEST);

@@ -16,12 +16,12 @@ mod written;
 mod yaml;
 
 use crate::lines::print_line;
+use case_words::Stop;
 use cases::push_answer;
 use evaluations::Asking;
-use std::test::Fail;
 
 /// Answers the cases.
-pub fn answer_all(rt: HostRuntime, cases: &str, out: &mut String) -> Result<(), Fail> {
+pub fn answer_all(rt: HostRuntime, cases: &str, out: &mut String) -> Result<(), Stop> {
     let mut asking = Asking::new(rt.alloc());
     'lines: for line in cases.lines() {
         push_answer(rt.alloc(), &mut asking, out, line)?;

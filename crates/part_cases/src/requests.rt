@@ -18,13 +18,12 @@ mod reading;
 mod words;
 
 use crate::lines::{number, print_line};
-use case_words::{cut, push_spelled};
+use case_words::{Stop, cut, push_spelled};
 use ps_http::query_value;
 use ps_values::Text;
 use std::alloc::Global;
-use std::test::Fail;
 
-fn write_value(alloc: Global, rest: &str, out: &mut String) -> Result<(), Fail> {
+fn write_value(alloc: Global, rest: &str, out: &mut String) -> Result<(), Stop> {
     let (name, query) = cut(rest);
     let name = Text::from_str(alloc, name)?;
     let query = Text::from_str(alloc, query)?;
@@ -39,7 +38,7 @@ fn write_value(alloc: Global, rest: &str, out: &mut String) -> Result<(), Fail> 
 }
 
 // Adds to the request; false where the word adds nothing.
-fn is_added(word: &str, rest: &str, request: &mut Vec<u8>) -> Result<bool, Fail> {
+fn is_added(word: &str, rest: &str, request: &mut Vec<u8>) -> Result<bool, Stop> {
     if word == "add" {
         push_spelled(rest, request)?;
         return Ok(true);
@@ -60,7 +59,7 @@ fn answer(
     rest: &str,
     request: &[u8],
     out: &mut String,
-) -> Result<(), Fail> {
+) -> Result<(), Stop> {
     match word {
         "head" => reading::write_head_read(alloc, request, rest, out)?,
         "body" => reading::write_body_read(alloc, request, rest, out)?,
@@ -76,7 +75,7 @@ fn answer(
 }
 
 /// Answers the cases.
-pub fn answer_all(rt: HostRuntime, cases: &str, out: &mut String) -> Result<(), Fail> {
+pub fn answer_all(rt: HostRuntime, cases: &str, out: &mut String) -> Result<(), Stop> {
     let mut request = Vec::new(rt.alloc());
     'lines: for line in cases.lines() {
         let (word, rest) = cut(line);

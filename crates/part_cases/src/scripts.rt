@@ -4,12 +4,11 @@
 mod events;
 
 use crate::lines::print_line;
-use case_words::unescaped;
+use case_words::{Stop, unescaped};
 use events::show_event;
 use ps_script::{is_skipped, read_event, split_line};
 use ps_values::Memory;
 use std::alloc::Global;
-use std::test::Fail;
 
 // What a script's line is read as.
 fn show_line(alloc: Global, out: &mut String, line: &[u8]) -> Result<(), Memory> {
@@ -36,7 +35,7 @@ fn answer(alloc: Global, out: &mut String, bytes: &[u8]) -> Result<(), Memory> {
 }
 
 /// Answers the cases.
-pub fn answer_all(rt: HostRuntime, cases: &str, out: &mut String) -> Result<(), Fail> {
+pub fn answer_all(rt: HostRuntime, cases: &str, out: &mut String) -> Result<(), Stop> {
     ps_script::events_are_spelled();
     'lines: for line in cases.lines() {
         let bytes = unescaped(rt.alloc(), line)?;

@@ -15,6 +15,7 @@ mod texts;
 ghost use Rattle.std.specs.Prelude.{◌≢◌, ◌⊎◌, [], None};
 
 use crate::lines::{number, print_line};
+use case_words::Stop;
 use names::names_rise;
 use ps_bucket_log::Batch;
 use ps_session::{Action, Session, StreamRequest};
@@ -22,7 +23,6 @@ use ps_sql_eval::Asker;
 use ps_values::{Items, OpId, Text};
 use readings::{cut, id_or_none, known_of, ops_of, taken_of};
 use std::alloc::Global;
-use std::test::Fail;
 use texts::{write_action, write_answer, write_line};
 
 fn nobody(alloc: Global) -> Asker {
@@ -34,7 +34,7 @@ fn nobody(alloc: Global) -> Asker {
     }
 }
 
-fn begin(alloc: Global, rest: &str) -> Result<Session, Fail> {
+fn begin(alloc: Global, rest: &str) -> Result<Session, Stop> {
     Ok(Session::begin(
         alloc,
         StreamRequest {
@@ -44,7 +44,7 @@ fn begin(alloc: Global, rest: &str) -> Result<Session, Fail> {
     ))
 }
 
-fn take(alloc: Global, session: &mut Session, rest: &str, out: &mut String) -> Result<(), Fail> {
+fn take(alloc: Global, session: &mut Session, rest: &str, out: &mut String) -> Result<(), Stop> {
     let taken = taken_of(alloc, rest)?;
     if !names_rise(taken.buckets.as_slice()) {
         return Err("the names do not rise".into());
@@ -55,7 +55,7 @@ fn take(alloc: Global, session: &mut Session, rest: &str, out: &mut String) -> R
     }
 }
 
-fn read(alloc: Global, session: &mut Session, batch: Batch, out: &mut String) -> Result<(), Fail>
+fn read(alloc: Global, session: &mut Session, batch: Batch, out: &mut String) -> Result<(), Stop>
     requires { (batch.ops ≢ []) ⊎ (batch.passed ≢ None) }
 {
     match session.next_action() {
@@ -69,7 +69,7 @@ fn read_ops(
     session: &mut Session,
     rest: &str,
     out: &mut String,
-) -> Result<(), Fail> {
+) -> Result<(), Stop> {
     let (more, rest) = cut(rest, ' ');
     let (target, rest) = cut(rest, ' ');
     let ops = Items::from_vec(ops_of(alloc, rest)?);
@@ -90,7 +90,7 @@ fn read_passed(
     session: &mut Session,
     rest: &str,
     out: &mut String,
-) -> Result<(), Fail> {
+) -> Result<(), Stop> {
     let batch = Batch {
         ops: Items::new(alloc),
         has_more: false,
@@ -100,14 +100,14 @@ fn read_passed(
     read(alloc, session, batch, out)
 }
 
-fn finish(session: &mut Session, out: &mut String) -> Result<(), Fail> {
+fn finish(session: &mut Session, out: &mut String) -> Result<(), Stop> {
     match session.next_action() {
         Action::Complete => write_line(&session.finish(), out),
         Action::Take | Action::Read { .. } | Action::Wait => Err("nothing is complete".into()),
     }
 }
 
-fn action(session: &Session, out: &mut String) -> Result<(), Fail> {
+fn action(session: &Session, out: &mut String) -> Result<(), Stop> {
     match session.next_action() {
         Action::Read { place, after, upto } => {
             let name = session.bucket_at(place).as_str();
@@ -119,7 +119,7 @@ fn action(session: &Session, out: &mut String) -> Result<(), Fail> {
     }
 }
 
-fn answer(alloc: Global, session: &mut Session, line: &str, out: &mut String) -> Result<(), Fail> {
+fn answer(alloc: Global, session: &mut Session, line: &str, out: &mut String) -> Result<(), Stop> {
     let (word, rest) = cut(line, ' ');
     match word {
         "#" => write_action(line, out),
@@ -145,7 +145,7 @@ fn answer(alloc: Global, session: &mut Session, line: &str, out: &mut String) ->
 }
 
 /// Answers the cases.
-pub fn answer_all(rt: HostRuntime, cases: &str, out: &mut String) -> Result<(), Fail> {
+pub fn answer_all(rt: HostRuntime, cases: &str, out: &mut String) -> Result<(), Stop> {
     let mut session = begin(rt.alloc(), "")?;
     'lines: for line in cases.lines() {
         answer(rt.alloc(), &mut session, line, out)?;

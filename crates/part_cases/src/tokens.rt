@@ -19,13 +19,12 @@
 mod words;
 
 use crate::lines::print_line;
-use case_words::cut;
+use case_words::{Stop, cut};
 use ps_token::{Claims, Keys, KeysFault, SignFault, TokenFault, mac, read_keys, sign, verify};
 use ps_values::Text;
 use std::alloc::Global;
-use std::test::Fail;
 
-fn write_mac(alloc: Global, rest: &str, out: &mut String) -> Result<(), Fail> {
+fn write_mac(alloc: Global, rest: &str, out: &mut String) -> Result<(), Stop> {
     let (key, message) = cut(rest);
     let key = words::bytes(alloc, key)?;
     let message = words::bytes(alloc, message)?;
@@ -35,7 +34,7 @@ fn write_mac(alloc: Global, rest: &str, out: &mut String) -> Result<(), Fail> {
 }
 
 // The keys of a file, which it writes one after another.
-fn write_keys(alloc: Global, rest: &str, out: &mut String) -> Result<Option<Keys>, Fail> {
+fn write_keys(alloc: Global, rest: &str, out: &mut String) -> Result<Option<Keys>, Stop> {
     let fault = match read_keys(alloc, rest.as_bytes()) {
         Ok(keys) => {
             write_list(alloc, &keys, out)?;
@@ -49,7 +48,7 @@ fn write_keys(alloc: Global, rest: &str, out: &mut String) -> Result<Option<Keys
     Ok(None)
 }
 
-fn write_list(alloc: Global, keys: &Keys, out: &mut String) -> Result<(), Fail> {
+fn write_list(alloc: Global, keys: &Keys, out: &mut String) -> Result<(), Stop> {
     out.push_str("keys")?;
     'keys: for key in keys.as_slice() {
         out.push_str(" ")?;
@@ -60,7 +59,7 @@ fn write_list(alloc: Global, keys: &Keys, out: &mut String) -> Result<(), Fail> 
     Ok(())
 }
 
-fn write_claims(claims: &Claims, out: &mut String) -> Result<(), Fail> {
+fn write_claims(claims: &Claims, out: &mut String) -> Result<(), Stop> {
     out.push_str("accepted ")?;
     out.push_str(claims.subject.as_str())?;
     out.push_str(" ")?;
@@ -76,7 +75,7 @@ fn write_verified(
     now: u64,
     token: &[u8],
     out: &mut String,
-) -> Result<(), Fail> {
+) -> Result<(), Stop> {
     let fault = match verify(alloc, keys, token, now) {
         Ok(claims) => return write_claims(&claims, out),
         Err(TokenFault::Malformed) => "malformed",
@@ -94,7 +93,7 @@ fn write_verified(
 }
 
 // The token that is signed; where it is refused, the refusal is written.
-fn signed(alloc: Global, keys: &Keys, rest: &str, out: &mut String) -> Result<Option<Text>, Fail> {
+fn signed(alloc: Global, keys: &Keys, rest: &str, out: &mut String) -> Result<Option<Text>, Stop> {
     let (kid, payload) = cut(rest);
     let kid = Text::from_str(alloc, kid)?;
     let payload = Text::from_str(alloc, payload)?;
@@ -107,14 +106,14 @@ fn signed(alloc: Global, keys: &Keys, rest: &str, out: &mut String) -> Result<Op
     Ok(None)
 }
 
-fn write_signed(alloc: Global, keys: &Keys, rest: &str, out: &mut String) -> Result<(), Fail> {
+fn write_signed(alloc: Global, keys: &Keys, rest: &str, out: &mut String) -> Result<(), Stop> {
     if let Some(token) = signed(alloc, keys, rest, out)? {
         out.push_str(token.as_str())?;
     }
     Ok(())
 }
 
-fn write_round(alloc: Global, keys: &Keys, rest: &str, out: &mut String) -> Result<(), Fail> {
+fn write_round(alloc: Global, keys: &Keys, rest: &str, out: &mut String) -> Result<(), Stop> {
     let (now, rest) = cut(rest);
     let now = now.parse::<u64>()?;
     if let Some(token) = signed(alloc, keys, rest, out)? {
@@ -129,7 +128,7 @@ fn write_token(
     word: &str,
     rest: &str,
     out: &mut String,
-) -> Result<(), Fail> {
+) -> Result<(), Stop> {
     if word == "sign" {
         return write_signed(alloc, keys, rest, out);
     }
@@ -153,7 +152,7 @@ fn answer(
     keys: &mut Option<Keys>,
     line: &str,
     out: &mut String,
-) -> Result<(), Fail> {
+) -> Result<(), Stop> {
     let (word, rest) = cut(line);
     if word == "mac" {
         return write_mac(alloc, rest, out);
@@ -169,7 +168,7 @@ fn answer(
 }
 
 /// Answers the cases.
-pub fn answer_all(rt: HostRuntime, cases: &str, out: &mut String) -> Result<(), Fail> {
+pub fn answer_all(rt: HostRuntime, cases: &str, out: &mut String) -> Result<(), Stop> {
     ps_token::base64url_is_strict();
     let mut keys = None;
     'lines: for line in cases.lines() {

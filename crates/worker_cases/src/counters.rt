@@ -4,15 +4,15 @@ ghost use Rattle.std.specs.Prelude.{IfOk};
 ghost use Rattle.ps_lock.specs.Words.{IsSeatOf};
 
 use crate::cut;
+use case_words::Stop;
 use lock_tests::{Counter, add, add_by_four, added_by_two, refreshed};
 use ps_lock::{Seat, StoreLock, open_lock};
 use std::alloc::Global;
 use std::sync::Wait;
-use std::test::Fail;
 use std::thread::Threads;
 
 // A lock round a counter with nothing added, and its first seat.
-fn made_counter(alloc: Global, most: u64) -> Result<(StoreLock<Counter>, Seat<Counter>), Fail>
+fn made_counter(alloc: Global, most: u64) -> Result<(StoreLock<Counter>, Seat<Counter>), Stop>
     ensures { IfOk result (λ r. IsSeatOf r.0 r.1) }
 {
     Ok(
@@ -33,7 +33,7 @@ fn write_sees<R: Wait>(
     most: u64,
     amount: u64,
     out: &mut String,
-) -> Result<(), Fail> {
+) -> Result<(), Stop> {
     let (lock, mut first) = made_counter(alloc, most)?;
     let second = lock.split(&mut first)?;
     let (first, added) = add(rt, &lock, first, amount);
@@ -57,7 +57,7 @@ fn write_four<R: Threads + Wait + Sync>(
     most: u64,
     times: u32,
     out: &mut String,
-) -> Result<(), Fail> {
+) -> Result<(), Stop> {
     let (lock, seat) = made_counter(alloc, most)?;
     let seat = add_by_four(rt, &lock, seat, times).ok_or("no memory")?;
     let seat = refreshed(rt, &lock, seat);
@@ -74,7 +74,7 @@ fn write_fits<R: Wait>(
     most: u64,
     amounts: (u64, u64),
     out: &mut String,
-) -> Result<(), Fail> {
+) -> Result<(), Stop> {
     let (lock, seat) = made_counter(alloc, most)?;
     let (seat, first) = add(rt, &lock, seat, amounts.0);
     let (seat, second) = add(rt, &lock, seat, amounts.1);
@@ -96,7 +96,7 @@ fn write_joins<R: Wait>(
     most: u64,
     amounts: (u64, u64),
     out: &mut String,
-) -> Result<(), Fail> {
+) -> Result<(), Stop> {
     let (lock, mut first) = made_counter(alloc, most)?;
     let second = lock.split(&mut first)?;
     let (mut first, _) = add(rt, &lock, first, amounts.0);
@@ -121,7 +121,7 @@ fn write_adds<R: Threads + Wait + Sync>(
     most: u64,
     amounts: (u64, u64),
     out: &mut String,
-) -> Result<(), Fail> {
+) -> Result<(), Stop> {
     let (counter, first, second) = added_by_two(rt, alloc, most, amounts.0, amounts.1).ok_or(
         "no memory",
     )?;
@@ -142,7 +142,7 @@ fn write_two<R: Threads + Wait + Sync>(
     most: u64,
     rest: &str,
     out: &mut String,
-) -> Result<(), Fail> {
+) -> Result<(), Stop> {
     let (one, two) = cut(rest);
     let amounts = (one.parse::<u64>()?, two.parse::<u64>()?);
     match word {
@@ -158,7 +158,7 @@ pub fn write_case<R: Threads + Wait + Sync>(
     alloc: Global,
     rest: &str,
     out: &mut String,
-) -> Result<(), Fail> {
+) -> Result<(), Stop> {
     let (word, rest) = cut(rest);
     let (most, rest) = cut(rest);
     let most = most.parse::<u64>()?;

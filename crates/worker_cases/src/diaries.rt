@@ -1,12 +1,12 @@
 //! A diary under a lock, as `lock_tests` has it.
 
 use crate::cut;
+use case_words::Stop;
 use lock_tests::{Diary, note, remark};
 use ps_lock::open_lock;
 use ps_values::Text;
 use std::alloc::Global;
 use std::sync::Wait;
-use std::test::Fail;
 
 // What a seat has seen that notes the number and remarks the text, and the numbers that are kept.
 fn write_kept<R: Wait>(
@@ -15,7 +15,7 @@ fn write_kept<R: Wait>(
     number: u64,
     text: Text,
     out: &mut String,
-) -> Result<(), Fail> {
+) -> Result<(), Stop> {
     let (lock, seat) = open_lock(alloc, Diary::new(alloc)).ok().ok_or("no memory")?;
     let seat = note(rt, &lock, seat, number).ok().ok_or("no memory")?;
     let seat = remark(rt, &lock, seat, text);
@@ -31,7 +31,7 @@ pub fn write_diary<R: Wait>(
     alloc: Global,
     rest: &str,
     out: &mut String,
-) -> Result<(), Fail> {
+) -> Result<(), Stop> {
     let (number, text) = cut(rest);
     let number = number.parse::<u64>()?;
     write_kept(rt, alloc, number, Text::from_str(alloc, text)?, out)

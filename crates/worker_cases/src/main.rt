@@ -22,19 +22,11 @@ mod stores;
 mod threads;
 mod turns;
 
+use case_words::{Stop, cut};
 use std::alloc::Global;
 use std::sync::Wait;
-use std::test::Fail;
 use std::thread::Threads;
 use std::time::Clock;
-
-// The first word, and what stands behind the space after it.
-fn cut(line: &str) -> (&str, &str) {
-    match line.split_once(' ') {
-        Some(parts) => parts,
-        None => (line, ""),
-    }
-}
 
 fn write_counts<R: Threads + Wait + Sync>(
     rt: &R,
@@ -42,7 +34,7 @@ fn write_counts<R: Threads + Wait + Sync>(
     word: &str,
     rest: &str,
     out: &mut String,
-) -> Result<(), Fail> {
+) -> Result<(), Stop> {
     let (count, limit) = cut(rest);
     let count = count.parse::<u32>()?;
     let limit = limit.parse::<u32>()?.clamp(1, 1000000);
@@ -59,7 +51,7 @@ fn write_answer<R: Threads + Wait + Clock + Sync>(
     alloc: Global,
     line: &str,
     out: &mut String,
-) -> Result<(), Fail> {
+) -> Result<(), Stop> {
     let (word, rest) = cut(line);
     match word {
         "seats" => threads::write_seats(rt, alloc, out),
@@ -72,13 +64,17 @@ fn write_answer<R: Threads + Wait + Clock + Sync>(
     }
 }
 
-fn main(rt: HostRuntime) -> Result<(), Fail> {
+fn answer_all<T: Threads + Wait + Clock + Sync>(rt: &HostRuntime, threads: &T) -> Result<(), Stop> {
     let alloc = rt.alloc();
     'lines: for line in rt.lines(alloc) {
         let line = line?;
         let mut out = String::new(alloc);
-        write_answer(&rt, alloc, line.as_str(), &mut out)?;
+        write_answer(threads, alloc, line.as_str(), &mut out)?;
         println!(rt; "{}", out.as_str())?;
     }
     Ok(())
+}
+
+fn main(rt: HostRuntime) -> Result<(), &'static str> {
+    answer_all(&rt, &rt).ok().ok_or("a line has no answer")
 }

@@ -3,6 +3,7 @@
 ghost use Rattle.std.specs.Prelude.{IfOk};
 ghost use Rattle.ps_lock.specs.Words.{IsSeatOf};
 
+use case_words::Stop;
 use ps_gen::make_rules;
 use ps_lock::{Seat, StoreLock};
 use ps_rules::read_rules;
@@ -10,10 +11,9 @@ use ps_store::{Limits, Store};
 use ps_values::Text;
 use ps_workers::open_store;
 use std::alloc::Global;
-use std::test::Fail;
 
 /// A lock round a store for the made rules, and its first seat.
-pub fn made_store(alloc: Global) -> Result<(StoreLock<Store>, Seat<Store>), Fail>
+pub fn made_store(alloc: Global) -> Result<(StoreLock<Store>, Seat<Store>), Stop>
     ensures { IfOk result (λ r. IsSeatOf r.0 r.1) }
 {
     let bytes = make_rules(alloc)?;
@@ -22,7 +22,7 @@ pub fn made_store(alloc: Global) -> Result<(StoreLock<Store>, Seat<Store>), Fail
 }
 
 // What the store counts.
-fn write_totals(store: &Store, out: &mut String) -> Result<(), Fail> {
+fn write_totals(store: &Store, out: &mut String) -> Result<(), Stop> {
     let totals = store.totals();
     write!(
         out,
@@ -33,7 +33,7 @@ fn write_totals(store: &Store, out: &mut String) -> Result<(), Fail> {
 }
 
 /// The head, the checkpoint, how long the logs of the seven made buckets are, and the totals.
-pub fn write_store(alloc: Global, store: &Store, out: &mut String) -> Result<(), Fail> {
+pub fn write_store(alloc: Global, store: &Store, out: &mut String) -> Result<(), Stop> {
     let checkpoint = store.checkpoint();
     write!(
         out,

@@ -9,6 +9,7 @@ ghost use Rattle.ps_workers.specs.Sharing.{fixed_of};
 ghost use Rattle.ps_store.specs.Stores.{StoreStandsFor};
 
 use crate::stores::made_store;
+use case_words::Stop;
 use ps_gen::make_input;
 use ps_lock::{Seat, StoreLock};
 use ps_rows::{Change, Transaction};
@@ -19,7 +20,6 @@ use ps_workers::{
 };
 use std::alloc::Global;
 use std::sync::Wait;
-use std::test::Fail;
 use std::thread::{Threads, join};
 
 fn feed_all<R: Wait>(
@@ -93,7 +93,7 @@ fn finish<R: Wait>(
 }
 
 /// The store after one seat fed so many made transactions, wrote them and committed.
-pub fn alone<R: Wait>(rt: &R, alloc: Global, count: u32, limit: u32) -> Result<Store, Fail> {
+pub fn alone<R: Wait>(rt: &R, alloc: Global, count: u32, limit: u32) -> Result<Store, Stop> {
     let (lock, seat) = made_store(alloc)?;
     let seat = feed_all(rt, alloc, &lock, seat, make_input(alloc, count)?);
     Ok(finish(rt, alloc, &lock, seat, count, limit))
@@ -191,7 +191,7 @@ pub fn by_four<R: Threads + Wait + Sync>(
     alloc: Global,
     count: u32,
     limit: u32,
-) -> Result<Store, Fail> {
+) -> Result<Store, Stop> {
     let (lock, seat) = made_store(alloc)?;
     let input = make_input(alloc, count)?;
     let seat = by_four_threads(rt, alloc, &lock, seat, input, count, limit).ok_or("no memory")?;
@@ -199,7 +199,7 @@ pub fn by_four<R: Threads + Wait + Sync>(
 }
 
 /// A first seat feeds a transaction: what a second seat has seen before its turn, and after one that adds nothing; and what a third turn keeps.
-pub fn write_seats<R: Wait>(rt: &R, alloc: Global, out: &mut String) -> Result<(), Fail> {
+pub fn write_seats<R: Wait>(rt: &R, alloc: Global, out: &mut String) -> Result<(), Stop> {
     let (lock, mut first) = made_store(alloc)?;
     let second = lock.split(&mut first)?;
     let first = feed_all(rt, alloc, &lock, first, make_input(alloc, 1)?);
@@ -221,7 +221,7 @@ pub fn write_seats<R: Wait>(rt: &R, alloc: Global, out: &mut String) -> Result<(
 }
 
 // One change: a row of a table is deleted.
-fn one_change(alloc: Global) -> Result<Items<Change>, Fail>
+fn one_change(alloc: Global) -> Result<Items<Change>, Stop>
     ensures { IfOk result (λ changes. All (λ (change : ChangeSeen). 0 < length change.table) changes) }
 {
     let table = Text::from_str(alloc, "items")?;
@@ -237,7 +237,7 @@ fn one_change(alloc: Global) -> Result<Items<Change>, Fail>
 
 /// A seat uploads a change, asks for two numbers of a client, closes the feed and uploads once more: what each call answers, and how many
 /// events the seat has seen.
-pub fn write_requests<R: Wait>(rt: &R, alloc: Global, out: &mut String) -> Result<(), Fail> {
+pub fn write_requests<R: Wait>(rt: &R, alloc: Global, out: &mut String) -> Result<(), Stop> {
     let user = Text::from_str(alloc, "ann")?;
     let client = Text::from_str(alloc, "phone")?;
     let first = one_change(alloc)?;

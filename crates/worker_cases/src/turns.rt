@@ -4,10 +4,10 @@ ghost use Rattle.std.specs.Prelude.{◌≡◌, length};
 ghost use Rattle.ps_lock.specs.Words.{IsSeatOf};
 
 use crate::cut;
+use case_words::Stop;
 use ps_lock::{Kept, Seat, StoreLock, open_lock};
 use std::alloc::Global;
 use std::sync::Wait;
-use std::test::Fail;
 use std::thread::{Threads, map_vec, sleep};
 use std::time::{Clock, Duration};
 
@@ -165,7 +165,7 @@ pub fn write_count<R: Threads + Wait + Clock + Sync>(
     kind: &str,
     rest: &str,
     out: &mut String,
-) -> Result<(), Fail> {
+) -> Result<(), Stop> {
     let (seats, amount) = cut(rest);
     match count_for(rt, alloc, kind, seats, amount) {
         Some(count) => write!(out, "{count}")?,

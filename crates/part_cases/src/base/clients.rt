@@ -7,6 +7,7 @@ ghost use Rattle.ps_client_log.specs.Soundness.{IsSound, same_row};
 ghost use Rattle.ps_client_log.specs.Edits.{CanTake, CanMakeAll};
 
 use crate::lines::number;
+use case_words::Stop;
 use ps_bucket_log::{Key, Op};
 use ps_checksum::Sum;
 use ps_client_log::{
@@ -15,7 +16,6 @@ use ps_client_log::{
 };
 use ps_values::{Items, Memory, OpId, Text};
 use std::alloc::Global;
-use std::test::Fail;
 
 fn key(alloc: Global, id: &str) -> Result<Key, Memory> {
     Ok(Key {
@@ -335,17 +335,17 @@ fn add_failed_load(out: &mut String, alloc: Global) -> Result<(), KeepFault> {
 }
 
 /// What a client tells after the history in two parts, of which the second begins with an id.
-pub fn write_parts(alloc: Global, middle: &str, out: &mut String) -> Result<(), Fail> {
+pub fn write_parts(alloc: Global, middle: &str, out: &mut String) -> Result<(), Stop> {
     Ok(add_parts(out, alloc, number(middle)?)?)
 }
 
 /// What a client tells where a call of its keeper fails, once after that call and then after all.
-pub fn write_failing(alloc: Global, call: &str, out: &mut String) -> Result<(), Fail> {
+pub fn write_failing(alloc: Global, call: &str, out: &mut String) -> Result<(), Stop> {
     Ok(add_failing(out, alloc, number(call)?)?)
 }
 
 /// What a client tells in a case that has a name.
-pub fn write_case(alloc: Global, name: &str, out: &mut String) -> Result<(), Fail> {
+pub fn write_case(alloc: Global, name: &str, out: &mut String) -> Result<(), Stop> {
     match name {
         "singles" => Ok(add_singles(out, alloc)?),
         "none" => Ok(add_none(out, alloc)?),

@@ -5,7 +5,7 @@ ghost use Rattle.ps_bucket_log.specs.Ops.{id_of, is_clear, newest};
 ghost use Rattle.ps_bucket_log.specs.Logs.{IsLog};
 
 use crate::lines::number;
-use case_words::cut;
+use case_words::{Stop, cut};
 use ps_bucket_log::{
     Batch, BucketLog, Key, Log, Op, batches_are_the_log, batches_keep_readers_honest,
     honest_readers_stay_honest, readers_are_whole_at_the_newest, readers_need_no_targets,
@@ -16,9 +16,8 @@ use ps_bucket_log::{
 use ps_checksum::Sum;
 use ps_values::{Items, OpId, Text};
 use std::alloc::Global;
-use std::test::Fail;
 
-fn key(alloc: Global, id: &str) -> Result<Key, Fail> {
+fn key(alloc: Global, id: &str) -> Result<Key, Stop> {
     Ok(Key {
         kind: Text::from_str(alloc, "t")?,
         id: Text::from_str(alloc, id)?,
@@ -27,7 +26,7 @@ fn key(alloc: Global, id: &str) -> Result<Key, Fail> {
 }
 
 // A PUT with so many bytes of data.
-fn put(alloc: Global, id: u64, size: usize) -> Result<Op, Fail>
+fn put(alloc: Global, id: u64, size: usize) -> Result<Op, Stop>
     ensures { IfOk result (λ op. (id_of op ≡ id) × (is_clear op ≡ false)) }
 {
     let content = "a".repeat(alloc, size)?;
@@ -40,7 +39,7 @@ fn put(alloc: Global, id: u64, size: usize) -> Result<Op, Fail>
 }
 
 // Appends PUTs with the next ids, each of so many bytes of data.
-fn fill<L: Log>(log: &mut L, alloc: Global, count: u64, size: usize) -> Result<(), Fail>
+fn fill<L: Log>(log: &mut L, alloc: Global, count: u64, size: usize) -> Result<(), Stop>
     requires { newest (L.ops log.old) ≡ 0 }
 {
     'puts: for id in 0..count {
@@ -51,7 +50,7 @@ fn fill<L: Log>(log: &mut L, alloc: Global, count: u64, size: usize) -> Result<(
 }
 
 // CLEAR 4 that 6 puts right, MOVE 5 to 7, PUT 6.
-fn compacted_ops(alloc: Global) -> Result<Items<Op>, Fail>
+fn compacted_ops(alloc: Global) -> Result<Items<Op>, Stop>
     ensures { IfOk result IsLog }
 {
     let mut ops = Items::new(alloc);
@@ -69,7 +68,7 @@ fn compacted_ops(alloc: Global) -> Result<Items<Op>, Fail>
     Ok(ops)
 }
 
-fn write_id(out: &mut String, id: Option<OpId>) -> Result<(), Fail> {
+fn write_id(out: &mut String, id: Option<OpId>) -> Result<(), Stop> {
     match id {
         Some(id) => Ok(write!(out, " {}", id.0)?),
         None => Ok(out.push_str(" none")?),
@@ -77,14 +76,14 @@ fn write_id(out: &mut String, id: Option<OpId>) -> Result<(), Fail> {
 }
 
 // How many operations a batch has, whether there are more, their target, and the id of a CLEAR that is passed.
-fn write_batch(out: &mut String, batch: &Batch) -> Result<(), Fail> {
+fn write_batch(out: &mut String, batch: &Batch) -> Result<(), Stop> {
     write!(out, "{} more {} target", batch.ops.len(), batch.has_more)?;
     write_id(out, batch.target)?;
     out.push_str(" passed")?;
     write_id(out, batch.passed)
 }
 
-fn write_op(out: &mut String, op: &Op) -> Result<(), Fail> {
+fn write_op(out: &mut String, op: &Op) -> Result<(), Stop> {
     match op {
         Op::Put {
             id,
@@ -120,21 +119,21 @@ fn write_op(out: &mut String, op: &Op) -> Result<(), Fail> {
     Ok(())
 }
 
-fn write_ops(out: &mut String, ops: &[Op]) -> Result<(), Fail> {
+fn write_ops(out: &mut String, ops: &[Op]) -> Result<(), Stop> {
     'ops: for op in ops {
         write_op(out, op)?;
     }
     Ok(())
 }
 
-fn write_read<L: Log>(alloc: Global, log: &L, words: &str, out: &mut String) -> Result<(), Fail> {
+fn write_read<L: Log>(alloc: Global, log: &L, words: &str, out: &mut String) -> Result<(), Stop> {
     let (after, upto) = cut(words);
     let batch = log.read(alloc, OpId(number(after)?), OpId(number(upto)?))?;
     write_batch(out, &batch)
 }
 
 // What a log answers to a question.
-fn write_answer<L: Log>(alloc: Global, log: &L, words: &str, out: &mut String) -> Result<(), Fail> {
+fn write_answer<L: Log>(alloc: Global, log: &L, words: &str, out: &mut String) -> Result<(), Stop> {
     let (question, words) = cut(words);
     match question {
         "read" => write_read(alloc, log, words, out),
@@ -147,7 +146,7 @@ fn write_answer<L: Log>(alloc: Global, log: &L, words: &str, out: &mut String) -
 }
 
 /// What a log of so many PUTs of so many bytes each answers.
-pub fn write_of_filled(alloc: Global, words: &str, out: &mut String) -> Result<(), Fail> {
+pub fn write_of_filled(alloc: Global, words: &str, out: &mut String) -> Result<(), Stop> {
     let (count, words) = cut(words);
     let (size, words) = cut(words);
     let mut log = BucketLog::new(alloc);
@@ -156,14 +155,14 @@ pub fn write_of_filled(alloc: Global, words: &str, out: &mut String) -> Result<(
 }
 
 /// What the compacted log answers.
-pub fn write_of_compacted(alloc: Global, words: &str, out: &mut String) -> Result<(), Fail> {
+pub fn write_of_compacted(alloc: Global, words: &str, out: &mut String) -> Result<(), Stop> {
     let mut log = BucketLog::new(alloc);
     log.rebuild(alloc, compacted_ops(alloc)?)?;
     write_answer(alloc, &log, words, out)
 }
 
 /// Whether a PUT and a key of an id equal their copies, and whether that key equals one of another id.
-pub fn write_copies(alloc: Global, ids: &str, out: &mut String) -> Result<(), Fail> {
+pub fn write_copies(alloc: Global, ids: &str, out: &mut String) -> Result<(), Stop> {
     let (id, other) = cut(ids);
     let op = put(alloc, 1, 3)?;
     let same_op = op.copy(alloc)? == op;

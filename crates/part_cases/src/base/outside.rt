@@ -2,7 +2,7 @@
 
 use crate::base::words::numbers;
 use crate::lines::number;
-use case_words::cut;
+use case_words::{Stop, cut};
 use ps_checksum::first_four;
 use ps_io::{
     DiskFiles, FileFault, Files, MemoryFile, MemoryFiles, MemorySink, Sink, StdSink, SureFiles,
@@ -10,10 +10,9 @@ use ps_io::{
 use ps_values::{Items, Text};
 use std::alloc::Global;
 use std::io;
-use std::test::Fail;
 
 // A file of three bytes, one of none, and a second one of the first one's name.
-fn three_files(alloc: Global) -> Result<Items<MemoryFile>, Fail> {
+fn three_files(alloc: Global) -> Result<Items<MemoryFile>, Stop> {
     let mut files = Items::new(alloc);
     'files: for (name, content) in [("rules", "abc"), ("empty", ""), ("rules", "later")] {
         let name = Text::from_str(alloc, name)?;
@@ -24,7 +23,7 @@ fn three_files(alloc: Global) -> Result<Items<MemoryFile>, Fail> {
 }
 
 // What was read, in whole where it is short; else how many bytes it has and the first four of its SHA-256.
-fn write_content(out: &mut String, content: &[u8]) -> Result<(), Fail> {
+fn write_content(out: &mut String, content: &[u8]) -> Result<(), Stop> {
     if content.len() < 10 {
         Ok(write!(out, " ok {}", str::from_utf8(content)?)?)
     } else {
@@ -39,7 +38,7 @@ fn write_read<F: Files>(
     name: &str,
     limit: u64,
     out: &mut String,
-) -> Result<(), Fail> {
+) -> Result<(), Stop> {
     match files.read(alloc, &Text::from_str(alloc, name)?, limit) {
         Ok(content) => write_content(out, content.as_slice())?,
         Err(FileFault::Failed) => out.push_str(" failed")?,
@@ -55,7 +54,7 @@ fn write_reads<F: Files>(
     files: &mut F,
     words: &str,
     out: &mut String,
-) -> Result<(), Fail> {
+) -> Result<(), Stop> {
     write!(out, "{};", files.file_faults())?;
     let mut name = None;
     'words: for word in words.split(' ') {
@@ -68,7 +67,7 @@ fn write_reads<F: Files>(
 }
 
 /// What files in memory answer, of which the calls of some numbers fail.
-pub fn write_of_memory(alloc: Global, words: &str, out: &mut String) -> Result<(), Fail> {
+pub fn write_of_memory(alloc: Global, words: &str, out: &mut String) -> Result<(), Stop> {
     let (failing, words) = cut(words);
     let failing = Items::from_vec(numbers(alloc, failing)?);
     let mut files = MemoryFiles::new(alloc, three_files(alloc)?, failing);
@@ -76,19 +75,19 @@ pub fn write_of_memory(alloc: Global, words: &str, out: &mut String) -> Result<(
 }
 
 /// What files in memory answer that never fail.
-pub fn write_of_sure(alloc: Global, words: &str, out: &mut String) -> Result<(), Fail> {
+pub fn write_of_sure(alloc: Global, words: &str, out: &mut String) -> Result<(), Stop> {
     let mut files = SureFiles::new(alloc, three_files(alloc)?);
     write_reads(alloc, &mut files, words, out)
 }
 
 /// What the system's files answer.
-pub fn write_of_disk(rt: &HostRuntime, words: &str, out: &mut String) -> Result<(), Fail> {
+pub fn write_of_disk(rt: &HostRuntime, words: &str, out: &mut String) -> Result<(), Stop> {
     let mut files = DiskFiles::new(*rt);
     write_reads(rt.alloc(), &mut files, words, out)
 }
 
 // Writes a piece: the answer, and how many faults there were by then. The piece `-` is empty.
-fn write_piece<S: Sink>(sink: &mut S, piece: &str, out: &mut String) -> Result<(), Fail> {
+fn write_piece<S: Sink>(sink: &mut S, piece: &str, out: &mut String) -> Result<(), Stop> {
     let piece = if piece == "-" { "" } else { piece };
     let answer = match sink.write(piece.as_bytes()) {
         Ok(()) => "ok",
@@ -97,12 +96,12 @@ fn write_piece<S: Sink>(sink: &mut S, piece: &str, out: &mut String) -> Result<(
     Ok(write!(out, " {answer} {}", sink.write_faults())?)
 }
 
-fn write_taken(out: &mut String, taken: &[u8]) -> Result<(), Fail> {
+fn write_taken(out: &mut String, taken: &[u8]) -> Result<(), Stop> {
     Ok(write!(out, " {};", str::from_utf8(taken)?)?)
 }
 
 /// What a sink in memory takes of pieces, with so much room, of which the calls of some numbers fail.
-pub fn write_of_sink(alloc: Global, words: &str, out: &mut String) -> Result<(), Fail> {
+pub fn write_of_sink(alloc: Global, words: &str, out: &mut String) -> Result<(), Stop> {
     let (room, words) = cut(words);
     let (failing, words) = cut(words);
     let failing = Items::from_vec(numbers(alloc, failing)?);
@@ -146,7 +145,7 @@ impl io::Write for Flaky {
 }
 
 /// What a stream takes of pieces whose writer takes two bytes at a time and fails twice.
-pub fn write_of_stream(alloc: Global, words: &str, out: &mut String) -> Result<(), Fail> {
+pub fn write_of_stream(alloc: Global, words: &str, out: &mut String) -> Result<(), Stop> {
     let mut writer = Flaky {
         taken: Vec::new(alloc),
         writes: 0,

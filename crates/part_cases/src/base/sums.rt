@@ -1,28 +1,27 @@
 //! Sums of operations.
 
-use case_words::cut;
+use case_words::{Stop, cut};
 use ps_checksum::{Sum, add, first_four, put_sum, remove_sum, sums_are_a_commutative_group};
 use ps_values::Text;
 use std::alloc::Global;
-use std::test::Fail;
 
-fn write_sum(out: &mut String, sum: Sum) -> Result<(), Fail> {
+fn write_sum(out: &mut String, sum: Sum) -> Result<(), Stop> {
     Ok(write!(out, "{}", sum.0)?)
 }
 
 /// The sum of two sums.
-pub fn write_added(words: &str, out: &mut String) -> Result<(), Fail> {
+pub fn write_added(words: &str, out: &mut String) -> Result<(), Stop> {
     let (a, b) = cut(words);
     write_sum(out, add(Sum(a.parse::<u32>()?), Sum(b.parse::<u32>()?)))
 }
 
 /// The first four bytes of the text's SHA-256 as a sum.
-pub fn write_first_four(text: &str, out: &mut String) -> Result<(), Fail> {
+pub fn write_first_four(text: &str, out: &mut String) -> Result<(), Stop> {
     write_sum(out, first_four(text.as_bytes()))
 }
 
 /// The sum of a PUT.
-pub fn write_put(alloc: Global, words: &str, out: &mut String) -> Result<(), Fail> {
+pub fn write_put(alloc: Global, words: &str, out: &mut String) -> Result<(), Stop> {
     let (kind, words) = cut(words);
     let (id, content) = cut(words);
     let kind = Text::from_str(alloc, kind)?;
@@ -32,7 +31,7 @@ pub fn write_put(alloc: Global, words: &str, out: &mut String) -> Result<(), Fai
 }
 
 /// The sum of a REMOVE.
-pub fn write_remove(alloc: Global, id: &str, out: &mut String) -> Result<(), Fail> {
+pub fn write_remove(alloc: Global, id: &str, out: &mut String) -> Result<(), Stop> {
     write_sum(out, remove_sum(&Text::from_str(alloc, id)?))
 }
 

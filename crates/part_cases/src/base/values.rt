@@ -1,7 +1,7 @@
 //! Values, numbers and JSON.
 
 use crate::base::words::bytes;
-use case_words::cut;
+use case_words::{Stop, cut};
 use ps_values::{
     Boxed, Column, Items, Text, TextFault, Truth, Value, ValueFault, compare,
     compare_is_a_total_order, decimal, decimals_read_back, document, equal_sql,
@@ -12,17 +12,16 @@ use ps_values::{
 use serde_json::Value as Json;
 use std::alloc::Global;
 use std::cmp::Ordering;
-use std::test::Fail;
 
-fn json(alloc: Global, text: &str) -> Result<Json, Fail> {
+fn json(alloc: Global, text: &str) -> Result<Json, Stop> {
     Ok(read_json(alloc, text.as_bytes())?.ok_or("no JSON")?)
 }
 
-fn value(alloc: Global, text: &str) -> Result<Value, Fail> {
+fn value(alloc: Global, text: &str) -> Result<Value, Stop> {
     Ok(value_of_json(alloc, &json(alloc, text)?)?)
 }
 
-fn write_value(out: &mut String, value: &Value) -> Result<(), Fail> {
+fn write_value(out: &mut String, value: &Value) -> Result<(), Stop> {
     match value {
         Value::Null => out.push_str("null")?,
         Value::Int(number) => write!(out, "int {number}")?,
@@ -32,7 +31,7 @@ fn write_value(out: &mut String, value: &Value) -> Result<(), Fail> {
 }
 
 /// The text in quotes, and whether it is read again as the same.
-pub fn write_quoted(alloc: Global, text: &[u8], out: &mut String) -> Result<(), Fail> {
+pub fn write_quoted(alloc: Global, text: &[u8], out: &mut String) -> Result<(), Stop> {
     let plain = Text::from_bytes(alloc, text)?;
     let made = quoted(alloc, &plain)?;
     let again = value(alloc, made.as_str())?;
@@ -41,7 +40,7 @@ pub fn write_quoted(alloc: Global, text: &[u8], out: &mut String) -> Result<(), 
 }
 
 /// What JSON is as a value.
-pub fn write_json(alloc: Global, text: &[u8], out: &mut String) -> Result<(), Fail> {
+pub fn write_json(alloc: Global, text: &[u8], out: &mut String) -> Result<(), Stop> {
     let Some(json) = read_json(alloc, text)? else {
         return Ok(out.push_str("no json")?);
     };
@@ -54,7 +53,7 @@ pub fn write_json(alloc: Global, text: &[u8], out: &mut String) -> Result<(), Fa
 }
 
 /// The number of a decimal text.
-pub fn write_decimal(alloc: Global, text: &str, out: &mut String) -> Result<(), Fail> {
+pub fn write_decimal(alloc: Global, text: &str, out: &mut String) -> Result<(), Stop> {
     match read_decimal(&Text::from_str(alloc, text)?) {
         Some(number) => Ok(write!(out, "{number}")?),
         None => Ok(out.push_str("none")?),
@@ -62,13 +61,13 @@ pub fn write_decimal(alloc: Global, text: &str, out: &mut String) -> Result<(), 
 }
 
 /// The decimal text of a number.
-pub fn write_number(alloc: Global, number: &str, out: &mut String) -> Result<(), Fail> {
+pub fn write_number(alloc: Global, number: &str, out: &mut String) -> Result<(), Stop> {
     let text = decimal(alloc, number.parse::<i64>()?)?;
     Ok(out.push_str(text.as_str())?)
 }
 
 /// Where a value stands beside another one.
-pub fn write_order(alloc: Global, values: &str, out: &mut String) -> Result<(), Fail> {
+pub fn write_order(alloc: Global, values: &str, out: &mut String) -> Result<(), Stop> {
     let (a, b) = cut(values);
     let order = compare(&value(alloc, a)?.copy(alloc)?, &value(alloc, b)?);
     Ok(out.push_str(match order {
@@ -87,19 +86,19 @@ fn word_of(truth: Truth) -> &'static str {
 }
 
 /// Whether a value is true.
-pub fn write_truth(alloc: Global, text: &str, out: &mut String) -> Result<(), Fail> {
+pub fn write_truth(alloc: Global, text: &str, out: &mut String) -> Result<(), Stop> {
     Ok(out.push_str(word_of(truth_of(&value(alloc, text)?)))?)
 }
 
 /// Whether two values are equal.
-pub fn write_equality(alloc: Global, values: &str, out: &mut String) -> Result<(), Fail> {
+pub fn write_equality(alloc: Global, values: &str, out: &mut String) -> Result<(), Stop> {
     let (a, b) = cut(values);
     let truth = equal_sql(&value(alloc, a)?, &value(alloc, b)?);
     Ok(out.push_str(word_of(truth))?)
 }
 
 /// The plain JSON of a text.
-pub fn write_plain(alloc: Global, text: &str, out: &mut String) -> Result<(), Fail> {
+pub fn write_plain(alloc: Global, text: &str, out: &mut String) -> Result<(), Stop> {
     match plain_json(alloc, &Text::from_str(alloc, text)?)? {
         Some(json) => Ok(out.push_str(text_of_json(alloc, &json)?.as_str())?),
         None => Ok(out.push_str("no json")?),
@@ -107,7 +106,7 @@ pub fn write_plain(alloc: Global, text: &str, out: &mut String) -> Result<(), Fa
 }
 
 /// JSON made plain once, and twice.
-pub fn write_plain_twice(alloc: Global, text: &str, out: &mut String) -> Result<(), Fail> {
+pub fn write_plain_twice(alloc: Global, text: &str, out: &mut String) -> Result<(), Stop> {
     let once = plain(alloc, &json(alloc, text)?)?;
     let twice = plain(alloc, &once)?;
     out.push_str(text_of_json(alloc, &once)?.as_str())?;
@@ -115,7 +114,7 @@ pub fn write_plain_twice(alloc: Global, text: &str, out: &mut String) -> Result<
     Ok(out.push_str(text_of_json(alloc, &twice)?.as_str())?)
 }
 
-fn columns(alloc: Global, text: &str) -> Result<Items<Column>, Fail> {
+fn columns(alloc: Global, text: &str) -> Result<Items<Column>, Stop> {
     let mut columns = Items::new(alloc);
     'columns: for column in text.split(' ') {
         let (name, written) = column.split_once('=').ok_or("no column")?;
@@ -127,7 +126,7 @@ fn columns(alloc: Global, text: &str) -> Result<Items<Column>, Fail> {
 }
 
 /// The document of an id and columns.
-pub fn write_document(alloc: Global, text: &str, out: &mut String) -> Result<(), Fail> {
+pub fn write_document(alloc: Global, text: &str, out: &mut String) -> Result<(), Stop> {
     let (id, text) = cut(text);
     let columns = columns(alloc, text)?;
     let made = document(alloc, &Text::from_str(alloc, id)?, columns.as_slice())?;
@@ -135,20 +134,20 @@ pub fn write_document(alloc: Global, text: &str, out: &mut String) -> Result<(),
 }
 
 /// The object of columns.
-pub fn write_object(alloc: Global, text: &str, out: &mut String) -> Result<(), Fail> {
+pub fn write_object(alloc: Global, text: &str, out: &mut String) -> Result<(), Stop> {
     let columns = columns(alloc, text)?;
     let object = Json::Object(object_of_columns(alloc, columns.as_slice())?);
     Ok(out.push_str(text_of_json(alloc, &object)?.as_str())?)
 }
 
 /// The JSON of a value.
-pub fn write_value_as_json(alloc: Global, text: &str, out: &mut String) -> Result<(), Fail> {
+pub fn write_value_as_json(alloc: Global, text: &str, out: &mut String) -> Result<(), Stop> {
     let json = json_of_value(alloc, &value(alloc, text)?)?;
     Ok(out.push_str(text_of_json(alloc, &json)?.as_str())?)
 }
 
 /// The text of bytes.
-pub fn write_text(alloc: Global, digits: &str, out: &mut String) -> Result<(), Fail> {
+pub fn write_text(alloc: Global, digits: &str, out: &mut String) -> Result<(), Stop> {
     let bytes = bytes(alloc, digits)?;
     match Text::from_bytes(alloc, bytes.as_slice()) {
         Ok(text) => Ok(write!(out, "text {}", text.as_str())?),
@@ -158,7 +157,7 @@ pub fn write_text(alloc: Global, digits: &str, out: &mut String) -> Result<(), F
 }
 
 /// The bytes of a text, and whether it equals its copy and another one.
-pub fn write_kept(alloc: Global, texts: &str, out: &mut String) -> Result<(), Fail> {
+pub fn write_kept(alloc: Global, texts: &str, out: &mut String) -> Result<(), Stop> {
     let (text, other) = cut(texts);
     let kept = Text::from_string(String::from_str(alloc, text)?);
     let copy = kept.copy(alloc)?;
@@ -168,7 +167,7 @@ pub fn write_kept(alloc: Global, texts: &str, out: &mut String) -> Result<(), Fa
 }
 
 /// Numbers that were put into a list.
-pub fn write_items(alloc: Global, words: &str, out: &mut String) -> Result<(), Fail> {
+pub fn write_items(alloc: Global, words: &str, out: &mut String) -> Result<(), Stop> {
     let mut items = Items::new(alloc);
     'words: for word in words.split(' ') {
         items.push(word.parse::<i64>()?)?;
@@ -177,7 +176,7 @@ pub fn write_items(alloc: Global, words: &str, out: &mut String) -> Result<(), F
 }
 
 /// A value that was put into a box: as it lies there, and taken out.
-pub fn write_boxed(alloc: Global, text: &str, out: &mut String) -> Result<(), Fail> {
+pub fn write_boxed(alloc: Global, text: &str, out: &mut String) -> Result<(), Stop> {
     let boxed = Boxed::new(alloc, value(alloc, text)?)?;
     write_value(out, boxed.get())?;
     out.push_str(" ")?;

@@ -1,11 +1,11 @@
 //! The words of a line.
 
 use crate::lines::number;
+use case_words::Stop;
 use std::alloc::Global;
-use std::test::Fail;
 
 /// The numbers between commas; none for `-`.
-pub fn numbers(alloc: Global, word: &str) -> Result<Vec<u64>, Fail> {
+pub fn numbers(alloc: Global, word: &str) -> Result<Vec<u64>, Stop> {
     let mut all = Vec::new(alloc);
     if word == "-" {
         return Ok(all);
@@ -17,7 +17,7 @@ pub fn numbers(alloc: Global, word: &str) -> Result<Vec<u64>, Fail> {
 }
 
 /// The bytes that hexadecimal digits spell, two for each.
-pub fn bytes(alloc: Global, digits: &str) -> Result<Vec<u8>, Fail> {
+pub fn bytes(alloc: Global, digits: &str) -> Result<Vec<u8>, Stop> {
     let mut all = Vec::new(alloc);
     let mut before = None;
     'digits: for digit in digits.chars() {

@@ -1,19 +1,19 @@
 //! Steps of local writes.
 
 use crate::clients::events::write_done;
+use case_words::Stop;
 use ps_changes::read_change;
 use ps_client::Client;
 use ps_client_log::MemoryKeeper;
 use ps_values::GREATEST;
 use std::alloc::Global;
-use std::test::Fail;
 
 fn write_locally(
     alloc: Global,
     client: &mut Client<MemoryKeeper>,
     change: &str,
     out: &mut String,
-) -> Result<(), Fail> {
+) -> Result<(), Stop> {
     match read_change(alloc, change.as_bytes()) {
         Ok(change) => write_done(client.write_local(alloc, change), out),
         Err(_) => Err("this is no change".into()),
@@ -24,7 +24,7 @@ fn write_upload(
     alloc: Global,
     client: &Client<MemoryKeeper>,
     out: &mut String,
-) -> Result<(), Fail> {
+) -> Result<(), Stop> {
     match client.upload_next(alloc)? {
         Some(body) => Ok(out.push_str(str::from_utf8(body.as_slice())?)?),
         None => Ok(out.push_str("none")?),
@@ -36,7 +36,7 @@ fn write_number(
     client: &mut Client<MemoryKeeper>,
     number: &str,
     out: &mut String,
-) -> Result<(), Fail> {
+) -> Result<(), Stop> {
     let number = number.parse::<u64>()?;
     if number > GREATEST {
         return Err("the number is too great".into());
@@ -51,7 +51,7 @@ pub fn answer(
     word: &str,
     rest: &str,
     out: &mut String,
-) -> Result<bool, Fail> {
+) -> Result<bool, Stop> {
     match word {
         "local" => write_locally(alloc, client, rest, out)?,
         "upload" => write_upload(alloc, client, out)?,

@@ -1,17 +1,17 @@
 //! Steps of a stream.
 
 use crate::clients::events::{write_event, write_fault};
+use case_words::Stop;
 use ps_client::Client;
 use ps_client_log::{MemoryKeeper, Shown};
 use ps_lines::write_body;
 use std::alloc::Global;
-use std::test::Fail;
 
 fn write_request(
     alloc: Global,
     client: &mut Client<MemoryKeeper>,
     out: &mut String,
-) -> Result<(), Fail> {
+) -> Result<(), Stop> {
     let body = client.request(alloc)?;
     let bytes = write_body(alloc, &body)?;
     let text = str::from_utf8(bytes.as_slice())?;
@@ -23,14 +23,14 @@ fn write_taken(
     client: &mut Client<MemoryKeeper>,
     line: &str,
     out: &mut String,
-) -> Result<(), Fail> {
+) -> Result<(), Stop> {
     match client.take_line(alloc, line.as_bytes()) {
         Ok(event) => write_event(&event, out),
         Err(fault) => write_fault(fault, out),
     }
 }
 
-fn write_row(row: &Shown, out: &mut String) -> Result<(), Fail> {
+fn write_row(row: &Shown, out: &mut String) -> Result<(), Stop> {
     write!(
         out,
         "; {} {} {}",
@@ -41,7 +41,7 @@ fn write_row(row: &Shown, out: &mut String) -> Result<(), Fail> {
     Ok(())
 }
 
-fn write_rows(alloc: Global, client: &Client<MemoryKeeper>, out: &mut String) -> Result<(), Fail> {
+fn write_rows(alloc: Global, client: &Client<MemoryKeeper>, out: &mut String) -> Result<(), Stop> {
     let rows = client.rows(alloc)?;
     write!(out, "rows {}", rows.len())?;
     'rows: for row in rows.as_slice() {
@@ -57,7 +57,7 @@ pub fn answer(
     word: &str,
     rest: &str,
     out: &mut String,
-) -> Result<bool, Fail> {
+) -> Result<bool, Stop> {
     match word {
         "request" => write_request(alloc, client, out)?,
         "line" => write_taken(alloc, client, rest, out)?,

@@ -3,12 +3,11 @@
 use crate::compaction::logs::{log_of, put, remove};
 use crate::compaction::plain::{compacted, is_told};
 use crate::lines::number;
-use case_words::cut;
+use case_words::{Stop, cut};
 use ps_bucket_log::{BucketLog, Log, Op};
 use ps_compact::compact;
 use ps_values::OpId;
 use std::alloc::Global;
-use std::test::Fail;
 
 // Numbers by chance, from a seed.
 #[derive(Drop)]
@@ -36,7 +35,7 @@ impl Chance {
     }
 
     // An operation.
-    fn op(&mut self, alloc: Global, id: u64) -> Result<Op, Fail> {
+    fn op(&mut self, alloc: Global, id: u64) -> Result<Op, Stop> {
         let row = self.row();
         let sum = u32::try_from(self.below(4294967296))?;
         if self.below(3) == 0 {
@@ -48,7 +47,7 @@ impl Chance {
 }
 
 // Puts up to twelve operations behind those of a log.
-fn grown(alloc: Global, chance: &mut Chance, log: &BucketLog) -> Result<BucketLog, Fail> {
+fn grown(alloc: Global, chance: &mut Chance, log: &BucketLog) -> Result<BucketLog, Stop> {
     let mut ops = log.ops(alloc)?;
     let mut id = log.newest_upto(OpId(u64::MAX)).0;
     let count = chance.below(13);
@@ -60,7 +59,7 @@ fn grown(alloc: Global, chance: &mut Chance, log: &BucketLog) -> Result<BucketLo
 }
 
 // Whether a log, compacted at a level, is what the rule says.
-fn agrees(alloc: Global, log: &BucketLog, level: u64) -> Result<bool, Fail> {
+fn agrees(alloc: Global, log: &BucketLog, level: u64) -> Result<bool, Stop> {
     let ops = log.ops(alloc)?;
     let plain = compacted(alloc, ops.as_slice(), level)?;
     let before = ops.len();
@@ -71,7 +70,7 @@ fn agrees(alloc: Global, log: &BucketLog, level: u64) -> Result<bool, Fail> {
 }
 
 // At how many levels a log, compacted, is not what the rule says; and how many were tried.
-fn differences(alloc: Global, log: &BucketLog) -> Result<(u64, u64), Fail> {
+fn differences(alloc: Global, log: &BucketLog) -> Result<(u64, u64), Stop> {
     let newest = log.newest_upto(OpId(u64::MAX)).0;
     let mut wrong: u64 = 0;
     let mut tried: u64 = 0;
@@ -85,7 +84,7 @@ fn differences(alloc: Global, log: &BucketLog) -> Result<(u64, u64), Fail> {
 }
 
 /// Compacts so many lists by chance at each level, and each again after it was compacted and grew.
-pub fn write_lists(alloc: Global, words: &str, out: &mut String) -> Result<(), Fail> {
+pub fn write_lists(alloc: Global, words: &str, out: &mut String) -> Result<(), Stop> {
     let (count, seed) = cut(words);
     let mut chance = Chance {
         state: number(seed)?,

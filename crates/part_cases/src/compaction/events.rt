@@ -2,27 +2,26 @@
 
 use crate::compaction::logs::{log_of, put, remove, write_ops};
 use crate::lines::number;
-use case_words::cut;
+use case_words::{Stop, cut};
 use ps_bucket_log::{BucketLog, Log, Op};
 use ps_compact::{Report, compact};
 use ps_values::OpId;
 use std::alloc::Global;
-use std::test::Fail;
 
 /// The numbers of a report.
-pub fn write_report(out: &mut String, report: &Report) -> Result<(), Fail> {
+pub fn write_report(out: &mut String, report: &Report) -> Result<(), Stop> {
     write!(out, "moved {} cleared {}", report.moved, report.cleared)?;
     Ok(write!(out, " before {} after {}", report.before, report.after)?)
 }
 
-fn appended(alloc: Global, log: &BucketLog, op: Op) -> Result<BucketLog, Fail> {
+fn appended(alloc: Global, log: &BucketLog, op: Op) -> Result<BucketLog, Stop> {
     let mut ops = log.ops(alloc)?;
     ops.push(op)?;
     log_of(alloc, ops)
 }
 
 // The operation that the words tell.
-fn written(alloc: Global, kind: &str, words: &str) -> Result<Op, Fail> {
+fn written(alloc: Global, kind: &str, words: &str) -> Result<Op, Stop> {
     let (id, words) = cut(words);
     let (row, sum) = cut(words);
     let sum = u32::try_from(number(sum)?)?;
@@ -38,7 +37,7 @@ fn write_compacted(
     log: &mut BucketLog,
     level: u64,
     out: &mut String,
-) -> Result<(), Fail> {
+) -> Result<(), Stop> {
     let report = compact(alloc, log, OpId(level))?;
     write_report(out, &report)?;
     out.push_str(":")?;
@@ -46,7 +45,7 @@ fn write_compacted(
 }
 
 /// What each compaction reports, and the log after it.
-pub fn write_log(alloc: Global, events: &str, out: &mut String) -> Result<(), Fail> {
+pub fn write_log(alloc: Global, events: &str, out: &mut String) -> Result<(), Stop> {
     let mut log = BucketLog::new(alloc);
     'events: for event in events.split(';') {
         let (word, words) = cut(event);

@@ -4,14 +4,14 @@ ghost use Rattle.std.specs.Prelude.{◌≡◌, false, IsTrue};
 ghost use Rattle.ps_bucket_log.specs.Ops.{is_clear as has_reset, has_clear};
 ghost use Rattle.ps_bucket_log.specs.Logs.{IsRising, rest};
 
+use case_words::Stop;
 use ps_bucket_log::{BucketLog, Key, Log, Op};
 use ps_checksum::Sum;
 use ps_values::{Items, OpId, Text};
 use std::alloc::Global;
-use std::test::Fail;
 
 /// The key of a row.
-pub fn key(alloc: Global, id: &str) -> Result<Key, Fail> {
+pub fn key(alloc: Global, id: &str) -> Result<Key, Stop> {
     Ok(Key {
         kind: Text::from_str(alloc, "t")?,
         id: Text::from_str(alloc, id)?,
@@ -20,7 +20,7 @@ pub fn key(alloc: Global, id: &str) -> Result<Key, Fail> {
 }
 
 /// A PUT, whose content is its id.
-pub fn put(alloc: Global, id: u64, row: &str, sum: u32) -> Result<Op, Fail> {
+pub fn put(alloc: Global, id: u64, row: &str, sum: u32) -> Result<Op, Stop> {
     let content = format!(in alloc; "{id}")?;
     Ok(Op::Put {
         id: OpId(id),
@@ -31,7 +31,7 @@ pub fn put(alloc: Global, id: u64, row: &str, sum: u32) -> Result<Op, Fail> {
 }
 
 /// A REMOVE.
-pub fn remove(alloc: Global, id: u64, row: &str, sum: u32) -> Result<Op, Fail> {
+pub fn remove(alloc: Global, id: u64, row: &str, sum: u32) -> Result<Op, Stop> {
     Ok(Op::Remove {
         id: OpId(id),
         key: key(alloc, row)?,
@@ -87,7 +87,7 @@ fn has_late_clear(ops: &[Op]) -> bool
 }
 
 /// The log of operations, which fails where they are none.
-pub fn log_of(alloc: Global, ops: Items<Op>) -> Result<BucketLog, Fail> {
+pub fn log_of(alloc: Global, ops: Items<Op>) -> Result<BucketLog, Stop> {
     if !rises(ops.as_slice()) || has_late_clear(ops.as_slice()) {
         return Err("no log".into());
     }
@@ -96,7 +96,7 @@ pub fn log_of(alloc: Global, ops: Items<Op>) -> Result<BucketLog, Fail> {
     Ok(log)
 }
 
-fn write_op(out: &mut String, op: &Op) -> Result<(), Fail> {
+fn write_op(out: &mut String, op: &Op) -> Result<(), Stop> {
     let written = match op {
         Op::Put {
             id,
@@ -120,7 +120,7 @@ fn write_op(out: &mut String, op: &Op) -> Result<(), Fail> {
 }
 
 /// The texts of operations.
-pub fn write_ops(out: &mut String, ops: &[Op]) -> Result<(), Fail> {
+pub fn write_ops(out: &mut String, ops: &[Op]) -> Result<(), Stop> {
     'ops: for op in ops {
         write_op(out, op)?;
     }

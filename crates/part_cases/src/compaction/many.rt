@@ -3,15 +3,14 @@
 use crate::compaction::events::write_report;
 use crate::compaction::logs::{log_of, put};
 use crate::lines::number;
-use case_words::cut;
+use case_words::{Stop, cut};
 use ps_bucket_log::Op;
 use ps_compact::compact;
 use ps_values::{Items, OpId};
 use std::alloc::Global;
-use std::test::Fail;
 
 // PUTs of so many rows in turn.
-fn puts(alloc: Global, count: u64, rows: u64) -> Result<Items<Op>, Fail> {
+fn puts(alloc: Global, count: u64, rows: u64) -> Result<Items<Op>, Stop> {
     let mut ops = Items::new(alloc);
     'puts: for before in 0..count {
         let row = format!(in alloc; "{}", before.checked_rem(rows).unwrap_or(0))?;
@@ -21,7 +20,7 @@ fn puts(alloc: Global, count: u64, rows: u64) -> Result<Items<Op>, Fail> {
 }
 
 /// What the compaction of so many PUTs of so many rows reports.
-pub fn write_many(alloc: Global, words: &str, out: &mut String) -> Result<(), Fail> {
+pub fn write_many(alloc: Global, words: &str, out: &mut String) -> Result<(), Stop> {
     let (count, rows) = cut(words);
     let count = number(count)?;
     let mut log = log_of(alloc, puts(alloc, count, number(rows)?)?)?;

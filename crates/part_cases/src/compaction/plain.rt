@@ -1,11 +1,11 @@
 //! Compaction as its rule is told, with no thought of time: each operation is compared with all others.
 
+use case_words::Stop;
 use ps_bucket_log::{Key, Op};
 use ps_checksum::{Sum, add};
 use ps_compact::Report;
 use ps_values::{Items, OpId};
 use std::alloc::Global;
-use std::test::Fail;
 
 /// A compacted log, and how many operations were moved and cleared.
 #[derive(Drop)]
@@ -49,7 +49,7 @@ fn last_outdating(ops: &[Op], op: &Op, level: u64) -> Option<OpId> {
     last
 }
 
-fn moved(alloc: Global, ops: &[Op], level: u64) -> Result<(Items<Op>, u64), Fail> {
+fn moved(alloc: Global, ops: &[Op], level: u64) -> Result<(Items<Op>, u64), Stop> {
     let mut all = Items::new(alloc);
     let mut count: u64 = 0;
     'ops: for op in ops {
@@ -102,7 +102,7 @@ fn clear_upto(ops: &[Op], last: OpId) -> Op {
 }
 
 /// The compacted log.
-pub fn compacted(alloc: Global, ops: &[Op], level: u64) -> Result<Plain, Fail> {
+pub fn compacted(alloc: Global, ops: &[Op], level: u64) -> Result<Plain, Stop> {
     let (ops, moved) = moved(alloc, ops, level)?;
     let (last, count) = front_of(ops.as_slice(), level);
     if count < 2 {

@@ -2,12 +2,11 @@
 
 use crate::lines::number;
 use crate::requests::words::push_shown;
-use case_words::cut;
+use case_words::{Stop, cut};
 use ps_http::write_head;
 use std::alloc::Global;
-use std::test::Fail;
 
-fn head_of(alloc: Global, status: u64, length: Option<u64>) -> Result<Vec<u8>, Fail> {
+fn head_of(alloc: Global, status: u64, length: Option<u64>) -> Result<Vec<u8>, Stop> {
     match status {
         200 => Ok(write_head(alloc, 200, length)?),
         400 => Ok(write_head(alloc, 400, length)?),
@@ -24,7 +23,7 @@ fn head_of(alloc: Global, status: u64, length: Option<u64>) -> Result<Vec<u8>, F
 }
 
 /// The head of an answer with a status, and a length or `-`.
-pub fn write_answer(alloc: Global, rest: &str, out: &mut String) -> Result<(), Fail> {
+pub fn write_answer(alloc: Global, rest: &str, out: &mut String) -> Result<(), Stop> {
     let (status, length) = cut(rest);
     let length = if length == "-" {
         None

@@ -2,14 +2,13 @@
 
 use crate::lines::number;
 use crate::requests::reading::{name_of, write_head};
-use case_words::cut;
+use case_words::{Stop, cut};
 use ps_http::read_head;
 use ps_io::{Clock, MemoryClock, Source, StdSource, WallClock};
 use std::alloc::Global;
-use std::test::Fail;
 
 /// The head of a request that a reader of the system gives, and how often the source has failed.
-pub fn write_system(alloc: Global, request: &[u8], out: &mut String) -> Result<(), Fail> {
+pub fn write_system(alloc: Global, request: &[u8], out: &mut String) -> Result<(), Stop> {
     let mut from = StdSource::new(request);
     match read_head(alloc, &mut from) {
         Ok(head) => write_head(&head, out)?,
@@ -20,7 +19,7 @@ pub fn write_system(alloc: Global, request: &[u8], out: &mut String) -> Result<(
 }
 
 /// In which thousand years the system's clock is.
-pub fn write_clock<R: std::time::Clock + Drop>(rt: R, out: &mut String) -> Result<(), Fail> {
+pub fn write_clock<R: std::time::Clock + Drop>(rt: R, out: &mut String) -> Result<(), Stop> {
     // The starts of the years 2000 and 3000.
     let now = WallClock::new(rt).now();
     if (946684800..32503680000).contains(&now) {
@@ -32,7 +31,7 @@ pub fn write_clock<R: std::time::Clock + Drop>(rt: R, out: &mut String) -> Resul
 }
 
 /// What a clock in memory gives, asked three times.
-pub fn write_moments(words: &str, out: &mut String) -> Result<(), Fail> {
+pub fn write_moments(words: &str, out: &mut String) -> Result<(), Stop> {
     let (start, step) = cut(words);
     let clock = MemoryClock::new(number(start)?, number(step)?);
     let first = clock.now();

@@ -1,20 +1,20 @@
 //! Requests that are read from sources in memory.
 
 use crate::requests::words;
+use case_words::Stop;
 use ps_http::{BodyFault, Head, HeadFault, read_body, read_head};
 use ps_io::{MemorySource, Source};
 use ps_values::{Items, Text};
 use std::alloc::Global;
-use std::test::Fail;
 
 // A source of these bytes, of which the calls of these numbers fail.
-fn source(alloc: Global, bytes: &[u8], failing: Vec<u64>) -> Result<MemorySource, Fail> {
+fn source(alloc: Global, bytes: &[u8], failing: Vec<u64>) -> Result<MemorySource, Stop> {
     let content = Items::from_vec(Vec::from_slice(alloc, bytes)?);
     Ok(MemorySource::new(content, Items::from_vec(failing)))
 }
 
 // How many bytes are left, up to 65,536.
-fn left(alloc: Global, from: &mut MemorySource) -> Result<usize, Fail> {
+fn left(alloc: Global, from: &mut MemorySource) -> Result<usize, Stop> {
     let mut rest = vec![in alloc; 0u8; 65536]?;
     match from.read(rest.as_mut_slice()) {
         Ok(count) => Ok(count),
@@ -33,7 +33,7 @@ pub fn name_of(fault: HeadFault) -> &'static str {
     }
 }
 
-fn write_fault(fault: BodyFault, out: &mut String) -> Result<(), Fail> {
+fn write_fault(fault: BodyFault, out: &mut String) -> Result<(), Stop> {
     match fault {
         BodyFault::LengthRequired => out.push_str("length-required")?,
         BodyFault::BodyTooLong { length } => write!(out, "body-too-long {length}")?,
@@ -44,7 +44,7 @@ fn write_fault(fault: BodyFault, out: &mut String) -> Result<(), Fail> {
     Ok(())
 }
 
-fn write_authorization(value: &Option<Text>, out: &mut String) -> Result<(), Fail> {
+fn write_authorization(value: &Option<Text>, out: &mut String) -> Result<(), Stop> {
     match value {
         Some(value) => {
             out.push_str(" [")?;
@@ -57,7 +57,7 @@ fn write_authorization(value: &Option<Text>, out: &mut String) -> Result<(), Fai
 }
 
 /// The method, the path, the query, the authorization, the length and whether the body is chunked.
-pub fn write_head(head: &Head, out: &mut String) -> Result<(), Fail> {
+pub fn write_head(head: &Head, out: &mut String) -> Result<(), Stop> {
     out.push_str(head.method.as_str())?;
     out.push_str(" [")?;
     words::push_shown(head.path.bytes(), out)?;
@@ -79,7 +79,7 @@ pub fn write_head_read(
     bytes: &[u8],
     failing: &str,
     out: &mut String,
-) -> Result<(), Fail> {
+) -> Result<(), Stop> {
     let mut from = source(alloc, bytes, words::numbers(alloc, failing)?)?;
     match read_head(alloc, &mut from) {
         Ok(head) => write_head(&head, out)?,
@@ -94,7 +94,7 @@ pub fn write_body_read(
     bytes: &[u8],
     failing: &str,
     out: &mut String,
-) -> Result<(), Fail> {
+) -> Result<(), Stop> {
     let mut from = source(alloc, bytes, words::numbers(alloc, failing)?)?;
     match read_head(alloc, &mut from) {
         Ok(head) => match read_body(alloc, &head, &mut from) {
@@ -112,7 +112,7 @@ fn is_refused(
     from: &mut MemorySource,
     wanted: &str,
     rest: usize,
-) -> Result<bool, Fail> {
+) -> Result<bool, Stop> {
     let is_wanted = match read_head(alloc, from) {
         Ok(_) => false,
         Err(fault) => name_of(fault) == wanted,
@@ -121,7 +121,7 @@ fn is_refused(
 }
 
 /// How many of the first parts of a request are cut short, and how many are not.
-pub fn write_cuts(alloc: Global, bytes: &[u8], out: &mut String) -> Result<(), Fail> {
+pub fn write_cuts(alloc: Global, bytes: &[u8], out: &mut String) -> Result<(), Stop> {
     let mut short = 0u64;
     let mut other = 0u64;
     'cuts: for length in 0..bytes.len() {
@@ -136,7 +136,7 @@ pub fn write_cuts(alloc: Global, bytes: &[u8], out: &mut String) -> Result<(), F
 }
 
 /// How often a request whose source fails at one call is a read fault that takes what came before, and how often not.
-pub fn write_faults(alloc: Global, bytes: &[u8], out: &mut String) -> Result<(), Fail> {
+pub fn write_faults(alloc: Global, bytes: &[u8], out: &mut String) -> Result<(), Stop> {
     let mut failed = 0u64;
     let mut other = 0u64;
     'calls: for taken in 0..bytes.len() {

@@ -1,11 +1,11 @@
 //! The words of a line, and the bytes that a text spells.
 
 use crate::lines::number;
+use case_words::Stop;
 use std::alloc::Global;
-use std::test::Fail;
 
 /// The number that a word gives, or none for `-`.
-pub fn numbers(alloc: Global, word: &str) -> Result<Vec<u64>, Fail> {
+pub fn numbers(alloc: Global, word: &str) -> Result<Vec<u64>, Stop> {
     let mut all = Vec::new(alloc);
     if word != "-" {
         all.push(number(word)?)?;
@@ -14,7 +14,7 @@ pub fn numbers(alloc: Global, word: &str) -> Result<Vec<u64>, Fail> {
 }
 
 /// Writes bytes as they are spelled, or how many they are where they are more than 300.
-pub fn push_shown(bytes: &[u8], out: &mut String) -> Result<(), Fail> {
+pub fn push_shown(bytes: &[u8], out: &mut String) -> Result<(), Stop> {
     if bytes.len() > 300 {
         write!(out, "({} bytes)", bytes.len())?;
         return Ok(());

@@ -1,12 +1,12 @@
 //! The words of a case.
 
 use crate::lines::number;
+use case_words::Stop;
 use ps_bucket_log::{Op, Taken, TakenBucket};
 use ps_checksum::Sum;
 use ps_lines::Known;
 use ps_values::{Items, OpId, Position, Text};
 use std::alloc::Global;
-use std::test::Fail;
 
 // What stands before the first mark, and what stands behind it.
 pub fn cut(line: &str, mark: char) -> (&str, &str) {
@@ -17,21 +17,21 @@ pub fn cut(line: &str, mark: char) -> (&str, &str) {
 }
 
 // The id, where the word is not `none`.
-pub fn id_or_none(word: &str) -> Result<Option<OpId>, Fail> {
+pub fn id_or_none(word: &str) -> Result<Option<OpId>, Stop> {
     if word == "none" {
         return Ok(None);
     }
     Ok(Some(OpId(number(word)?)))
 }
 
-fn number_or_none(word: &str) -> Result<Option<u64>, Fail> {
+fn number_or_none(word: &str) -> Result<Option<u64>, Stop> {
     if word == "none" {
         return Ok(None);
     }
     Ok(Some(number(word)?))
 }
 
-pub fn known_of(alloc: Global, rest: &str) -> Result<Vec<Known>, Fail> {
+pub fn known_of(alloc: Global, rest: &str) -> Result<Vec<Known>, Stop> {
     let mut known = Vec::new(alloc);
     'words: for word in rest.split_whitespace() {
         let (name, after) = cut(word, ':');
@@ -43,7 +43,7 @@ pub fn known_of(alloc: Global, rest: &str) -> Result<Vec<Known>, Fail> {
     Ok(known)
 }
 
-fn bucket_of(alloc: Global, word: &str) -> Result<TakenBucket, Fail> {
+fn bucket_of(alloc: Global, word: &str) -> Result<TakenBucket, Stop> {
     let (name, rest) = cut(word, ':');
     let (sum, rest) = cut(rest, ':');
     let (count, newest) = cut(rest, ':');
@@ -55,7 +55,7 @@ fn bucket_of(alloc: Global, word: &str) -> Result<TakenBucket, Fail> {
     })
 }
 
-fn buckets_of(alloc: Global, rest: &str) -> Result<Vec<TakenBucket>, Fail> {
+fn buckets_of(alloc: Global, rest: &str) -> Result<Vec<TakenBucket>, Stop> {
     let mut buckets = Vec::new(alloc);
     'words: for word in rest.split_whitespace() {
         buckets.push(bucket_of(alloc, word)?)?;
@@ -63,7 +63,7 @@ fn buckets_of(alloc: Global, rest: &str) -> Result<Vec<TakenBucket>, Fail> {
     Ok(buckets)
 }
 
-pub fn taken_of(alloc: Global, rest: &str) -> Result<Taken, Fail> {
+pub fn taken_of(alloc: Global, rest: &str) -> Result<Taken, Stop> {
     let (position, rest) = cut(rest, ' ');
     let (head, rest) = cut(rest, ' ');
     let (feed, rest) = cut(rest, ' ');
@@ -80,7 +80,7 @@ pub fn taken_of(alloc: Global, rest: &str) -> Result<Taken, Fail> {
 }
 
 // Operations that say nothing of rows: each is a MOVE.
-pub fn ops_of(alloc: Global, rest: &str) -> Result<Vec<Op>, Fail> {
+pub fn ops_of(alloc: Global, rest: &str) -> Result<Vec<Op>, Stop> {
     let mut ops = Vec::new(alloc);
     'words: for word in rest.split_whitespace() {
         let (id, sum) = cut(word, ':');

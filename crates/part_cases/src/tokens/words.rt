@@ -1,10 +1,10 @@
 //! The bytes of a word.
 
+use case_words::Stop;
 use std::alloc::Global;
-use std::test::Fail;
 
 /// The bytes that hexadecimal digits spell, two for each; none for `-`.
-pub fn bytes(alloc: Global, digits: &str) -> Result<Vec<u8>, Fail> {
+pub fn bytes(alloc: Global, digits: &str) -> Result<Vec<u8>, Stop> {
     if digits == "-" {
         return Ok(Vec::new(alloc));
     }
