@@ -4,13 +4,13 @@
 ghost use Rattle.std.specs.Prelude.{◌≤◌, IfOk, IsTrue};
 ghost use Rattle.ps_store.specs.Limits.{greatest, AreWithin};
 
-use case_words::{Stop, cut};
+use case_words::{Stop, cut, number_in, short_number_in};
 use ps_changes::read_line;
+use ps_data::{GREATEST, Memory};
 use ps_definitions::Rules;
 use ps_rows::Transaction;
 use ps_rules::read_rules;
 use ps_store::Limits;
-use ps_values::{GREATEST, Memory};
 use std::alloc::Global;
 
 /// The rules of a text.
@@ -28,11 +28,11 @@ fn limits_read(words: &str) -> Result<Limits, Stop> {
     let (positions, words) = cut(words);
     let (buckets, entries) = cut(words);
     Ok(Limits {
-        ops: ops.parse::<u64>()?,
-        numbers: numbers.parse::<u64>()?,
-        positions: positions.parse::<u64>()?,
-        buckets: buckets.parse::<u32>()?,
-        entries: entries.parse::<u32>()?,
+        ops: number_in(ops)?,
+        numbers: number_in(numbers)?,
+        positions: number_in(positions)?,
+        buckets: short_number_in(buckets)?,
+        entries: short_number_in(entries)?,
     })
 }
 

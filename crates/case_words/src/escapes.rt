@@ -1,7 +1,8 @@
 //! How a text is written in a line: `~n` is a line feed, `~r` a carriage return, `~t` a tab, `~s` a space, `~f` the byte
 //! 255, which is in no UTF-8 text, and `~*COUNT{PART}` so many times PART, which has no `}`.
 
-use ps_values::Memory;
+use crate::short_number_in;
+use ps_data::Memory;
 use std::alloc::Global;
 
 /// The bytes that a text stands for.
@@ -40,7 +41,7 @@ fn push_repeated(bytes: &mut Vec<u8>, part: &str) -> Result<(), Memory> {
     };
     let (part, rest) = part.split_once('}').unwrap_or((part, ""));
     let count = count.strip_prefix('*').unwrap_or(count);
-    'times: for _ in 0..count.parse::<u32>().unwrap_or(0) {
+    'times: for _ in 0..short_number(count).unwrap_or(0) {
         bytes.extend_from_slice(part.as_bytes())?;
     }
     Ok(bytes.extend_from_slice(rest.as_bytes())?)

@@ -1,7 +1,7 @@
 //! How bytes are spelled in a line: `\r` is a carriage return, `\n` a line feed, `\t` a tab, `\0` the byte 0, `\f` the byte 255,
 //! which is in no UTF-8 text, and `\b` a backslash.
 
-use ps_values::Memory;
+use ps_data::Memory;
 
 // The byte that a letter behind a backslash stands for; one that stands for none is itself.
 fn spelled(letter: u8) -> u8 {

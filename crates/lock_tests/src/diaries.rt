@@ -3,8 +3,8 @@ ghost use Rattle.std.specs.Prelude.{◌≡◌, [], ◌∷◌, ◌++◌, length, 
 ghost use Rattle.ps_lock.specs.Words.{IsSeatOf, seen_by, own_entries_of};
 ghost use Rattle.lock_tests.specs.Notes.{numbers_of};
 
+use ps_data::{Memory, Text};
 use ps_lock::{Kept, Seat, StoreLock};
-use ps_values::{Memory, Text};
 use std::alloc::Global;
 use std::marker::Model;
 use std::sync::Wait;

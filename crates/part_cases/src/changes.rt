@@ -1,7 +1,7 @@
 //! Changes, as they are printed.
 
+use ps_data::{Memory, Value};
 use ps_rows::{Change, Row};
-use ps_values::{Memory, Value};
 
 /// What a change does, its table and its id, and the columns of its row; behind the name of a null stands `null`.
 pub fn write_change(out: &mut String, change: &Change, null: &str) -> Result<(), Memory> {

@@ -11,10 +11,10 @@ mod locals;
 mod streams;
 
 use crate::lines::print_line;
-use case_words::{Stop, cut};
+use case_words::{Stop, cut, number_in};
 use ps_client::Client;
 use ps_client_log::{KeepFault, MemoryKeeper};
-use ps_values::{Items, Text};
+use ps_data::{Items, Text};
 use std::alloc::Global;
 
 // The numbers between commas; none for `-`.
@@ -24,7 +24,7 @@ fn numbers(alloc: Global, word: &str) -> Result<Items<u64>, Stop> {
         return Ok(all);
     }
     'numbers: for one in word.split(',') {
-        all.push(one.parse::<u64>()?)?;
+        all.push(number_in(one)?)?;
     }
     Ok(all)
 }

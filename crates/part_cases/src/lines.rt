@@ -2,11 +2,6 @@
 
 use case_words::Stop;
 
-/// A number.
-pub fn number(word: &str) -> Result<u64, Stop> {
-    Ok(word.parse::<u64>()?)
-}
-
 /// Prints an answer in a line, and empties it for the next.
 pub fn print_line(rt: HostRuntime, out: &mut String) -> Result<(), Stop> {
     println!(rt; "{}", out.as_str())?;

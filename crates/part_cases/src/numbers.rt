@@ -6,8 +6,8 @@
 ghost use Rattle.std.specs.Prelude.{◌≤◌};
 
 use crate::lines::print_line;
-use case_words::{Stop, cut};
-use ps_values::{GREATEST, Position, Text};
+use case_words::{Stop, cut, number_in};
+use ps_data::{GREATEST, Position, Text};
 use ps_write_cp::{NumberFault, WriteCheckpoints};
 use std::alloc::Global;
 
@@ -33,7 +33,7 @@ fn words(alloc: Global, rest: &str) -> Result<(Text, Text, u64), Stop> {
     Ok((
         Text::from_str(alloc, user)?,
         Text::from_str(alloc, client)?,
-        number.parse::<u64>()?,
+        number_in(number)?,
     ))
 }
 
@@ -65,7 +65,7 @@ fn answer(alloc: Global, desk: &mut Desk, line: &str, out: &mut String) -> Resul
     let (word, rest) = cut(line);
     match word {
         "top" => {
-            *desk = fresh(alloc, rest.parse::<u64>()?);
+            *desk = fresh(alloc, number_in(rest)?);
             Ok(out.push_str("none")?)
         }
         "make" => write_number(alloc, desk, rest, out),

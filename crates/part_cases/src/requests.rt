@@ -17,10 +17,10 @@ mod outside;
 mod reading;
 mod words;
 
-use crate::lines::{number, print_line};
-use case_words::{Stop, cut, push_spelled};
+use crate::lines::print_line;
+use case_words::{Stop, cut, number_in, push_spelled};
+use ps_data::Text;
 use ps_http::query_value;
-use ps_values::Text;
 use std::alloc::Global;
 
 fn write_value(alloc: Global, rest: &str, out: &mut String) -> Result<(), Stop> {

@@ -6,8 +6,8 @@ mod events;
 use crate::lines::print_line;
 use case_words::{Stop, unescaped};
 use events::show_event;
+use ps_data::Memory;
 use ps_script::{is_skipped, read_event, split_line};
-use ps_values::Memory;
 use std::alloc::Global;
 
 // What a script's line is read as.

@@ -14,13 +14,13 @@ mod texts;
 
 ghost use Rattle.std.specs.Prelude.{◌≢◌, ◌⊎◌, [], None};
 
-use crate::lines::{number, print_line};
-use case_words::Stop;
+use crate::lines::print_line;
+use case_words::{Stop, number_in};
 use names::names_rise;
 use ps_bucket_log::Batch;
+use ps_data::{Items, OpId, Text};
 use ps_session::{Action, Session, StreamRequest};
 use ps_sql_eval::Asker;
-use ps_values::{Items, OpId, Text};
 use readings::{cut, id_or_none, known_of, ops_of, taken_of};
 use std::alloc::Global;
 use texts::{write_action, write_answer, write_line};
@@ -95,7 +95,7 @@ fn read_passed(
         ops: Items::new(alloc),
         has_more: false,
         target: None,
-        passed: Some(OpId(number(rest)?)),
+        passed: Some(OpId(number_in(rest)?)),
     };
     read(alloc, session, batch, out)
 }

@@ -19,9 +19,9 @@
 mod words;
 
 use crate::lines::print_line;
-use case_words::{Stop, cut};
+use case_words::{Stop, cut, number_in};
+use ps_data::Text;
 use ps_token::{Claims, Keys, KeysFault, SignFault, TokenFault, mac, read_keys, sign, verify};
-use ps_values::Text;
 use std::alloc::Global;
 
 fn write_mac(alloc: Global, rest: &str, out: &mut String) -> Result<(), Stop> {
@@ -115,7 +115,7 @@ fn write_signed(alloc: Global, keys: &Keys, rest: &str, out: &mut String) -> Res
 
 fn write_round(alloc: Global, keys: &Keys, rest: &str, out: &mut String) -> Result<(), Stop> {
     let (now, rest) = cut(rest);
-    let now = now.parse::<u64>()?;
+    let now = number_in(now)?;
     if let Some(token) = signed(alloc, keys, rest, out)? {
         write_verified(alloc, keys, now, token.bytes(), out)?;
     }
@@ -136,7 +136,7 @@ fn write_token(
         return write_round(alloc, keys, rest, out);
     }
     let (now, token) = cut(rest);
-    let now = now.parse::<u64>()?;
+    let now = number_in(now)?;
     if word == "verify" {
         return write_verified(alloc, keys, now, token.as_bytes(), out);
     }

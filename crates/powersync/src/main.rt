@@ -2,8 +2,8 @@
 #![tactic(auto)]
 
 use ps_commands::run_plain;
+use ps_data::Text;
 use ps_io::{DiskFiles, StdSink};
-use ps_values::Text;
 use std::process::ExitCode;
 use std::{env, io, thread};
 

@@ -9,12 +9,12 @@ use Rattle.std.specs.declared.cmp.Ordering.{Ordering}
 use Rattle.std.specs.declared.cmp.Ordering.TheVariants.{Less, Equal, Greater}
 use Rattle.std.proofs.lemmas.Bool.{or_cases, or_left, or_right}
 use Rattle.serde_json.specs.Data.{Items, no_items, item}
-use Rattle.ps_values.specs.declared.values.Value.{Value}
-use Rattle.ps_values.specs.declared.values.Value.TheVariants.{Null, Int, Text}
-use Rattle.ps_values.specs.declared.values.Truth.{Truth}
-use Rattle.ps_values.specs.declared.values.Truth.TheVariants.{True, False, Unknown}
-use Rattle.ps_values.specs.Values.{compare_values, is_null, equal_sql}
-use Rattle.ps_values.specs.Conversions.{value_of as json_value}
+use Rattle.ps_data.specs.declared.values.Value.{Value}
+use Rattle.ps_data.specs.declared.values.Value.TheVariants.{Null, Int, Text}
+use Rattle.ps_data.specs.declared.values.Truth.{Truth}
+use Rattle.ps_data.specs.declared.values.Truth.TheVariants.{True, False, Unknown}
+use Rattle.ps_data.specs.Values.{compare_values, is_null, equal_sql}
+use Rattle.ps_data.specs.Conversions.{value_of as json_value}
 use Rattle.ps_values.specs.Laws.{TiesTheSame, IsEqualWherePresent}
 use Rattle.ps_queries.specs.Meaning.{Given, value_of, is_true, any_equals, array_of}
 use Rattle.ps_definitions.specs.declared.matches.Match.{Match}

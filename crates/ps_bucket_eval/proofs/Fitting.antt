@@ -4,7 +4,7 @@ use Rattle.std.specs.Prelude.{IsTrue, ◌↔◌, flat_map, Option, Some, None}
 use Rattle.std.specs.BTreeSet.{BTreeSet}
 use Rattle.std.proofs.lemmas.Bool.{leb-true, leb-false}
 use Rattle.std.proofs.lemmas.List.{take_all}
-use Rattle.ps_values.specs.declared.values.Value.{Value}
+use Rattle.ps_data.specs.declared.values.Value.{Value}
 use Rattle.ps_definitions.specs.Buckets.{bucket_name_of}
 use Rattle.ps_bucket_eval.specs.Solving.{inserted, Fits, FitsWith, names_from, is_none, some_empty}
 use Rattle.ps_bucket_eval.proofs.Steps.{named_more, named_past}

@@ -2,7 +2,7 @@
 use Rattle.std.proofs.Common.{◌≡◌, ℕ, Bool, true, false, List, [], ◌∷◌, map, Option, Some, None, refl, sym, ap, ◌∙◌, subst, inl, inr}
 use Rattle.std.specs.Prelude.{if◌then◌else◌, bytes_eq}
 use Rattle.std.specs.List.{AllByRecursion}
-use Rattle.ps_values.specs.declared.values.Value.{Value}
+use Rattle.ps_data.specs.declared.values.Value.{Value}
 use Rattle.ps_queries.specs.declared.queries.ParameterQuery.{ParameterQuery}
 use Rattle.ps_definitions.specs.declared.queries.Planned.{Planned}
 use Rattle.ps_definitions.specs.declared.definitions.Definition.{Definition}

@@ -4,7 +4,7 @@ use Rattle.std.specs.Prelude.{◌||◌, if◌then◌else◌, bytes_eq}
 use Rattle.std.specs.List.{AllZip}
 use Rattle.std.proofs.lemmas.Bool.{or_parts, false_from_ne_true}
 use Rattle.std.proofs.lemmas.Slice.Eq.{bytes_eq-Decides}
-use Rattle.ps_values.specs.declared.values.Value.{Value}
+use Rattle.ps_data.specs.declared.values.Value.{Value}
 use Rattle.ps_definitions.specs.Names.{is_in, has_repeated}
 use Rattle.ps_definitions.specs.Vectors.{vector_at}
 use Rattle.ps_bucket_eval.proofs.Members.{Has, none_has}

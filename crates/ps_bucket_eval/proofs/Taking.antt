@@ -3,8 +3,8 @@ use Rattle.std.proofs.Common.{◌≡◌, true, false, List, [], ◌∷◌, ◌++
 use Rattle.std.specs.List.{list_any}
 use Rattle.std.specs.BTreeMap.{is_at}
 use Rattle.std.proofs.lemmas.Bool.{cond-true, cond-false}
-use Rattle.ps_values.specs.declared.values.Value.{Value}
-use Rattle.ps_values.specs.Values.{compare_values}
+use Rattle.ps_data.specs.declared.values.Value.{Value}
+use Rattle.ps_data.specs.Values.{compare_values}
 use Rattle.ps_bucket_eval.specs.Solving.{common}
 
 pub taken : (all both more before rest set : List Value) (value : Value) → common all set ≡ both ++ common before set → before ≡ value ∷ rest

@@ -1,7 +1,7 @@
 -- The entries of a row: the buckets that it lies in, and the object that it is there.
 use Rattle.std.specs.Prelude.{ℕ, ◌+◌, List, [], ◌∷◌, ◌++◌, map, flat_map, length, if◌then◌else◌, Option, Some, None, bytes_eq, decimal, ◌≡◌, ◌<◌, ◌≤◌, Result, Ok, Err}
-use Rattle.ps_values.specs.declared.columns.Column.{Column}
-use Rattle.ps_values.specs.declared.values.Value.{Value}
+use Rattle.ps_data.specs.declared.columns.Column.{Column}
+use Rattle.ps_data.specs.declared.values.Value.{Value}
 use Rattle.ps_bucket_log.specs.declared.ops.Key.{Key}
 use Rattle.ps_definitions.specs.declared.queries.Planned.{Planned}
 use Rattle.ps_definitions.specs.declared.definitions.Definition.{Definition}

@@ -1,8 +1,8 @@
 -- What data queries are evaluated over.
 use Rattle.std.specs.Prelude.{ℕ, List}
-use Rattle.ps_values.specs.declared.columns.Column.{Column}
-use Rattle.ps_values.specs.declared.values.Value.{Value}
-use Rattle.ps_values.specs.declared.values.Value.TheVariants.{Null}
+use Rattle.ps_data.specs.declared.columns.Column.{Column}
+use Rattle.ps_data.specs.declared.values.Value.{Value}
+use Rattle.ps_data.specs.declared.values.Value.TheVariants.{Null}
 use Rattle.ps_queries.specs.Meaning.{Given}
 use Rattle.ps_sql_eval.specs.Evaluated.{given_of, nobody}
 

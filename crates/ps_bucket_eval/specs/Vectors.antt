@@ -1,7 +1,7 @@
 -- The vectors of parameter values for which a data query's condition holds on a row.
 use Rattle.std.specs.Prelude.{ℕ, List, [], ◌∷◌, map, filter, flat_map, if◌then◌else◌, bytes_eq}
-use Rattle.ps_values.specs.declared.columns.Column.{Column}
-use Rattle.ps_values.specs.declared.values.Value.{Value}
+use Rattle.ps_data.specs.declared.columns.Column.{Column}
+use Rattle.ps_data.specs.declared.values.Value.{Value}
 use Rattle.ps_queries.specs.Meaning.{Given, value_of, array_of, holds}
 use Rattle.ps_sql_eval.specs.Evaluated.{values_in}
 use Rattle.ps_definitions.specs.declared.matches.Match.{Match}

@@ -6,10 +6,11 @@ ghost use Rattle.ps_definitions.specs.Branches.{has_parameter};
 ghost use Rattle.ps_bucket_eval.specs.Shown.{alone};
 ghost use Rattle.ps_bucket_eval.specs.Solving.{all_hold as all_leaves_hold};
 
+use ps_data::{Memory, Text, Truth, Value};
 use ps_queries::Expr;
 use ps_rows::Row;
 use ps_sql_eval::{eval_request, nobody};
-use ps_values::{Memory, Text, Truth, Value, truth_of};
+use ps_values::truth_of;
 use std::alloc::Global;
 
 /// The value of an expression without a parameter on a row.

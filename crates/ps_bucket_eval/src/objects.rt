@@ -5,9 +5,9 @@ ghost use Rattle.ps_queries.specs.Objects.{object_id as object_id_of, content_of
 ghost use Rattle.ps_bucket_eval.specs.Shown.{alone};
 
 use crate::source_rows::SourceRow;
+use ps_data::{Memory, Text};
 use ps_queries::DataQuery;
 use ps_sql_eval::{content, nobody, object_id};
-use ps_values::{Memory, Text};
 use std::alloc::Global;
 
 /// The id of the object that a query shows for a row; None where it is Null, and the query shows none.

@@ -1,5 +1,5 @@
 use ps_bucket_log::Key;
-use ps_values::Text;
+use ps_data::Text;
 
 /// An entry of a row: a bucket that the row lies in, and the object that it is there.
 #[derive(Debug, Drop, PartialEq, Eq)]

@@ -1,7 +1,7 @@
 ghost use Rattle.std.specs.Prelude.{◌≡◌, [], ◌∷◌, false, IfOk, map};
 ghost use Rattle.std.specs.List.{list_any};
 ghost use Rattle.std.specs.BTreeMap.{is_at};
-ghost use Rattle.ps_values.specs.Values.{compare_values};
+ghost use Rattle.ps_data.specs.Values.{compare_values};
 ghost use Rattle.ps_definitions.specs.declared.matches.Match.{Match as MatchData};
 ghost use Rattle.ps_definitions.specs.Branches.{has_parameter};
 ghost use Rattle.ps_bucket_eval.specs.Shown.{alone};
@@ -9,10 +9,10 @@ ghost use Rattle.ps_bucket_eval.specs.Vectors.{compared as values_compared};
 ghost use Rattle.ps_bucket_eval.specs.Solving.{gathered, allowed_by as allowed_by_match, common as in_common, narrowed_by, allowed as allowed_values};
 
 use crate::evaluating::value_on;
+use ps_data::{Items, Memory, Text, Value};
 use ps_definitions::Match;
 use ps_rows::Row;
 use ps_sql_eval::elements;
-use ps_values::{Items, Memory, Text, Value};
 use std::alloc::Global;
 use std::collections::BTreeSet;
 

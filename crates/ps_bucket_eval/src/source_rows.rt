@@ -1,5 +1,5 @@
+use ps_data::Text;
 use ps_rows::Row;
-use ps_values::Text;
 
 /// A row of a table at the source.
 #[derive(Drop)]

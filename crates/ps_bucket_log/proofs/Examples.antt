@@ -2,7 +2,7 @@
 use Rattle.std.proofs.Common.{◌≡◌, Option, ℕ, true, false, ◌&&◌, ◌||◌, inl, Some, None, List, [], ◌∷◌, refl, sym, ◌∙◌, codes, arith}
 use Rattle.std.proofs.lemmas.Bool.{or_parts}
 use Rattle.std.proofs.Math.Bool.{and-true}
-use Rattle.ps_values.specs.declared.ids.OpId.{OpId}
+use Rattle.ps_data.specs.declared.ids.OpId.{OpId}
 use Rattle.ps_checksum.specs.declared.sums.Sum.{Sum}
 use Rattle.ps_bucket_log.specs.declared.ops.Key.{Key}
 use Rattle.ps_bucket_log.specs.declared.ops.Op.{Op}

@@ -4,7 +4,7 @@ ghost use Rattle.ps_bucket_log.specs.Batches.{batch_of, batch_from, front_of, ta
 
 use crate::Op;
 use crate::places::{back_past, clear_id, front_upto, last_target};
-use ps_values::{Items, Memory, OpId, copy_all};
+use ps_data::{Items, Memory, OpId, copy_all};
 use std::alloc::Global;
 
 /// What one read of a log gives.

@@ -2,7 +2,7 @@ ghost use Rattle.std.specs.Prelude.{◌≡◌, ◌+◌, ◌<◌, ◌≤◌, fals
 
 use crate::{Batch, Op};
 use ps_checksum::Sum;
-use ps_values::{Items, Memory, OpId};
+use ps_data::{Items, Memory, OpId};
 use std::alloc::Global;
 
 /// A bucket's log: operations with rising ids, of which only the first may be a CLEAR, and room for more.

@@ -1,7 +1,7 @@
 ghost use Rattle.std.specs.Prelude.{◌≡◌, ◌↔◌, IfOk, IsTrue};
 
 use ps_checksum::Sum;
-use ps_values::{Copied, Memory, OpId, Text};
+use ps_data::{Copied, Memory, OpId, Text};
 use std::alloc::Global;
 
 /// What an operation speaks of: a row, by its kind and its id, and the subkey that tells apart the rules that give it.

@@ -6,7 +6,7 @@ ghost use Rattle.ps_bucket_log.specs.Logs.{IsRising, cleared};
 
 use crate::Op;
 use ps_checksum::{Sum, add};
-use ps_values::OpId;
+use ps_data::OpId;
 
 // How many operations have ids up to the given one.
 pub fn place_past(ops: &[Op], id: OpId) -> usize

@@ -6,7 +6,7 @@ use crate::logs::Log;
 use crate::ops::Op;
 use crate::places::{front_upto, newest_id, place_past, total};
 use ps_checksum::Sum;
-use ps_values::{Items, Memory, OpId, copy_all};
+use ps_data::{Items, Memory, OpId, copy_all};
 use std::alloc::Global;
 use std::marker::Model;
 

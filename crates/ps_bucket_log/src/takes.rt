@@ -1,7 +1,7 @@
 //! What is taken of a store: a checkpoint, as it is for one asker.
 
 use ps_checksum::Sum;
-use ps_values::{Items, OpId, Position, Text};
+use ps_data::{Items, OpId, Position, Text};
 
 /// A bucket at a checkpoint: what its log has up to the checkpoint's op.
 #[derive(Debug, Drop)]

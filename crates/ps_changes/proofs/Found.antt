@@ -5,14 +5,15 @@ use Rattle.std.proofs.lemmas.Slice.Eq.{bytes_eq-Decides}
 use Rattle.std.proofs.lemmas.Bool.{leb-true, ltb-true}
 use Rattle.serde_json.specs.Data.{Data as Json, null, boolean, number, string, array, object, Items, no_items, item, Members, no_members, member}
 use Rattle.serde_json.specs.Find.{get, as_str, as_array, as_object}
-use Rattle.ps_values.specs.declared.columns.Column.{Column}
-use Rattle.ps_values.specs.declared.ids.Position.{Position}
-use Rattle.ps_values.specs.declared.values.Value.{Value}
+use Rattle.ps_data.specs.declared.columns.Column.{Column}
+use Rattle.ps_data.specs.declared.ids.Position.{Position}
+use Rattle.ps_data.specs.declared.values.Value.{Value}
 use Rattle.ps_values.specs.declared.conversions.ValueFault.{ValueFault}
-use Rattle.ps_values.specs.Conversions.{first_fault, numbers_of, value_of, IsValueOf}
-use Rattle.ps_values.specs.Documents.{json_of}
+use Rattle.ps_data.specs.Conversions.{value_of}
+use Rattle.ps_values.specs.ValueFaults.{first_fault, numbers_of, IsValueOf}
+use Rattle.ps_data.specs.Documents.{json_of}
 use Rattle.ps_values.specs.Laws.{ReadsWhatIsWritten}
-use Rattle.ps_values.specs.Numbers.{decimal_of, greatest}
+use Rattle.ps_data.specs.Numbers.{decimal_of, greatest}
 use Rattle.ps_changes.specs.Types.{Change, Transaction, ChangeFault, LineTooLong, BadJson, BadShape, BadPosition, BadValue}
 use Rattle.ps_changes.specs.Members.{◌>>=◌, or_fault}
 use Rattle.ps_rows.specs.Rows.{is_id}

@@ -3,11 +3,11 @@ use Rattle.std.proofs.Common.{◌≡◌, ◌≢◌, ℕ, Bool, true, false, List
 use Rattle.std.specs.Prelude.{nat_lt, decimal}
 use Rattle.std.proofs.lemmas.Slice.Eq.{bytes_eq-Decides}
 use Rattle.serde_json.specs.Data.{Data as Json, string, Items, Members}
-use Rattle.ps_values.specs.declared.columns.Column.{Column}
-use Rattle.ps_values.specs.declared.values.Value.{Value}
-use Rattle.ps_values.specs.Conversions.{IsValueOf}
+use Rattle.ps_data.specs.declared.columns.Column.{Column}
+use Rattle.ps_data.specs.declared.values.Value.{Value}
+use Rattle.ps_values.specs.ValueFaults.{IsValueOf}
 use Rattle.ps_values.specs.Laws.{ReadsWhatIsWritten}
-use Rattle.ps_values.specs.Numbers.{decimal_of}
+use Rattle.ps_data.specs.Numbers.{decimal_of}
 use Rattle.ps_changes.specs.Types.{Change, Transaction}
 use Rattle.ps_rows.specs.Rows.{is_id}
 use Rattle.ps_changes.specs.Shapes.{is_change, are_changes, has_changes, is_transaction}

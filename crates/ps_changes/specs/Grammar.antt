@@ -2,11 +2,11 @@
 use Rattle.std.specs.Prelude.{◌≡◌, ◌≢◌, ℕ, ◌<◌, ◌≤◌, List, [], ◌∷◌, length, codes, decimal, Option, Some, None, Ok}
 use Rattle.serde_json.specs.Data.{Data as Json, string, array, object, Items, no_items, item, Members, no_members, member}
 use Rattle.serde_json.specs.Find.{get}
-use Rattle.ps_values.specs.declared.columns.Column.{Column}
-use Rattle.ps_values.specs.declared.values.Value.{Value}
-use Rattle.ps_values.specs.Conversions.{IsValueOf}
-use Rattle.ps_values.specs.Numbers.{greatest}
-use Rattle.ps_values.specs.Documents.{json_of}
+use Rattle.ps_data.specs.declared.columns.Column.{Column}
+use Rattle.ps_data.specs.declared.values.Value.{Value}
+use Rattle.ps_values.specs.ValueFaults.{IsValueOf}
+use Rattle.ps_data.specs.Numbers.{greatest}
+use Rattle.ps_data.specs.Documents.{json_of}
 use Rattle.ps_changes.specs.Lines.{longest}
 use Rattle.ps_changes.specs.Types.{Change, Transaction}
 

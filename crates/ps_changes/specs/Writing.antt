@@ -3,10 +3,10 @@ use Rattle.std.specs.Prelude.{◌≢◌, ℕ, ◌<◌, ◌≤◌, List, [], ◌�
 use Rattle.serde_json.specs.Data.{Data as Json, string, array, object, Members, no_members, member, put}
 use Rattle.serde_json.specs.View.{items_of}
 use Rattle.serde_json.specs.Written.{compact_text}
-use Rattle.ps_values.specs.declared.columns.Column.{Column}
-use Rattle.ps_values.specs.Conversions.{IsValueOf}
-use Rattle.ps_values.specs.Documents.{data_of}
-use Rattle.ps_values.specs.Numbers.{greatest}
+use Rattle.ps_data.specs.declared.columns.Column.{Column}
+use Rattle.ps_values.specs.ValueFaults.{IsValueOf}
+use Rattle.ps_data.specs.Documents.{data_of}
+use Rattle.ps_data.specs.Numbers.{greatest}
 use Rattle.ps_changes.specs.Types.{Change, Transaction}
 
 -- a row's columns, in their order

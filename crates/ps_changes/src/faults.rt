@@ -1,4 +1,4 @@
-use ps_values::Memory;
+use ps_data::Memory;
 use std::alloc::{AllocError, AllocFailed};
 
 /// Why a change line, an upload's body or a change by itself was not read: docs/FORMATS.md, "Change lines". Of several faults the

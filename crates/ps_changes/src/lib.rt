@@ -12,6 +12,6 @@ mod writers;
 pub use faults::ChangeFault;
 pub use laws::lone_changes_are_spelled;
 pub use lines::{LineReader, read_change, read_changes, read_line};
+pub use ps_data::Column;
 pub use ps_rows::{Change, Row, Shown, Transaction};
-pub use ps_values::Column;
 pub use writers::{write_change, write_line};

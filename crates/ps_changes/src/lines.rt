@@ -10,8 +10,9 @@ use crate::borrowed::read_borrowed;
 use crate::readers::{read_list, read_object, read_transaction};
 use crate::shapes::{has_changes, is_change, is_transaction};
 use json::{Scratch, Value as Borrowed};
+use ps_data::Items;
 use ps_rows::{Change, Transaction};
-use ps_values::{Items, decimals_read_back};
+use ps_values::decimals_read_back;
 use std::alloc::Global;
 
 // The greatest number of bytes of a line.

@@ -9,8 +9,9 @@ ghost use Rattle.ps_changes.specs.Lines.{text_at, value_in, column_of, columns_o
 use crate::ChangeFault;
 use crate::borrowed::{as_list, as_members, as_text, in_order, member, number_in, owned};
 use json::Value as Borrowed;
+use ps_data::{Column, Items, Position, Text, Value};
 use ps_rows::{Change, Row, Transaction};
-use ps_values::{Column, Items, Position, Text, Value, ValueFault, read_decimal, value_of_json};
+use ps_values::{ValueFault, read_decimal, value_of_json};
 use std::alloc::Global;
 use std::collections::BTreeMap;
 

@@ -1,14 +1,15 @@
 ghost use Rattle.std.specs.Prelude.{◌≡◌, ◌≢◌, ◌≤◌, [], map, length, decimal, All, IfSome, IfOk, OnOk, Ok};
 ghost use Rattle.serde_json.specs.Data.{string, object, array, put as with_member};
 ghost use Rattle.serde_json.specs.View.{view, members_view, items_of};
-ghost use Rattle.ps_values.specs.Documents.{data_of};
-ghost use Rattle.ps_values.specs.Conversions.{IsValueOf};
+ghost use Rattle.ps_data.specs.Documents.{data_of};
+ghost use Rattle.ps_values.specs.ValueFaults.{IsValueOf};
 ghost use Rattle.ps_changes.specs.Lines.{longest, line_of, lone_change_of};
 ghost use Rattle.ps_changes.specs.Grammar.{AreColumns, IsChange, AreChanges, IsTransaction, IsLine, IsLoneChange};
 ghost use Rattle.ps_changes.specs.Writing.{members_of, with_row, change_json as json_of_change, transaction_json as json_of_transaction, change_text, line_text, IsWritable};
 
+use ps_data::{Memory, Value};
 use ps_rows::{Change, Row, Transaction};
-use ps_values::{Memory, Value, decimals_read_back, json_of_value};
+use ps_values::{decimals_read_back, json_of_value};
 use serde_json::{Map, Value as Json, put};
 use std::alloc::Global;
 

@@ -2,7 +2,7 @@ ghost use Rattle.std.specs.Prelude.{◌≡◌, List, ℕ};
 ghost use Rattle.sha2.specs.Hashers.{Holds256};
 ghost use Rattle.ps_checksum.specs.Sums.{add_sums, zero_sum, negated_sum, checksum_of, put_text, remove_text};
 
-use ps_values::Text;
+use ps_data::Text;
 use sha2::{Digest, Sha256};
 
 /// A checksum, or a total of checksums: a number modulo 2^32.

@@ -4,9 +4,10 @@ ghost use Rattle.serde_json.specs.View.{view};
 ghost use Rattle.ps_sql_eval.specs.Evaluated.{asker_of};
 ghost use Rattle.ps_claims.specs.Claims.{parameters_text as parameters_text_of, client_id as client_id_of, asker_in as asker_in_json, asker_of_claims};
 
+use ps_data::{Memory, Text};
 use ps_sql_eval::Asker;
 use ps_token::plain_text;
-use ps_values::{Memory, Text, read_json};
+use ps_values::read_json;
 use serde_json::Value as Json;
 use std::alloc::Global;
 

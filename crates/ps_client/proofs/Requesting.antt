@@ -13,8 +13,8 @@ use Rattle.std.proofs.lemmas.Str.{is_utf8-from_IsUtf8}
 use Rattle.serde_json.specs.Data.{object, no_members}
 use Rattle.serde_json.specs.Read.{read}
 use Rattle.serde_json.proofs.OnLiterals.{serde_json_on_literals}
-use Rattle.ps_values.specs.Documents.{json_of}
-use Rattle.ps_values.specs.Numbers.{greatest}
+use Rattle.ps_data.specs.Documents.{json_of}
+use Rattle.ps_data.specs.Numbers.{greatest}
 use Rattle.ps_bucket_log.specs.Buckets.{Bucket, fresh}
 use Rattle.ps_lines.specs.declared.bodies.Known.{Known}
 use Rattle.ps_lines.specs.Bodies.{IsParameters}

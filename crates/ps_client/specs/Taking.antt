@@ -1,6 +1,6 @@
 -- How a client stands for the plain client over a line.
 use Rattle.std.specs.Prelude.{◌≡◌, ℕ, ◌≤◌, List, Option, Result, Ok, Err, IfSome, IsSome}
-use Rattle.ps_values.specs.Numbers.{greatest}
+use Rattle.ps_data.specs.Numbers.{greatest}
 use Rattle.ps_bucket_log.specs.Ops.{newest}
 use Rattle.ps_bucket_log.specs.Logs.{IsRising}
 use Rattle.ps_lines.specs.declared.faults.LineFault.{LineFault}

@@ -1,5 +1,5 @@
 ghost use Rattle.std.specs.Prelude.{◌≡◌, ◌≢◌, ◌≤◌, [], IfOk, IfErr, IfSome, OnOk, OnErr, Ok, None, option_map};
-ghost use Rattle.ps_values.specs.Numbers.{greatest};
+ghost use Rattle.ps_data.specs.Numbers.{greatest};
 ghost use Rattle.ps_lines.specs.Bodies.{IsBody};
 ghost use Rattle.ps_lines.specs.Reading.{line_of};
 ghost use Rattle.ps_rows.specs.Source.{Key as Object};
@@ -20,9 +20,9 @@ use crate::streams::Stream;
 use crate::taking::{Step, take};
 use crate::{ClientFault, Event};
 use ps_client_log::{ClientLog, KeepFault, Keeper, Shown, Target};
+use ps_data::{Items, Memory, Text};
 use ps_lines::{Line, LineFault, StreamBody, read_line};
 use ps_rows::Change;
-use ps_values::{Items, Memory, Text};
 use std::alloc::Global;
 use std::mem;
 

@@ -1,5 +1,5 @@
 use ps_checksum::Sum;
-use ps_values::{Items, OpId, Text};
+use ps_data::{Items, OpId, Text};
 
 /// What a client says of a line that it took.
 #[derive(Debug, Drop)]

@@ -1,6 +1,6 @@
 use ps_client_log::KeepFault;
+use ps_data::Memory;
 use ps_lines::LineFault;
-use ps_values::Memory;
 use std::alloc::{AllocError, AllocFailed};
 
 /// Why a client did not do what it was asked.

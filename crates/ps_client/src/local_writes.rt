@@ -1,5 +1,5 @@
 ghost use Rattle.std.specs.Prelude.{◌≡◌, ◌≢◌, ◌≤◌, [], ◌∷◌, Some, IfOk, IfSome, OnOk, OnErr, option_map};
-ghost use Rattle.ps_values.specs.Numbers.{greatest};
+ghost use Rattle.ps_data.specs.Numbers.{greatest};
 ghost use Rattle.ps_client_log.specs.Keeping.{RoseWhereFailed};
 ghost use Rattle.ps_client_log.specs.Logs.{kept, keeper_of};
 ghost use Rattle.ps_client.specs.Keepers.{Follows};
@@ -9,8 +9,8 @@ use crate::showing::rows_with;
 use crate::taking::commit;
 use ps_changes::write_change;
 use ps_client_log::{ClientLog, Edit, KeepFault, Keeper, Target, edits_leave_what_is_sound};
+use ps_data::{Memory, Value};
 use ps_rows::{Change, Row};
-use ps_values::{Memory, Value};
 use std::alloc::Global;
 
 /// Keeps a local write, shows its row, and makes the target pending.

@@ -4,8 +4,8 @@ ghost use Rattle.ps_client.specs.Requests.{known_at, IsRequest};
 ghost use Rattle.ps_lines.specs.Bodies.{IsBody, IsParameters};
 
 use ps_client_log::{ClientLog, Keeper};
+use ps_data::{Items, Memory, Text};
 use ps_lines::{Known, StreamBody};
-use ps_values::{Items, Memory, Text};
 use std::alloc::Global;
 
 // How far buckets are held.

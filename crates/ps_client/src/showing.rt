@@ -11,8 +11,9 @@ ghost use Rattle.ps_client.specs.Listing.{content_at, row_at_entry};
 ghost use Rattle.ps_client.specs.LocalWrites.{is_of, shown_with};
 
 use ps_client_log::Shown;
+use ps_data::{Copied, Items, Memory, Text, copy_all};
 use ps_rows::Change;
-use ps_values::{Copied, Items, Memory, Text, copy_all, document};
+use ps_values::document;
 use std::alloc::Global;
 use std::collections::BTreeMap;
 

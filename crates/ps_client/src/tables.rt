@@ -1,5 +1,5 @@
 use crate::telling::Told;
-use ps_values::OpId;
+use ps_data::OpId;
 
 // What a stream's lines told of the checkpoint that is under way.
 #[derive(Drop)]

@@ -1,6 +1,6 @@
 ghost use Rattle.std.specs.Prelude.{◌≡◌, ◌≤◌, OnOk, OnErr, IfOk, map, filter, not, nat_le, unwrap_or};
 ghost use Rattle.std.specs.List.{list_all};
-ghost use Rattle.ps_values.specs.Numbers.{greatest};
+ghost use Rattle.ps_data.specs.Numbers.{greatest};
 ghost use Rattle.ps_bucket_log.specs.Ops.{newest, id_of};
 ghost use Rattle.ps_bucket_log.specs.Logs.{IsRising};
 ghost use Rattle.ps_client_log.specs.Edits.{CanMakeAll, with_edits};
@@ -19,8 +19,8 @@ use crate::telling::Told;
 use crate::{ClientFault, Differing, Event, Why};
 use ps_bucket_log::Op;
 use ps_client_log::{ClientLog, Edit, KeepFault, Keeper, Target, edits_leave_what_is_sound};
+use ps_data::{Items, Memory, OpId, Text};
 use ps_lines::{Entry, Line};
-use ps_values::{Items, Memory, OpId, Text};
 use std::alloc::Global;
 
 // What a line did: the event, and how far the stream is then.

@@ -5,8 +5,8 @@ ghost use Rattle.ps_client.specs.Tables.{is_told as is_told_in, with_entry, with
 
 use crate::Differing;
 use ps_client_log::{ClientLog, Keeper};
+use ps_data::{Items, Memory, Text};
 use ps_lines::Entry;
-use ps_values::{Items, Memory, Text};
 use std::alloc::Global;
 use std::collections::BTreeMap;
 use std::marker::Model;

@@ -7,7 +7,7 @@ use Rattle.ps_bucket_log.specs.declared.ops.Key.{Key}
 use Rattle.ps_bucket_log.specs.declared.ops.Op.TheVariants.{Put, Remove}
 use Rattle.ps_bucket_log.specs.Ops.{same_key}
 use Rattle.ps_bucket_log.specs.Buckets.{held_after}
-use Rattle.ps_values.specs.declared.ids.OpId.{OpId}
+use Rattle.ps_data.specs.declared.ids.OpId.{OpId}
 use Rattle.ps_client_log.specs.declared.images.Entry.{Entry}
 use Rattle.ps_client_log.specs.Images.{key_eq, put_at}
 use Rattle.ps_client_log.proofs.Keys.{key_eq-same_key, same_key-true}

@@ -1,7 +1,7 @@
 -- Which states are sound.
 use Rattle.std.specs.Prelude.{◌≢◌, ℕ, ◌≤◌, Bool, ◌&&◌, List, [], map, IfSome, bytes_eq}
 use Rattle.std.specs.List.{All, IsDistinct}
-pub use Rattle.ps_values.specs.Numbers.{greatest}
+pub use Rattle.ps_data.specs.Numbers.{greatest}
 use Rattle.ps_bucket_log.specs.declared.ops.Key.{Key}
 use Rattle.ps_bucket_log.specs.Ops.{id_of, same_key}
 use Rattle.ps_bucket_log.specs.Buckets.{Bucket}

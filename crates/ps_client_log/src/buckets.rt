@@ -10,7 +10,7 @@ use crate::slots::Slot;
 use indexmap::IndexMap;
 use ps_bucket_log::Op;
 use ps_checksum::Sum;
-use ps_values::{Items, Memory, OpId, Text};
+use ps_data::{Items, Memory, OpId, Text};
 use std::alloc::Global;
 
 // The buckets by name.

@@ -19,8 +19,8 @@ use crate::rows::{bucket_names, held_rows};
 use crate::{Edit, KeepFault, Keeper, Shown, Target};
 use ps_bucket_log::Op;
 use ps_checksum::Sum;
+use ps_data::{Items, Memory, OpId, Text};
 use ps_rows::Change;
-use ps_values::{Items, Memory, OpId, Text};
 use std::alloc::Global;
 use std::marker::Model;
 

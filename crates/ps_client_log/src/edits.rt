@@ -2,8 +2,8 @@ ghost use Rattle.std.specs.Prelude.{◌≡◌, IfOk};
 
 use crate::Target;
 use ps_bucket_log::Op;
+use ps_data::{Copied, Items, Memory, Text, copy_all};
 use ps_rows::{Change, Shown};
-use ps_values::{Copied, Items, Memory, Text, copy_all};
 use std::alloc::Global;
 
 /// A change of what a client keeps.

@@ -12,8 +12,8 @@ use crate::queues::Queue;
 use crate::rooms::rooms_for;
 use crate::{Edit, State, Target};
 use indexmap::IndexMap;
+use ps_data::{Items, Memory, Text, copy_all};
 use ps_rows::Shown;
-use ps_values::{Items, Memory, Text, copy_all};
 use std::alloc::Global;
 
 // A client's state in memory.

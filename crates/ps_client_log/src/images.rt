@@ -8,7 +8,7 @@ use crate::Held;
 use indexmap::IndexMap;
 use ps_bucket_log::{Key, Op};
 use ps_checksum::{Sum, add};
-use ps_values::{Items, Memory, OpId, Text};
+use ps_data::{Items, Memory, OpId, Text};
 use std::alloc::Global;
 
 // What is held of a key.

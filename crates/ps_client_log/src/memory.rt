@@ -9,8 +9,8 @@ ghost use Rattle.ps_client_log.specs.Rooms.{kept_by};
 use crate::holdings::Holdings;
 use crate::saving::state_of;
 use crate::{Edit, KeepFault, Keeper, State};
+use ps_data::Items;
 use ps_io::Calls;
-use ps_values::Items;
 use std::alloc::Global;
 use std::marker::Model;
 

@@ -1,7 +1,7 @@
 ghost use Rattle.std.specs.Prelude.{◌≡◌, ◌≢◌, ◌+◌, ◌≤◌, ◌∷◌, [], ◌++◌, drop, OnOk};
 
+use ps_data::Memory;
 use ps_rows::Change;
-use ps_values::Memory;
 use std::alloc::Global;
 use std::marker::Model;
 

@@ -5,7 +5,7 @@ ghost use Rattle.ps_client_log.specs.Rooms.{brings, given};
 
 use crate::Edit;
 use indexmap::IndexMap;
-use ps_values::{Memory, Text};
+use ps_data::{Memory, Text};
 use std::alloc::Global;
 
 // Gives more room to a name.

@@ -23,7 +23,7 @@ use crate::images::Entry;
 use crate::slots::Slot;
 use indexmap::IndexMap;
 use ps_bucket_log::Key;
-use ps_values::{Memory, OpId, Text};
+use ps_data::{Memory, OpId, Text};
 use std::alloc::Global;
 use std::collections::{BTreeMap, BTreeSet};
 

@@ -18,7 +18,7 @@ use crate::{BucketState, Held, State};
 use indexmap::IndexMap;
 use ps_bucket_log::Key;
 use ps_checksum::{Sum, add};
-use ps_values::{Items, Memory, Text, copy_all};
+use ps_data::{Items, Memory, Text, copy_all};
 use std::alloc::Global;
 
 // An entry as a state lists it.

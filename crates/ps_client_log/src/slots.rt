@@ -4,7 +4,7 @@ ghost use Rattle.ps_client_log.specs.Images.{slot_bucket, slot_room};
 
 use crate::images::Image;
 use ps_bucket_log::Op;
-use ps_values::Memory;
+use ps_data::Memory;
 use std::alloc::Global;
 
 // The place of a bucket. Where the bucket is not there, it only keeps room.

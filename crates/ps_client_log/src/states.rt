@@ -1,7 +1,7 @@
 use ps_bucket_log::Key;
 use ps_checksum::Sum;
+use ps_data::{Items, OpId, Text};
 use ps_rows::{Change, Shown};
-use ps_values::{Items, OpId, Text};
 
 /// All that a client keeps. The order of `buckets`, of what a bucket holds and of `shown` says nothing:
 /// states that differ in it alone are one.

@@ -3,7 +3,7 @@ ghost use Rattle.ps_client_log.specs.Kept.{kept_of, nothing_kept};
 ghost use Rattle.ps_client_log.specs.Soundness.{IsSoundState};
 
 use crate::{Edit, KeepFault, Keeper, State, Target};
-use ps_values::Items;
+use ps_data::Items;
 use std::alloc::Global;
 
 /// A keeper for a client whose state ends with the program: it keeps nothing, and so does not tell what it keeps. It never fails.

@@ -3,7 +3,7 @@ use Rattle.std.proofs.Common.{◌≡◌, ℕ, List, [], ◌∷◌, Option, Some,
 use Rattle.std.specs.Prelude.{Result, unwrap_or}
 use Rattle.std.specs.List.{list_all}
 use Rattle.std.proofs.lemmas.Bool.{cases_Bool}
-use Rattle.ps_values.specs.declared.ids.OpId.{OpId}
+use Rattle.ps_data.specs.declared.ids.OpId.{OpId}
 use Rattle.ps_bucket_log.specs.declared.ops.Op.{Op}
 use Rattle.ps_client_log.specs.declared.states.Target.{Target}
 use Rattle.ps_client_log.specs.declared.states.Target.TheVariants.{Free}

@@ -6,11 +6,11 @@ ghost use Rattle.ps_commands.specs.Dues.{Answers};
 ghost use Rattle.ps_files.specs.ReadingChanges.{HasCommitted};
 
 use crate::syncing::synced_rows;
+use ps_data::Items;
 use ps_files::Fault;
 use ps_rows::Shown;
 use ps_sql_eval::Asker;
 use ps_store::{Store, TakeFault, ledgers_tell_histories};
-use ps_values::Items;
 use std::alloc::Global;
 
 /// The rows that are due to an asker over all transactions of a change file that was written into a store: those that a new client

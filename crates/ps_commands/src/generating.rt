@@ -11,13 +11,13 @@ ghost use Rattle.ps_files.specs.ChangeFiles.{CanBeFed};
 ghost use Rattle.ps_files.specs.ReadingChanges.{HasCommitted};
 
 use crate::syncing::synced_rows;
+use ps_data::{Items, Memory, Text};
 use ps_definitions::Rules;
 use ps_files::{Compacted, Fault, compact_all, push_number, read_rules_file, write_transactions};
 use ps_gen::{make_input, make_rules};
 use ps_rows::Transaction;
 use ps_sql_eval::Asker;
 use ps_store::{Store, TakeFault, Totals, have_numbers, ledgers_tell_histories};
-use ps_values::{Items, Memory, Text};
 use std::alloc::Global;
 
 // The asker of the one stream.

@@ -16,8 +16,8 @@ ghost use Rattle.ps_commands.specs.Turning.{IsIdle};
 use ps_client::{Client, ClientFault, Event};
 use ps_client_log::VolatileKeeper;
 use ps_core::{clients_answer_right, clients_are_led};
+use ps_data::Memory;
 use ps_lines::{Line, write_line};
-use ps_values::Memory;
 use std::alloc::Global;
 
 // Want of memory, the one fault that may come.

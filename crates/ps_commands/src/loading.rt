@@ -6,12 +6,12 @@ ghost use Rattle.ps_commands.specs.Loading.{FindsRows, RefusesRows, Prepares};
 
 use crate::answering::due_rows;
 use ps_core::print_rows;
+use ps_data::Text;
 use ps_definitions::Rules;
 use ps_files::{FILE_LIMIT, Fault, load, write_changes};
 use ps_io::Files;
 use ps_sql_eval::Asker;
 use ps_store::Store;
-use ps_values::Text;
 use std::alloc::Global;
 
 // The store that a change file's bytes are written into, which are dropped then.

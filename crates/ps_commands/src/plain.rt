@@ -11,13 +11,13 @@ ghost use Rattle.ps_files.specs.declared.faults.ScriptCause.{ScriptCause as Scri
 use crate::generating::print_summary;
 use crate::loading::load_rows;
 use crate::replaying::replay_files;
+use ps_data::{Memory, Text};
 use ps_files::{
     Fault, load_asker, load_keys, load_reports, load_rules, made_count, print_check, print_made,
     say, sign_line,
 };
 use ps_io::{Files, Sink};
 use ps_token::SignFault;
-use ps_values::{Memory, Text};
 use std::alloc::Global;
 
 // Does the command that the words are: docs/FORMATS.md, "Commands".

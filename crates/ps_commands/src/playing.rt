@@ -12,11 +12,11 @@ ghost use Rattle.ps_commands.specs.Replays.{Replays, StepsLine, SpellsLine, Prin
 
 use crate::replay_faults::ReplayFault;
 use ps_core::{Effect, World, effect_text, plays_begin_led};
+use ps_data::Memory;
 use ps_definitions::Rules;
 use ps_io::Sink;
 use ps_rows::Transaction;
 use ps_script::{ScriptFault, is_skipped, read_event, split_line};
-use ps_values::Memory;
 use std::alloc::Global;
 
 // The effect of a line's event, which comes.

@@ -1,5 +1,5 @@
+use ps_data::Memory;
 use ps_script::ScriptFault;
-use ps_values::Memory;
 
 /// Why a script was not played to its end.
 #[derive(Clone, Copy, PartialEq, Eq)]

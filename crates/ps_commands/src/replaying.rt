@@ -7,12 +7,12 @@ ghost use Rattle.ps_commands.specs.Replaying.{PlaysOut, stopped_by};
 
 use crate::playing::replay;
 use crate::replay_faults::ReplayFault;
+use ps_data::Text;
 use ps_definitions::Rules;
 use ps_files::{FILE_LIMIT, Fault, ScriptCause, load, load_rules, load_transactions};
 use ps_io::{Files, Sink};
 use ps_rows::Transaction;
 use ps_script::ScriptFault;
-use ps_values::Text;
 use std::alloc::Global;
 
 // Why the line of that number ends a script.

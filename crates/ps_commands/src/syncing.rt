@@ -19,11 +19,11 @@ use crate::starting::{begin_client, open_session};
 use crate::turning::{complete, download, take};
 use ps_client::Client;
 use ps_client_log::VolatileKeeper;
+use ps_data::{Items, Memory};
 use ps_rows::Shown;
 use ps_session::Session;
 use ps_sql_eval::Asker;
 use ps_store::{Store, TakeFault, courses_are_lawful, places_are_fronts};
-use ps_values::{Items, Memory};
 use std::alloc::Global;
 
 // The rows that the client shows once all of the checkpoint that it has begun to take is sent and applied.

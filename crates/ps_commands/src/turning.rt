@@ -21,9 +21,9 @@ use crate::handing::{hand, pass};
 use ps_client::Client;
 use ps_client_log::VolatileKeeper;
 use ps_core::{calls_make_turns, clients_are_led};
+use ps_data::{Memory, OpId};
 use ps_session::{Action, Session};
 use ps_store::{Store, TakeFault, courses_are_lawful, places_are_fronts};
-use ps_values::{Memory, OpId};
 use std::alloc::Global;
 
 // Takes the first checkpoint.

@@ -5,7 +5,7 @@ use crate::Report;
 use crate::fronts::{cleared_len, with_clear};
 use crate::targets::{moved_ops, moves, targets};
 use ps_bucket_log::{Log, Op};
-use ps_values::{Items, Memory, OpId};
+use ps_data::{Items, Memory, OpId};
 use std::alloc::Global;
 
 // The front of a log that is compacted.

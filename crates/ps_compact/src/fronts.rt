@@ -6,7 +6,7 @@ ghost use Rattle.ps_compact.specs.Compaction.{front_count, target_past, clear_fo
 
 use ps_bucket_log::Op;
 use ps_checksum::{Sum, add};
-use ps_values::{Memory, OpId};
+use ps_data::{Memory, OpId};
 use std::alloc::Global;
 
 // Whether it is a PUT.

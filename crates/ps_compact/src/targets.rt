@@ -7,7 +7,7 @@ ghost use Rattle.ps_compact.specs.Compaction.{first_id, own_id, moved_to, moved 
 ghost use Rattle.ps_compact.specs.Meeting.{id_met, target_among};
 
 use ps_bucket_log::{Key, Op};
-use ps_values::{Memory, OpId};
+use ps_data::{Memory, OpId};
 use std::alloc::Global;
 use std::collections::BTreeMap;
 

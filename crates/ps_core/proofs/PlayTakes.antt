@@ -1,7 +1,7 @@
 -- A client takes the oldest line that waits.
 use Rattle.std.proofs.Common.{◌≡◌, ℕ, ◌≤◌, List, [], ◌∷◌, ◌++◌, length, Some, Ok, Err, refl, sym, ap, subst, ◌∙◌}
 use Rattle.std.specs.Prelude.{Result}
-use Rattle.ps_values.specs.declared.ids.OpId.{OpId}
+use Rattle.ps_data.specs.declared.ids.OpId.{OpId}
 use Rattle.ps_lines.specs.Writing.{without_targets}
 use Rattle.ps_client_log.specs.Kept.{Kept}
 use Rattle.ps_client.specs.declared.events.Event.{Event as ClientEvent}

@@ -4,7 +4,7 @@ use Rattle.std.specs.Prelude.{unwrap_or, bytes_eq, is_some, All}
 use Rattle.std.specs.List.{list_all}
 use Rattle.std.proofs.lemmas.Bool.{cases_Bool, eq-eqb, ltb-true, ltb-false}
 use Rattle.std.proofs.lemmas.List.Elements.{All-map}
-use Rattle.ps_values.specs.declared.ids.OpId.{OpId}
+use Rattle.ps_data.specs.declared.ids.OpId.{OpId}
 use Rattle.ps_bucket_log.specs.declared.ops.Key.{Key}
 use Rattle.ps_bucket_log.specs.declared.ops.Op.{Op}
 use Rattle.ps_bucket_log.specs.declared.batches.Batch.{Batch}
@@ -21,7 +21,7 @@ use Rattle.ps_client_log.specs.Rows.{IsLatestContent}
 use Rattle.ps_lines.specs.declared.lines.Entry.{Entry}
 use Rattle.ps_lines.specs.declared.lines.Line.TheVariants.{Data}
 use Rattle.ps_lines.specs.Writing.{IsWritable}
-use Rattle.ps_values.specs.Numbers.{greatest}
+use Rattle.ps_data.specs.Numbers.{greatest}
 use Rattle.ps_client.specs.declared.events.Why.{Why}
 use Rattle.ps_client.specs.declared.tables.Table.{Table}
 use Rattle.ps_client.specs.declared.streams.Stream.{Stream}

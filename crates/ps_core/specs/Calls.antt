@@ -1,6 +1,6 @@
 -- The calls of sessions and clients make turns, and take their lines.
 use Rattle.std.specs.Prelude.{◌≡◌, ◌≢◌, ℕ, ◌≤◌, ◌⊎◌, List, [], Contains, Some, None, Result, Ok, Err, option_map, OnOk, IfSome}
-use Rattle.ps_values.specs.declared.ids.OpId.{OpId}
+use Rattle.ps_data.specs.declared.ids.OpId.{OpId}
 use Rattle.ps_rows.specs.declared.shown.Shown.{Shown}
 use Rattle.ps_client_log.specs.Kept.{Kept}
 use Rattle.ps_lines.specs.declared.bodies.StreamBody.{StreamBody}

@@ -1,6 +1,6 @@
 -- What the parts of a world do: to its store, and to one of its clients.
 use Rattle.std.specs.Prelude.{◌≡◌, ◌≢◌, ℕ, ◌++◌, false, List, [], Some, Result, Ok, Err, bytes_eq}
-use Rattle.ps_values.specs.declared.shortage.Memory as values
+use Rattle.ps_data.specs.declared.shortage.Memory as values
 use Rattle.ps_definitions.specs.RuleSets.{AreRules}
 use Rattle.ps_rows.specs.declared.changes.Transaction.{Transaction}
 use Rattle.ps_client.specs.declared.faults.ClientFault.{ClientFault}

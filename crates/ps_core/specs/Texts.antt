@@ -5,7 +5,7 @@ use Rattle.ps_client.specs.declared.events.Differing.{Differing}
 use Rattle.ps_client.specs.declared.events.Why.{Why}
 use Rattle.ps_client.specs.declared.events.Why.TheVariants.{Queue, Pending, Target}
 use Rattle.ps_lines.specs.Writing.{IsWritable, text_of}
-use Rattle.ps_values.specs.Documents.{quoted_of}
+use Rattle.ps_data.specs.Documents.{quoted_of}
 use Rattle.ps_core.specs.declared.effects.Effect.{Effect}
 use Rattle.ps_core.specs.declared.effects.Effect.TheVariants.{Fed, FedNotRising, FedClosed, Closed, Wrote, NothingToWrite, TooWide, OpsFull, Committed, NothingToCommit, Compacted, NoBucket, Client, Opened, Line, Waiting, Passed, TooMany, Nothing, Applied, Held, Refused, OutOfOrder, BadLine, NoLine, Cut, Local, Uploaded, QueueEmpty, PositionsFull, Number, NumberFull, Rows, Totals}
 

@@ -1,9 +1,9 @@
 use ps_client::{Differing, Why};
 use ps_compact::Report;
+use ps_data::{Items, OpId, Position, Text};
 use ps_lines::Line;
 use ps_rows::Shown;
 use ps_store::{Checkpoint, Totals};
-use ps_values::{Items, OpId, Position, Text};
 
 /// What an event of a script did.
 #[derive(Drop)]

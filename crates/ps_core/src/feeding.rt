@@ -12,9 +12,9 @@ ghost use Rattle.ps_core.specs.Feeding.{Goes, IsLeft, FeedsAll};
 ghost use Rattle.ps_core.specs.Scripts.{AreLow};
 
 use crate::effects::Effect;
+use ps_data::Memory;
 use ps_rows::Transaction;
 use ps_store::{FeedFault, Store};
-use ps_values::Memory;
 use std::collections::VecDeque;
 
 // Why a transaction may not be fed now, behind so many that were.

@@ -1,8 +1,9 @@
 ghost use Rattle.std.specs.Prelude.{◌≡◌, ◌++◌, ◌∷◌, [], IfOk, OnOk};
 ghost use Rattle.ps_core.specs.Texts.{row_text, rows_text};
 
+use ps_data::Memory;
 use ps_rows::Shown;
-use ps_values::{Memory, quoted};
+use ps_values::quoted;
 use std::alloc::Global;
 
 // Prints a row.

@@ -11,8 +11,8 @@ ghost use Rattle.ps_core.specs.Worlds.{ReaderStandsFor};
 use crate::readers::Reader;
 use ps_client::Client;
 use ps_client_log::VolatileKeeper;
+use ps_data::{Memory, Text};
 use ps_sql_eval::Asker;
-use ps_values::{Memory, Text};
 use std::alloc::Global;
 
 // An equal asker.

@@ -9,8 +9,8 @@ ghost use Rattle.ps_core.specs.Plays.{Play};
 ghost use Rattle.ps_core.specs.Parts.{CameStill};
 
 use crate::effects::Effect;
+use ps_data::{Memory, Text};
 use ps_store::{CompactFault, NothingToCommit, Store, WriteFault};
-use ps_values::{Memory, Text};
 use std::alloc::Global;
 
 // Nothing more is fed.

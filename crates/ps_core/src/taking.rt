@@ -15,8 +15,8 @@ use crate::effects::Effect;
 use crate::readers::Reader;
 use ps_client::{Client, ClientFault, Event};
 use ps_client_log::VolatileKeeper;
+use ps_data::Memory;
 use ps_script::ScriptFault;
-use ps_values::Memory;
 use std::alloc::Global;
 
 // What a client says of a line, and whether its stream is over then.

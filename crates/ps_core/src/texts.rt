@@ -5,10 +5,10 @@ use crate::Effect;
 use crate::printing::push_rows;
 use ps_client::{Differing, Why};
 use ps_compact::Report;
+use ps_data::{Memory, Position, Text};
 use ps_lines::write_line;
 use ps_rows::Shown;
 use ps_store::{Checkpoint, Totals};
-use ps_values::{Memory, Position, Text};
 use std::alloc::Global;
 
 // A line of nothing but fixed words.

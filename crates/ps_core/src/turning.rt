@@ -18,10 +18,10 @@ ghost use Rattle.ps_core.specs.Worlds.{AreWaiting, bytes_of};
 use crate::effects::Effect;
 use crate::readers::Stream;
 use crate::stream_laws::calls_make_turns;
+use ps_data::{Memory, OpId};
 use ps_lines::{Line, write_line};
 use ps_session::Action;
 use ps_store::{Store, TakeFault, courses_are_lawful, places_are_fronts};
-use ps_values::{Memory, OpId};
 use std::alloc::Global;
 use std::collections::VecDeque;
 

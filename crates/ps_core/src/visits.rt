@@ -10,10 +10,10 @@ use crate::readers::Reader;
 use crate::streaming::{cut, open, turn};
 use crate::taking::{rows, take};
 use crate::writing::{number, upload, write_locally};
+use ps_data::{Memory, Text};
 use ps_rows::Change;
 use ps_script::ScriptFault;
 use ps_store::Store;
-use ps_values::{Memory, Text};
 use std::alloc::Global;
 
 // What a client is asked for.

@@ -17,12 +17,12 @@ use crate::readers::Reader;
 use crate::starting::begin;
 use crate::storing::{close, commit, compact, totals, write};
 use crate::visits::{Visit, act};
+use ps_data::{Memory, Text};
 use ps_definitions::Rules;
 use ps_rows::{Change, Transaction};
 use ps_script::{ScriptEvent, ScriptFault};
 use ps_sql_eval::Asker;
 use ps_store::{Limits, Store, have_numbers, places_are_fronts};
-use ps_values::{Memory, Text};
 use std::alloc::Global;
 use std::collections::{BTreeMap, VecDeque};
 

@@ -15,10 +15,10 @@ ghost use Rattle.ps_core.specs.Parts.{Acts, CameTo, IsAt, IsWant};
 use crate::effects::Effect;
 use crate::readers::Reader;
 use ps_client::ClientFault;
+use ps_data::{Items, Memory, Text};
 use ps_rows::Change;
 use ps_script::ScriptFault;
 use ps_store::{FeedFault, Store, places_are_fronts};
-use ps_values::{Items, Memory, Text};
 use ps_write_cp::NumberFault;
 use std::alloc::Global;
 

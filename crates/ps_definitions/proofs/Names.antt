@@ -6,8 +6,8 @@ use Rattle.json.specs.Tree.{items_tokens}
 use Rattle.serde_json.specs.View.{items_of}
 use Rattle.serde_json.specs.Written.{items_outline}
 use Rattle.serde_json.proofs.Texts.{print-outline}
-use Rattle.ps_values.specs.declared.values.Value.{Value}
-use Rattle.ps_values.specs.Documents.{data_of}
+use Rattle.ps_data.specs.declared.values.Value.{Value}
+use Rattle.ps_data.specs.Documents.{data_of}
 use Rattle.ps_values.specs.Writing.{value_tokens}
 use Rattle.ps_definitions.specs.Buckets.{array_json, bucket_name_of}
 

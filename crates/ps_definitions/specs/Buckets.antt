@@ -6,8 +6,8 @@ use Rattle.std.specs.BTreeSet.{insert_key}
 use Rattle.serde_json.specs.Data.{Data, array}
 use Rattle.serde_json.specs.View.{items_of}
 use Rattle.serde_json.specs.Written.{compact_text}
-use Rattle.ps_values.specs.declared.values.Value.{Value}
-use Rattle.ps_values.specs.Documents.{data_of}
+use Rattle.ps_data.specs.declared.values.Value.{Value}
+use Rattle.ps_data.specs.Documents.{data_of}
 
 -- a vector as a JSON array
 abbrev pub array_json : List Value → Data

@@ -1,8 +1,8 @@
 -- The laws of branches and of buckets' names.
 use Rattle.std.specs.Prelude.{◌≡◌, ℕ, ◌<◌, ◌^◌, pos, negsuc, ◌↔◌, Bool, true, false, not, List, [], ◌∷◌, ◌++◌, Option}
 use Rattle.std.specs.List.{AllByRecursion}
-use Rattle.ps_values.specs.declared.values.Value.{Value}
-use Rattle.ps_values.specs.declared.values.Value.TheVariants.{Null, Int, Text}
+use Rattle.ps_data.specs.declared.values.Value.{Value}
+use Rattle.ps_data.specs.declared.values.Value.TheVariants.{Null, Int, Text}
 use Rattle.ps_queries.specs.declared.expressions.Expr.{Expr, out-Expr}
 use Rattle.ps_queries.specs.declared.expressions.Expr.TheOpen.{Expr-F}
 use Rattle.ps_queries.specs.declared.expressions.Expr.TheOpen as layers

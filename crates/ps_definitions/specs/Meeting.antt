@@ -2,8 +2,8 @@
 use Rattle.std.specs.Prelude.{Bool, false, ◌&&◌, if◌then◌else◌, List, Option, Some, None}
 use Rattle.std.specs.List.{list_any, list_all}
 use Rattle.serde_json.specs.Data.{Items}
-use Rattle.ps_values.specs.declared.values.Value.{Value}
-use Rattle.ps_values.specs.Values.{equal_sql}
+use Rattle.ps_data.specs.declared.values.Value.{Value}
+use Rattle.ps_data.specs.Values.{equal_sql}
 use Rattle.ps_queries.specs.declared.expressions.Expr.{Expr}
 use Rattle.ps_queries.specs.Meaning.{Given, value_of, is_true, any_equals, array_of, holds}
 use Rattle.ps_definitions.specs.declared.matches.Match.{Match}

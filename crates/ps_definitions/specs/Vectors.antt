@@ -1,8 +1,8 @@
 -- The vectors of a definition's parameters that an asker has over the rows of a source.
 use Rattle.std.specs.Prelude.{ℕ, if◌then◌else◌, List, [], ◌∷◌, filter, Option, Some, None, bytes_eq}
 use Rattle.std.specs.List.{flat_map}
-use Rattle.ps_values.specs.declared.values.Value.{Value}
-use Rattle.ps_values.specs.declared.values.Value.TheVariants.{Null}
+use Rattle.ps_data.specs.declared.values.Value.{Value}
+use Rattle.ps_data.specs.declared.values.Value.TheVariants.{Null}
 use Rattle.ps_queries.specs.declared.queries.ParameterQuery.{ParameterQuery}
 use Rattle.ps_queries.specs.Meaning.{Asker}
 use Rattle.ps_queries.specs.Vectors.{SourceRow, vector_on}

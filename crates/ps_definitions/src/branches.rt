@@ -1,6 +1,6 @@
 use crate::Match;
+use ps_data::Items;
 use ps_queries::Expr;
-use ps_values::Items;
 
 /// One way for a condition to hold: all of its matches allow the parameters' values, and all of its other leaves hold.
 #[derive(Debug, Drop)]

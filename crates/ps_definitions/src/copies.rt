@@ -1,7 +1,7 @@
 //! Equal values, made anew.
 
 use crate::{Branch, Definition, Match, Planned, Warning};
-use ps_values::{Copied, Memory, copy_all};
+use ps_data::{Copied, Memory, copy_all};
 use std::alloc::Global;
 
 impl Copied for Match {

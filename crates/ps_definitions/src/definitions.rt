@@ -1,6 +1,6 @@
 use crate::Planned;
+use ps_data::{Items, Text};
 use ps_queries::ParameterQuery;
-use ps_values::{Items, Text};
 
 /// A bucket definition.
 #[derive(Debug)]

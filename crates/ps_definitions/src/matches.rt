@@ -1,5 +1,5 @@
+use ps_data::Text;
 use ps_queries::Expr;
-use ps_values::Text;
 
 /// A leaf that says which values a parameter may have: `bucket.name = other`, or `bucket.name IN other` where listed.
 #[derive(Debug)]

@@ -5,7 +5,8 @@ ghost use Rattle.ps_definitions.specs.Buckets.{array_json, bucket_name_of};
 ghost use Rattle.ps_definitions.specs.Laws.{IsSqlValue};
 
 use json::Writer;
-use ps_values::{Memory, Text, Value, text_written, write_value};
+use ps_data::{Memory, Text, Value};
+use ps_values::{text_written, write_value};
 use std::alloc::Global;
 
 /// The name of a definition's bucket with these values of its parameters: the definition's name, and right behind it the

@@ -1,6 +1,6 @@
 use crate::Branch;
+use ps_data::Items;
 use ps_queries::DataQuery;
-use ps_values::Items;
 
 /// A data query with its number and its branches.
 #[derive(Debug, Drop)]

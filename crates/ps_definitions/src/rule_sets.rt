@@ -2,7 +2,7 @@ ghost use Rattle.std.specs.Prelude.{◌≡◌, IfOk};
 ghost use Rattle.ps_definitions.specs.RuleSets.{AreRules, RuleSet};
 
 use crate::{Definition, Warning};
-use ps_values::{Items, Memory, copy_all};
+use ps_data::{Items, Memory, copy_all};
 use std::alloc::Global;
 use std::marker::Model;
 

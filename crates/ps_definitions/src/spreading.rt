@@ -6,8 +6,8 @@ ghost use Rattle.ps_definitions.specs.Branches.{match_of as match_in, match_of_s
 ghost use Rattle.ps_definitions.specs.Laws.{is_leaf as stands_alone, is_spread, is_either};
 
 use crate::{Branch, Match};
+use ps_data::{Items, Memory, copy_all, copy_behind};
 use ps_queries::{Expr, Operator, Subject};
-use ps_values::{Items, Memory, copy_all, copy_behind};
 use std::alloc::Global;
 
 /// The most branches that a condition may have.

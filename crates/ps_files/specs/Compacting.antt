@@ -1,7 +1,7 @@
 -- What the compaction of each bucket reports.
 use Rattle.std.specs.Prelude.{◌≡◌, ℕ, List, [], ◌∷◌, ◌++◌, map, flat_map, codes, decimal, Result, Ok, Err, Vec}
 use Rattle.std.specs.declared.alloc.Global.{Global}
-use Rattle.ps_values.specs.declared.shortage.Memory.{Memory}
+use Rattle.ps_data.specs.declared.shortage.Memory.{Memory}
 use Rattle.ps_rows.specs.declared.changes.Transaction.{Transaction}
 use Rattle.ps_compact.specs.declared.reports.Report.{Report}
 use Rattle.ps_compact.specs.Compaction.{report_of}

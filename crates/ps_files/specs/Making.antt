@@ -2,7 +2,7 @@
 use Rattle.std.specs.Prelude.{ℕ, nat_le, ◌&&◌, List, ◌++◌, flat_map, codes, Option, Some, None, option_and_then, if◌then◌else◌}
 use Rattle.ps_rows.specs.declared.changes.Transaction.{Transaction}
 use Rattle.ps_changes.specs.Writing.{line_text}
-use Rattle.ps_values.specs.Numbers.{decimal_of}
+use Rattle.ps_data.specs.Numbers.{decimal_of}
 
 -- the lines of transactions, each with a line feed
 abbrev pub lines_text : List Transaction → List ℕ

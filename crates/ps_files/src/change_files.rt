@@ -12,13 +12,13 @@ ghost use Rattle.ps_files.specs.ReadingChanges.{ReadsRising, IsPending, HasCommi
 
 use crate::faults::{Fault, Limit, LineFault};
 use ps_changes::{ChangeFault, LineReader};
+use ps_data::{Items, Memory};
 use ps_definitions::Rules;
 use ps_rows::Transaction;
 use ps_script::{is_blank, split_line};
 use ps_store::{
     FeedFault, Limits, NothingToCommit, Store, WriteFault, have_numbers, ledgers_tell_histories,
 };
-use ps_values::{Items, Memory};
 use std::alloc::Global;
 
 // The most changes that are written at once.

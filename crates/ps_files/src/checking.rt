@@ -1,8 +1,8 @@
 ghost use Rattle.std.specs.Prelude.{◌≡◌, ◌++◌, string_bytes, flat_map, codes, decimal, IfOk, OnOk};
 ghost use Rattle.ps_files.specs.Checking.{definition_line, warning_line, kind_text as kind_text_of, check_text};
 
+use ps_data::Memory;
 use ps_definitions::{Definition, Rules, Warning, WarningKind};
-use ps_values::Memory;
 use std::alloc::Global;
 
 /// Adds the decimal text of a number.

@@ -14,10 +14,10 @@ use crate::checking::push_number;
 use crate::faults::Fault;
 use crate::loading::{FILE_LIMIT, load};
 use ps_compact::Report;
+use ps_data::{Items, Memory, Text};
 use ps_definitions::Rules;
 use ps_io::Files;
 use ps_store::{CompactFault, Store, totals_tell_histories};
-use ps_values::{Items, Memory, Text};
 use std::alloc::Global;
 
 /// What the compaction of a bucket did.

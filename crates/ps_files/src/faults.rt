@@ -1,4 +1,4 @@
-use ps_values::{Memory, Text};
+use ps_data::{Memory, Text};
 use std::alloc::{AllocError, AllocFailed};
 
 /// Why a change line is refused: docs/FORMATS.md, "Change lines". Of several faults the one that stands first here is answered.

@@ -4,11 +4,11 @@ ghost use Rattle.ps_files.specs.Loading.{Loads, IsContent, RefusesNothing, Finds
 use crate::faults::Fault;
 use crate::rules_faults::read_rules_file;
 use ps_claims::read_claims;
+use ps_data::Text;
 use ps_definitions::Rules;
 use ps_io::{FileFault, Files};
 use ps_sql_eval::Asker;
 use ps_token::{Keys, KeysFault, read_keys};
-use ps_values::Text;
 use std::alloc::Global;
 
 /// The greatest number of bytes of a rules file.

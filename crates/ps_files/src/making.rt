@@ -8,9 +8,10 @@ ghost use Rattle.ps_files.specs.Making.{count_of, made_limit};
 ghost use Rattle.ps_files.specs.Making.{lines_text};
 
 use ps_changes::write_line;
+use ps_data::{Memory, Text};
 use ps_gen::make_input;
 use ps_rows::Transaction;
-use ps_values::{Memory, Text, read_decimal};
+use ps_values::read_decimal;
 use std::alloc::Global;
 
 // The most transactions that are made.

@@ -11,10 +11,10 @@ ghost use Rattle.ps_files.specs.ReadingChanges.{ReadsRising};
 use crate::faults::{Fault, Limit, LineFault};
 use crate::loading::{FILE_LIMIT, load};
 use ps_changes::{ChangeFault, read_line};
+use ps_data::Text;
 use ps_io::Files;
 use ps_rows::Transaction;
 use ps_script::{is_blank, split_line};
-use ps_values::Text;
 use std::alloc::Global;
 
 // Why the line of that number is refused.

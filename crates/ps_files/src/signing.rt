@@ -1,8 +1,8 @@
 ghost use Rattle.std.specs.Prelude.{◌≡◌, ◌++◌, codes, string_bytes, IfOk};
 ghost use Rattle.ps_files.specs.Loading.{SignsLine};
 
+use ps_data::{Memory, Text};
 use ps_token::{Keys, SignFault, sign};
-use ps_values::{Memory, Text};
 use std::alloc::Global;
 
 // A text and a line feed.

@@ -1,7 +1,7 @@
 -- Input that is made from a number: rules of one definition, and transactions of one change each.
 use Rattle.std.specs.Prelude.{ℕ, suc, zero, ◌+◌, ◌*◌, ◌%◌, ◌==◌, pos, if◌then◌else◌, List, [], ◌∷◌, ◌++◌, Some, None, codes, decimal}
-use Rattle.ps_values.specs.declared.columns.Column.{Column}
-use Rattle.ps_values.specs.declared.values.Value.TheVariants as values
+use Rattle.ps_data.specs.declared.columns.Column.{Column}
+use Rattle.ps_data.specs.declared.values.Value.TheVariants as values
 use Rattle.ps_rows.specs.declared.changes.Change.{Change}
 use Rattle.ps_rows.specs.declared.changes.Transaction.{Transaction}
 

@@ -1,11 +1,11 @@
 //! Made rules and made transactions.
 
 ghost use Rattle.std.specs.Prelude.{◌≡◌, ℕ, ◌≤◌, List, ◌++◌, IfOk, codes, decimal as digits_of};
-ghost use Rattle.ps_values.specs.declared.columns.Column.{Column as ColumnData};
+ghost use Rattle.ps_data.specs.declared.columns.Column.{Column as ColumnData};
 ghost use Rattle.ps_gen.specs.Made.{made_change, made_columns, made_input, made_rules, made_transaction};
 
+use ps_data::{Column, Items, Memory, Position, Text, Value};
 use ps_rows::{Change, Row, Transaction};
-use ps_values::{Column, Items, Memory, Position, Text, Value};
 use std::alloc::Global;
 
 const RULES: &str =

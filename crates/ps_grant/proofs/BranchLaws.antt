@@ -4,9 +4,9 @@ use Rattle.std.specs.Prelude.{◌||◌, ◌&&◌, if◌then◌else◌}
 use Rattle.std.specs.List.{list_any, list_all, AllByRecursion}
 use Rattle.std.specs.Option.{option_or}
 use Rattle.serde_json.specs.Data.{Items, no_items, item}
-use Rattle.ps_values.specs.declared.values.Value.{Value}
-use Rattle.ps_values.specs.Values.{equal_sql, truth_of}
-use Rattle.ps_values.specs.Conversions.{value_of as json_value}
+use Rattle.ps_data.specs.declared.values.Value.{Value}
+use Rattle.ps_data.specs.Values.{equal_sql, truth_of}
+use Rattle.ps_data.specs.Conversions.{value_of as json_value}
 use Rattle.ps_values.specs.Laws.{IsEqualWherePresent}
 use Rattle.ps_queries.specs.declared.expressions.Expr.{Expr, Expr-F, map-Expr, out-Expr, roll-Expr, out-roll-Expr, ind-Expr}
 use Rattle.ps_queries.specs.declared.expressions.Expr.TheOpen as layers

@@ -1,6 +1,6 @@
 -- Beginnings of vectors, one more.
 use Rattle.std.proofs.Common.{◌≡◌, ℕ, ◌+◌, ◌<◌, List, [], ◌∷◌, ◌++◌, length, drop, get_or, map, sym, ap, ◌∙◌, append_assoc}
-use Rattle.ps_values.specs.declared.values.Value.{Value}
+use Rattle.ps_data.specs.declared.values.Value.{Value}
 use Rattle.ps_grant.specs.Solving.{extended}
 use Rattle.ps_grant.proofs.StepLaws.{next_is}
 

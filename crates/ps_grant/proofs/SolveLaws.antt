@@ -6,10 +6,10 @@ use Rattle.std.specs.Cmp.Lexicographic.{slice_cmp, texts_ties, nat_list_eq_equiv
 use Rattle.std.specs.Ordering.{nat_cmp, is_eq, ordering_then}
 use Rattle.std.proofs.lemmas.Map.Lookups.{exact_bytes}
 use Rattle.std.proofs.lemmas.Bool.{eqb-true}
-use Rattle.ps_values.specs.declared.values.Value.{Value}
-use Rattle.ps_values.specs.declared.values.Truth.{Truth}
-use Rattle.ps_values.specs.declared.values.Truth.TheVariants.{True, False, Unknown}
-use Rattle.ps_values.specs.Values.{equal_sql, compare_values}
+use Rattle.ps_data.specs.declared.values.Value.{Value}
+use Rattle.ps_data.specs.declared.values.Truth.{Truth}
+use Rattle.ps_data.specs.declared.values.Truth.TheVariants.{True, False, Unknown}
+use Rattle.ps_data.specs.Values.{equal_sql, compare_values}
 use Rattle.ps_values.specs.Laws.{IsEqualWherePresent, TiesTheSame}
 use Rattle.ps_queries.specs.Meaning.{is_true}
 use Rattle.ps_definitions.specs.Names.{is_in, has_repeated}

@@ -5,8 +5,8 @@ use Rattle.std.specs.List.{list_any}
 use Rattle.std.specs.BTreeSet.{insert_key}
 use Rattle.std.specs.Cmp.Lexicographic.{slice_cmp}
 use Rattle.std.specs.Ordering.{is_eq, ordering_then}
-use Rattle.ps_values.specs.declared.values.Value.{Value}
-use Rattle.ps_values.specs.Values.{compare_values}
+use Rattle.ps_data.specs.declared.values.Value.{Value}
+use Rattle.ps_data.specs.Values.{compare_values}
 use Rattle.ps_values.specs.Laws.{TiesTheSame}
 use Rattle.ps_grant.specs.Solving.{is_same, Gains}
 use Rattle.ps_grant.proofs.GainLaws.{key_gained}

@@ -1,10 +1,10 @@
 -- Solving a branch for the parameters' values: which values its matches allow, and which vectors they make.
 use Rattle.std.specs.Prelude.{◌≡◌, ℕ, Bool, true, false, ◌||◌, ◌==◌, length, if◌then◌else◌, List, [], ◌∷◌, ◌++◌, map, flat_map, Option, Some, None, unwrap_or, is_some, bytes_eq}
 use Rattle.std.specs.List.{list_any, list_all}
-use Rattle.ps_values.specs.declared.values.Value.{Value}
+use Rattle.ps_data.specs.declared.values.Value.{Value}
 use Rattle.std.specs.Ordering.{is_eq}
 use Rattle.std.specs.Cmp.Lexicographic.{slice_cmp}
-use Rattle.ps_values.specs.Values.{equal_sql, compare_values}
+use Rattle.ps_data.specs.Values.{equal_sql, compare_values}
 use Rattle.ps_queries.specs.Meaning.{Given, value_of, is_true, array_of}
 use Rattle.ps_sql_eval.specs.Evaluated.{values_in}
 use Rattle.ps_definitions.specs.declared.matches.Match.{Match}

@@ -8,12 +8,12 @@ ghost use Rattle.ps_grant.specs.Solving.{HaveSame, Gains};
 ghost use Rattle.ps_granted.specs.Sources.{entries_of, rows_in};
 
 use crate::vectors::VectorSet;
+use ps_data::{Items, Memory, Text};
 use ps_definitions::Definition;
 use ps_granted::LiveRow;
 use ps_queries::ParameterQuery;
 use ps_rows::Row;
 use ps_sql_eval::{Asker, vector_on};
-use ps_values::{Items, Memory, Text};
 use std::alloc::Global;
 
 // Puts the vector of a parameter query on a row among others, if it has one.

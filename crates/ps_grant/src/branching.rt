@@ -14,13 +14,12 @@ ghost use Rattle.ps_queries.specs.Vectors.{at_row};
 
 use crate::solving::{Allowed, all_allow as allow, allowed_by_all, solve};
 use crate::vectors::VectorSet;
+use ps_data::{Items, Memory, Text, Value};
 use ps_definitions::{Branch, Planned, conditions_hold_where_a_branch_is_met, spread_as_written};
 use ps_queries::{Expr, same_for_every_bucket};
 use ps_rows::Row;
 use ps_sql_eval::{Asker, holds};
-use ps_values::{
-    Items, Memory, Text, Value, compare_is_a_total_order, equal_where_both_are_present,
-};
+use ps_values::{compare_is_a_total_order, equal_where_both_are_present};
 use std::alloc::Global;
 
 // Whether all expressions hold on a row, with no parameter in them.

@@ -13,10 +13,10 @@ use crate::SourceRows;
 use crate::asking::vectors_of;
 use crate::branching::holds_for_a_vector;
 use crate::vectors::VectorSet;
+use ps_data::{Items, Memory, Text};
 use ps_definitions::{Definition, Planned, Rules};
 use ps_granted::{Granted, LiveRow};
 use ps_sql_eval::{Asker, content, object_id};
-use ps_values::{Items, Memory, Text};
 use std::alloc::Global;
 
 // The copy that a data query makes of a row; none where the object has no id.

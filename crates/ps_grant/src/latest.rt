@@ -5,9 +5,9 @@ ghost use Rattle.std.specs.FinMap.Entries.{find};
 ghost use Rattle.ps_rows.specs.Source.{key_cmp};
 ghost use Rattle.ps_granted.specs.Latest.{is_later as is_later_copy, is_superseded, kept, AreLatest, rows_of as rows_of_copies, shown_of};
 
+use ps_data::{Items, Memory, Text};
 use ps_granted::Granted;
 use ps_rows::Shown;
-use ps_values::{Items, Memory, Text};
 use std::alloc::Global;
 use std::collections::BTreeMap;
 

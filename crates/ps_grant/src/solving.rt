@@ -2,15 +2,16 @@
 
 ghost use Rattle.std.specs.Prelude.{◌≡◌, ◌++◌, ◌∷◌, [], IfOk, IfSome, OnOk, map, unwrap_or, option_map};
 ghost use Rattle.std.specs.List.{list_any};
-ghost use Rattle.ps_values.specs.declared.values.Value.TheVariants.{Null};
+ghost use Rattle.ps_data.specs.declared.values.Value.TheVariants.{Null};
 ghost use Rattle.ps_definitions.specs.Vectors.{vector_at};
 ghost use Rattle.ps_sql_eval.specs.Evaluated.{without_bucket};
 ghost use Rattle.ps_grant.specs.Solving.{allowed_by, allows_vector, all_allow as all_allow_vector, values_for, is_equal_to, extended, AreSolved};
 
+use ps_data::{Items, Memory, Text, Truth, Value, copy_all};
 use ps_definitions::Match;
 use ps_rows::Row;
 use ps_sql_eval::{Asker, elements, eval_without_bucket};
-use ps_values::{Items, Memory, Text, Truth, Value, copy_all, equal_sql};
+use ps_values::equal_sql;
 use std::alloc::Global;
 
 /// The values that a match allows for its parameter.

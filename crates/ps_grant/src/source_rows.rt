@@ -1,8 +1,8 @@
 ghost use Rattle.std.specs.Prelude.{◌≡◌};
 ghost use Rattle.ps_granted.specs.Sources.{entries_of};
 
+use ps_data::Items;
 use ps_granted::LiveRow;
-use ps_values::Items;
 use std::marker::Model;
 
 /// The source at a position, which contracts see as the map from table and id to a row and the moment of its last change.

@@ -8,9 +8,9 @@ ghost use Rattle.ps_granted.specs.Sources.{entries_of};
 ghost use Rattle.ps_grant.specs.Mapped.{kept_rows, version_of};
 
 use crate::SourceRows;
+use ps_data::{Items, Memory, Position, Text};
 use ps_granted::LiveRow;
 use ps_rows::{Change, Row, Transaction};
-use ps_values::{Items, Memory, Position, Text};
 use std::alloc::Global;
 use std::collections::BTreeMap;
 

@@ -2,12 +2,13 @@
 
 ghost use Rattle.std.specs.Prelude.{◌≡◌, [], ◌∷◌, OnOk, length};
 ghost use Rattle.std.specs.List.{list_any};
-ghost use Rattle.ps_values.specs.declared.values.Value.{Value as ValueData};
-ghost use Rattle.ps_values.specs.Values.{compare_values};
+ghost use Rattle.ps_data.specs.declared.values.Value.{Value as ValueData};
+ghost use Rattle.ps_data.specs.Values.{compare_values};
 ghost use Rattle.ps_grant.specs.Solving.{all_allow, is_same, Gains};
 
 use crate::solving::{Allowed, all_allow as allow};
-use ps_values::{Memory, Text, Value, compare_is_a_total_order};
+use ps_data::{Memory, Text, Value};
+use ps_values::compare_is_a_total_order;
 use std::alloc::Global;
 use std::collections::BTreeSet;
 use std::marker::Model;
@@ -25,7 +26,7 @@ pub(crate) struct VectorSet {
 
 impl Model for VectorSet {
     ghost use Rattle.std.specs.Prelude.{List, map};
-    ghost use Rattle.ps_values.specs.declared.values.Value.{Value as ValueSeen};
+    ghost use Rattle.ps_data.specs.declared.values.Value.{Value as ValueSeen};
 
     ghost Value = { List (List ValueSeen) };
 

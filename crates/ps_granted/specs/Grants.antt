@@ -1,7 +1,7 @@
 -- What rules grant to an asker over a source: the copies of its rows that data queries make.
 use Rattle.std.specs.Prelude.{ℕ, Bool, ◌&&◌, if◌then◌else◌, List, filter_map, flat_map, Option, None, option_map, bytes_eq}
 use Rattle.std.specs.List.{list_any}
-use Rattle.ps_values.specs.declared.values.Value.{Value}
+use Rattle.ps_data.specs.declared.values.Value.{Value}
 use Rattle.ps_rows.specs.Source.{Key, Version, Source}
 use Rattle.ps_queries.specs.declared.queries.DataQuery.{DataQuery}
 use Rattle.ps_queries.specs.Meaning.{Asker, Given, holds}

@@ -1,6 +1,6 @@
 ghost use Rattle.std.specs.Prelude.{◌≡◌, IfOk};
 
-use ps_values::{Memory, Position, Text};
+use ps_data::{Memory, Position, Text};
 use std::alloc::Global;
 
 /// A copy of a source row that a data query makes for an asker.

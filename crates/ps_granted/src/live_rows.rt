@@ -1,5 +1,5 @@
+use ps_data::{Position, Text};
 use ps_rows::Row;
-use ps_values::{Position, Text};
 
 /// A row of the source, as its last change left it.
 #[derive(Debug, Drop)]

@@ -2,7 +2,7 @@ ghost use Rattle.std.specs.Prelude.{◌≡◌, ◌++◌, Some, IfOk, OnOk, IsTru
 ghost use Rattle.std.specs.Fmt.{decimal};
 ghost use Rattle.ps_http.specs.Answers.{status_line, is_status, line_end, length_line, stream_line, json_line, last_lines, body_fields, answer_head};
 
-use ps_values::Memory;
+use ps_data::Memory;
 use std::alloc::Global;
 
 // The first line of an answer with that status.

@@ -2,8 +2,8 @@ ghost use Rattle.std.specs.Prelude.{◌≡◌, ◌≤◌, length};
 ghost use Rattle.ps_http.specs.Bodies.{ReadsBody, Fills};
 
 use crate::Head;
+use ps_data::Memory;
 use ps_io::Source;
-use ps_values::Memory;
 use std::alloc::{AllocError, Global};
 
 /// The bytes that the body of a request may have.

@@ -1,6 +1,6 @@
 ghost use Rattle.std.specs.Prelude.{◌≡◌};
 
-use ps_values::{Memory, Text};
+use ps_data::{Memory, Text};
 use std::alloc::{AllocError, AllocFailed};
 
 /// The bytes that the head of a request may have, its end among them.

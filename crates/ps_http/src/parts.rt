@@ -10,7 +10,7 @@ ghost use Rattle.ps_http.specs.Takings.{IsReadFrom};
 use crate::fields::{first_value, has_field, stated_length};
 use crate::{Head, HeadFault};
 use httparse::spans::HeaderSpan;
-use ps_values::{Memory, Text};
+use ps_data::{Memory, Text};
 use std::alloc::Global;
 
 // The target before its first question mark, and after it.

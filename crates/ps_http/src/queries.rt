@@ -1,7 +1,7 @@
 ghost use Rattle.std.specs.Prelude.{◌≡◌, IfOk};
 ghost use Rattle.ps_http.specs.Queries.{query_value_of};
 
-use ps_values::{Memory, Text};
+use ps_data::{Memory, Text};
 use std::alloc::Global;
 
 /// The value of the first pair of that name in a query, which is read as a web form

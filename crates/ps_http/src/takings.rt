@@ -7,8 +7,8 @@ use crate::parts::read_parts;
 use crate::{FIELD_LIMIT, HEAD_LIMIT, Head, HeadFault};
 use httparse::spans::{EMPTY_HEADER_SPAN, parse_request};
 use httparse::{Error, Status};
+use ps_data::Memory;
 use ps_io::Source;
-use ps_values::Memory;
 use std::alloc::Global;
 
 // What a source gives next.

@@ -5,7 +5,7 @@ ghost use Rattle.ps_io.specs.Calls.{fails_next, IsCounted, Begins};
 ghost use Rattle.ps_io.specs.Memory.{RefusesRead, RefusesWrite, HasItsMemory};
 
 use crate::{Calls, Failed, FileFault, Files, Sink};
-use ps_values::{Items, Memory, Text};
+use ps_data::{Items, Memory, Text};
 use std::alloc::Global;
 
 /// A file in memory.

@@ -4,7 +4,7 @@ ghost use Rattle.ps_io.specs.Counts.{Rose};
 ghost use Rattle.ps_io.specs.Sources.{Gives, GivesAll, unread};
 
 use crate::{Calls, Failed, Source};
-use ps_values::Items;
+use ps_data::Items;
 
 // Bytes in memory, the place of the next one, and whether the end was answered.
 #[derive(Debug, Drop)]

@@ -5,9 +5,9 @@ use Rattle.std.specs.Result.{IfOk}
 use Rattle.serde_json.specs.Data.{Data as Json, null, boolean, number, string, array, object, Items, no_items, item, Members}
 use Rattle.serde_json.specs.Find.{get, as_str, as_bool, as_null, as_array, as_object}
 use Rattle.serde_json.specs.Written.{compact_text}
-use Rattle.ps_values.specs.declared.ids.OpId.{OpId}
-use Rattle.ps_values.specs.Documents.{json_of}
-use Rattle.ps_values.specs.Conversions.{plain_of}
+use Rattle.ps_data.specs.declared.ids.OpId.{OpId}
+use Rattle.ps_data.specs.Documents.{json_of}
+use Rattle.ps_data.specs.Conversions.{plain_of}
 use Rattle.ps_values.specs.Laws.{ReadsWhatIsWritten}
 use Rattle.ps_lines.specs.Types.{Known, StreamBody, LineFault, BadJson, BadShape}
 use Rattle.ps_lines.specs.Members.{Reads, or_fault, text_at, id_at}

@@ -9,9 +9,9 @@ use Rattle.serde_json.specs.Data.{Data as Json, null, object, Members, depth}
 use Rattle.serde_json.specs.Read.{read, max_depth}
 use Rattle.serde_json.specs.View.{items_of}
 use Rattle.serde_json.specs.Written.{has_float, compact_text}
-use Rattle.ps_values.specs.Numbers.{greatest}
-use Rattle.ps_values.specs.Documents.{json_of}
-use Rattle.ps_values.specs.Conversions.{plain_of}
+use Rattle.ps_data.specs.Numbers.{greatest}
+use Rattle.ps_data.specs.Documents.{json_of}
+use Rattle.ps_data.specs.Conversions.{plain_of}
 use Rattle.ps_values.specs.Laws.{HasNoFloatWherePlain}
 use Rattle.ps_lines.specs.Types.{Known, StreamBody, LineFault}
 use Rattle.ps_lines.specs.Shapes.{all_items}

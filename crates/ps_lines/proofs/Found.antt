@@ -7,10 +7,10 @@ use Rattle.std.proofs.lemmas.Bool.Decides.{nat_tests}
 use Rattle.std.proofs.lemmas.Slice.Eq.{bytes_eq-Decides}
 use Rattle.serde_json.specs.Data.{Data as Json, Num, unsigned, negative, float, null, boolean, number, string, array, object, Items, no_items, item, Members, no_members, member}
 use Rattle.serde_json.specs.Find.{get, as_str, as_bool, as_null, as_array, as_number, as_i64, as_u64, as_integer}
-use Rattle.ps_values.specs.Numbers.{decimal_of}
-use Rattle.ps_values.specs.Documents.{json_of}
+use Rattle.ps_data.specs.Numbers.{decimal_of}
+use Rattle.ps_data.specs.Documents.{json_of}
 use Rattle.ps_values.specs.Laws.{ReadsWhatIsWritten}
-use Rattle.ps_values.specs.declared.ids.OpId.{OpId}
+use Rattle.ps_data.specs.declared.ids.OpId.{OpId}
 use Rattle.ps_checksum.specs.declared.sums.Sum.{Sum}
 use Rattle.ps_bucket_log.specs.declared.ops.Key.{Key}
 use Rattle.ps_bucket_log.specs.declared.ops.Op.{Op}

@@ -7,7 +7,7 @@ use Rattle.std.proofs.lemmas.Slice.Eq.{bytes_eq-Decides}
 use Rattle.serde_json.specs.Data.{Data as Json, Num, unsigned, negative, float, Items, no_items, item}
 use Rattle.serde_json.specs.Find.{as_str, as_i64, as_integer}
 use Rattle.ps_values.specs.Laws.{ReadsWhatIsWritten}
-use Rattle.ps_values.specs.declared.ids.OpId.{OpId}
+use Rattle.ps_data.specs.declared.ids.OpId.{OpId}
 use Rattle.ps_checksum.specs.declared.sums.Sum.{Sum}
 use Rattle.ps_bucket_log.specs.declared.ops.Op.{Op}
 use Rattle.ps_bucket_log.specs.declared.ops.Op.TheVariants.{Put, Remove, Move, Clear}

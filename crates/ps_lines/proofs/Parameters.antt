@@ -13,8 +13,8 @@ use Rattle.serde_json.specs.Read.{read, max_depth}
 use Rattle.serde_json.specs.Written.{has_float, compact_text}
 use Rattle.serde_json.proofs.Nesting.{depth-read}
 use Rattle.serde_json.proofs.OnLiterals.{serde_json_on_literals}
-use Rattle.ps_values.specs.Documents.{json_of}
-use Rattle.ps_values.specs.Conversions.{plain_of, plain_members}
+use Rattle.ps_data.specs.Documents.{json_of}
+use Rattle.ps_data.specs.Conversions.{plain_of, plain_members}
 use Rattle.ps_lines.specs.Bodies.{IsParameters}
 
 nests_by : (b : Bool) (bytes : List ℕ) (d : Json) → Some d ≡ cond b (read bytes) None → depth d ≤ max_depth

@@ -5,9 +5,9 @@ use Rattle.serde_json.specs.Data.{Data as Json, object, Items, no_items, item, M
 use Rattle.serde_json.specs.Find.{get, as_str, as_array, as_object}
 use Rattle.serde_json.specs.Read.{max_depth}
 use Rattle.serde_json.specs.Written.{compact_text}
-use Rattle.ps_values.specs.Numbers.{greatest}
-use Rattle.ps_values.specs.Documents.{json_of}
-use Rattle.ps_values.specs.Conversions.{plain_of}
+use Rattle.ps_data.specs.Numbers.{greatest}
+use Rattle.ps_data.specs.Documents.{json_of}
+use Rattle.ps_data.specs.Conversions.{plain_of}
 use Rattle.ps_lines.specs.declared.faults.LineFault.{LineFault}
 use Rattle.ps_lines.specs.declared.faults.LineFault.TheVariants.{BadJson, BadShape}
 use Rattle.ps_lines.specs.declared.bodies.Known.{Known}

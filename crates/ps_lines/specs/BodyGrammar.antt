@@ -3,8 +3,8 @@ use Rattle.std.specs.Prelude.{◌≡◌, ◌⊎◌, ℕ, List, [], Bool, true, O
 use Rattle.serde_json.specs.Data.{Data as Json, object, Members}
 use Rattle.serde_json.specs.Find.{get}
 use Rattle.serde_json.specs.Written.{compact_text}
-use Rattle.ps_values.specs.Documents.{json_of}
-use Rattle.ps_values.specs.Conversions.{plain_of}
+use Rattle.ps_data.specs.Documents.{json_of}
+use Rattle.ps_data.specs.Conversions.{plain_of}
 use Rattle.ps_lines.specs.declared.bodies.Known.{Known}
 use Rattle.ps_lines.specs.declared.bodies.StreamBody.{StreamBody}
 use Rattle.ps_lines.specs.Bodies.{last_ones}

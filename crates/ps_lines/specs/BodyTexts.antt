@@ -2,7 +2,7 @@
 use Rattle.std.specs.Prelude.{ℕ, List, [], ◌∷◌, ◌++◌, Option, Some, None, unwrap_or, codes}
 use Rattle.serde_json.specs.Data.{Data as Json, null, string}
 use Rattle.serde_json.specs.Written.{compact_text}
-use Rattle.ps_values.specs.Documents.{json_of}
+use Rattle.ps_data.specs.Documents.{json_of}
 use Rattle.ps_lines.specs.declared.bodies.Known.{Known}
 use Rattle.ps_lines.specs.declared.bodies.StreamBody.{StreamBody}
 use Rattle.ps_lines.specs.Writing.{object_of, decimal_json, list_json}

@@ -2,8 +2,8 @@
 use Rattle.std.specs.Prelude.{ℕ, ◌-◌, List, [], ◌∷◌, Bool, true, ◌&&◌, ◌==◌, nat_lt, length, take, slice_index, Option, Some, None, if◌then◌else◌, Result, Ok, Err, bytes_eq, codes}
 use Rattle.serde_json.specs.Data.{Data as Json, null, boolean, number, string, array, object, Items, no_items, item, Members, no_members, member}
 use Rattle.serde_json.specs.Find.{as_str}
-use Rattle.ps_values.specs.declared.ids.OpId.{OpId}
-use Rattle.ps_values.specs.Documents.{json_of}
+use Rattle.ps_data.specs.declared.ids.OpId.{OpId}
+use Rattle.ps_data.specs.Documents.{json_of}
 use Rattle.ps_checksum.specs.declared.sums.Sum.{Sum}
 use Rattle.ps_bucket_log.specs.declared.ops.Key.{Key}
 use Rattle.ps_bucket_log.specs.declared.ops.Op.{Op}

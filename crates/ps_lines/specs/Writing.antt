@@ -3,8 +3,8 @@ use Rattle.std.specs.Prelude.{◌≡◌, ◌≢◌, ℕ, ◌<◌, ◌≤◌, ◌
 use Rattle.serde_json.specs.Data.{Data as Json, boolean, number, string, array, object, Members, no_members, member, unsigned}
 use Rattle.serde_json.specs.View.{items_of}
 use Rattle.serde_json.specs.Written.{compact_text}
-use Rattle.ps_values.specs.declared.ids.OpId.{OpId}
-use Rattle.ps_values.specs.Numbers.{greatest}
+use Rattle.ps_data.specs.declared.ids.OpId.{OpId}
+use Rattle.ps_data.specs.Numbers.{greatest}
 use Rattle.ps_checksum.specs.declared.sums.Sum.{Sum}
 use Rattle.ps_bucket_log.specs.declared.ops.Key.{Key}
 use Rattle.ps_bucket_log.specs.declared.ops.Op.{Op}

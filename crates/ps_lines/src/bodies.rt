@@ -1,4 +1,4 @@
-use ps_values::{Items, OpId, Text};
+use ps_data::{Items, OpId, Text};
 
 /// How far a client holds one bucket.
 #[derive(Debug, Drop)]

@@ -6,7 +6,8 @@ ghost use Rattle.ps_lines.specs.Writing.{list_json};
 
 use crate::objects::Object;
 use crate::{Known, StreamBody};
-use ps_values::{Memory, Text, decimals_read_back, plain_json_has_no_float, read_json};
+use ps_data::{Memory, Text};
+use ps_values::{decimals_read_back, plain_json_has_no_float, read_json};
 use serde_json::Value as Json;
 use std::alloc::Global;
 

@@ -1,4 +1,4 @@
-use ps_values::Memory;
+use ps_data::Memory;
 use std::alloc::{AllocError, AllocFailed};
 
 /// Why a line or a body was not read. The earlier fault here is answered where several stand.

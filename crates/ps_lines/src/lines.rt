@@ -1,6 +1,6 @@
 use ps_bucket_log::Op;
 use ps_checksum::Sum;
-use ps_values::{Items, OpId, Text};
+use ps_data::{Items, OpId, Text};
 
 /// What a checkpoint says of one bucket.
 #[derive(Debug, Drop)]

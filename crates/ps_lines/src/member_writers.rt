@@ -8,7 +8,7 @@ ghost use Rattle.ps_lines.specs.Writing.{decimal_json, upload_member, list_json}
 
 use json::Writer;
 use ps_checksum::Sum;
-use ps_values::{Memory, Text};
+use ps_data::{Memory, Text};
 
 // Begins an object with a member whose value is still to be written.
 pub fn begin_member(writer: &mut Writer, name: &str) -> Result<(), Memory>

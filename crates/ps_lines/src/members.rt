@@ -5,7 +5,8 @@ ghost use Rattle.ps_lines.specs.Members.{Reads, text_at, truth_at, decimal_at, i
 
 use crate::LineFault;
 use ps_checksum::Sum;
-use ps_values::{OpId, Text, read_decimal};
+use ps_data::{OpId, Text};
+use ps_values::read_decimal;
 use serde_json::{Number, Value as Json};
 use std::alloc::Global;
 

@@ -4,7 +4,7 @@ ghost use Rattle.std.specs.Prelude.{◌≡◌, IfOk, OnOk, decimal, string_bytes
 ghost use Rattle.serde_json.specs.Data.{string, object, no_members, put};
 ghost use Rattle.serde_json.specs.View.{view, members_view};
 
-use ps_values::Memory;
+use ps_data::Memory;
 use serde_json::{Map, Value as Json};
 use std::alloc::Global;
 

@@ -13,7 +13,8 @@ use crate::shapes::{is_checkpoint, is_data, is_diff};
 use crate::{Entry, Line, LineFault};
 use ps_bucket_log::{Key, Op};
 use ps_checksum::Sum;
-use ps_values::{Items, OpId, Text, decimals_read_back, read_json};
+use ps_data::{Items, OpId, Text};
+use ps_values::{decimals_read_back, read_json};
 use serde_json::{Map, Value as Json};
 use std::alloc::Global;
 

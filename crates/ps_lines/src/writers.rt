@@ -12,7 +12,8 @@ use crate::{Entry, Line};
 use json::Writer;
 use ps_bucket_log::{Key, Op};
 use ps_checksum::Sum;
-use ps_values::{Memory, OpId, Text, decimals_read_back};
+use ps_data::{Memory, OpId, Text};
+use ps_values::decimals_read_back;
 use std::alloc::Global;
 
 /// The bytes of a line, compact, with its closing line feed: docs/FORMATS.md, "Stream lines". Targets are

@@ -10,7 +10,7 @@ use Rattle.std.specs.FinMap.Entries.{find, is_sorted, below_all}
 use Rattle.std.proofs.lemmas.Bool.{and_parts}
 use Rattle.std.proofs.lemmas.Map.Text.{is_eq-slice_cmp}
 use Rattle.std.proofs.lemmas.Slice.Eq.{bytes_eq-Decides}
-use Rattle.ps_values.specs.declared.columns.Column.{Column}
+use Rattle.ps_data.specs.declared.columns.Column.{Column}
 use Rattle.ps_rows.specs.declared.changes.Change.{Change}
 use Rattle.ps_rows.specs.declared.changes.Transaction.{Transaction}
 use Rattle.ps_rows.specs.Source.{Key, key_cmp, Version, Source, after_row, after_changes, after_transactions, source_at}

@@ -3,12 +3,12 @@ use Rattle.std.proofs.Common.{◌≡◌, ℕ, Bool, true, false, List, [], ◌�
 use Rattle.std.specs.Prelude.{◌≢◌, if◌then◌else◌, IfSome}
 use Rattle.std.proofs.lemmas.Bool.{or_cases}
 use Rattle.serde_json.specs.Data.{Items, no_items, item}
-use Rattle.ps_values.specs.Conversions.{value_of as json_value}
-use Rattle.ps_values.specs.declared.values.Value.{Value}
-use Rattle.ps_values.specs.declared.values.Value.TheVariants.{Null, Int, Text}
-use Rattle.ps_values.specs.declared.values.Truth.{Truth}
-use Rattle.ps_values.specs.declared.values.Truth.TheVariants.{True, False, Unknown}
-use Rattle.ps_values.specs.Values.{equal_sql, is_null, truth_of}
+use Rattle.ps_data.specs.Conversions.{value_of as json_value}
+use Rattle.ps_data.specs.declared.values.Value.{Value}
+use Rattle.ps_data.specs.declared.values.Value.TheVariants.{Null, Int, Text}
+use Rattle.ps_data.specs.declared.values.Truth.{Truth}
+use Rattle.ps_data.specs.declared.values.Truth.TheVariants.{True, False, Unknown}
+use Rattle.ps_data.specs.Values.{equal_sql, is_null, truth_of}
 use Rattle.ps_values.specs.Laws.{IsEqualWherePresent}
 use Rattle.ps_queries.specs.declared.expressions.Expr.{Expr, fold-roll-Expr}
 use Rattle.ps_queries.specs.declared.expressions.Expr.TheOpen as layers

@@ -1,9 +1,9 @@
 -- How a condition reaches rows by a column.
 use Rattle.std.specs.Prelude.{◌≡◌, ℕ, Bool, true, false, if◌then◌else◌, List, [], ◌∷◌, Option, Some, Contains}
 use Rattle.std.specs.List.{list_any}
-use Rattle.ps_values.specs.declared.columns.Column.{Column}
-use Rattle.ps_values.specs.declared.values.Value.{Value}
-use Rattle.ps_values.specs.Values.{truth_of, is_null}
+use Rattle.ps_data.specs.declared.columns.Column.{Column}
+use Rattle.ps_data.specs.declared.values.Value.{Value}
+use Rattle.ps_data.specs.Values.{truth_of, is_null}
 use Rattle.ps_queries.specs.declared.expressions.Expr.{Expr}
 use Rattle.ps_queries.specs.declared.subjects.Subject.TheVariants as subjects
 use Rattle.ps_queries.specs.Meaning.{Asker, Given, value_of, is_true, array_of, column_value, holds}

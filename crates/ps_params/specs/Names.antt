@@ -1,7 +1,7 @@
 -- The buckets that an asker has over a source.
 use Rattle.std.specs.Prelude.{◌≡◌, ℕ, true, List, map, flat_map}
 use Rattle.std.specs.List.{AllByRecursion}
-use Rattle.ps_values.specs.declared.values.Value.{Value}
+use Rattle.ps_data.specs.declared.values.Value.{Value}
 use Rattle.ps_queries.specs.Meaning.{Asker}
 use Rattle.ps_definitions.specs.declared.definitions.Definition.{Definition}
 use Rattle.ps_queries.specs.Vectors.{SourceRow}

@@ -1,6 +1,6 @@
 -- What is noted of a source's rows: each as changes left it, and so as it stood at a position.
 use Rattle.std.specs.Prelude.{◌≡◌, ℕ, ◌≤◌, Bool, ◌&&◌, nat_le, if◌then◌else◌, List, [], ◌∷◌, Option, None, bytes_eq}
-use Rattle.ps_values.specs.declared.columns.Column.{Column}
+use Rattle.ps_data.specs.declared.columns.Column.{Column}
 
 -- a row as a change left it at a position; None where it was deleted
 pub record Note : Type 0 where

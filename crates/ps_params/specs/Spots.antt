@@ -1,7 +1,7 @@
 -- The spots at which rows are looked for.
 use Rattle.std.specs.Prelude.{ℕ, List, take, filter, flat_map, Option, option_map}
 use Rattle.std.specs.List.{filter_map}
-use Rattle.ps_values.specs.declared.values.Value.{Value}
+use Rattle.ps_data.specs.declared.values.Value.{Value}
 use Rattle.ps_queries.specs.Meaning.{text_of}
 use Rattle.ps_params.specs.declared.paths.Path.{Path}
 use Rattle.ps_params.specs.Notes.{Note}

@@ -1,7 +1,7 @@
 -- Notes that are gone over from the last one back, and those that are kept of them.
 use Rattle.std.specs.Prelude.{◌≡◌, ℕ, ◌≤◌, Bool, true, ◌&&◌, if◌then◌else◌, List, [], ◌∷◌, ◌++◌, map, reverse, Option, bytes_eq}
 use Rattle.std.specs.BTreeSet.{BTreeSet, contains}
-use Rattle.ps_values.specs.declared.columns.Column.{Column}
+use Rattle.ps_data.specs.declared.columns.Column.{Column}
 use Rattle.ps_rows.specs.Source.{Key, key_cmp}
 use Rattle.ps_params.specs.declared.noted.Noted.{Noted}
 use Rattle.ps_params.specs.Notes.{Note, row_at}

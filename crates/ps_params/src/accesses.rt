@@ -5,8 +5,9 @@ ghost use Rattle.ps_queries.specs.declared.expressions.Expr.TheVariants as exprs
 ghost use Rattle.ps_queries.specs.declared.expressions.Operator.TheVariants as operators;
 ghost use Rattle.ps_params.specs.Accesses.{IsAccess, IsColumnWith};
 
+use ps_data::Text;
 use ps_queries::{Expr, Operator, Subject};
-use ps_values::{Text, equal_where_both_are_present};
+use ps_values::equal_where_both_are_present;
 
 /// A column, what it is compared with, and whether that is a list of which its value is an element.
 #[derive(Drop)]

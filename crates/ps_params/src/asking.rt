@@ -18,11 +18,11 @@ use crate::kept::{Kept, note_at};
 use crate::name_sets::NameSet;
 use crate::noted::Noted;
 use crate::spots::spots;
+use ps_data::{Items, Memory, Position, Text, Value};
 use ps_definitions::{Definition, bucket_name, have_64_bits, names_are_distinct};
 use ps_queries::ParameterQuery;
 use ps_rows::Row;
 use ps_sql_eval::{Asker, vector_on};
-use ps_values::{Items, Memory, Position, Text, Value};
 use std::alloc::Global;
 
 // The name of a definition's bucket, which tells that the vector is of integers of signed 64 bits.

@@ -12,10 +12,10 @@ use crate::kept::Kept;
 use crate::name_sets::NameSet;
 use crate::noted::Noted;
 use crate::paths::paths_of;
+use ps_data::{Items, Memory, Position, Text};
 use ps_definitions::{Definition, Rules};
 use ps_rows::Row;
 use ps_sql_eval::Asker;
-use ps_values::{Items, Memory, Position, Text};
 use std::alloc::Global;
 use std::marker::Model;
 

@@ -5,7 +5,7 @@ ghost use Rattle.ps_definitions.specs.Buckets.{in_order as names_in_order};
 ghost use Rattle.ps_params.specs.Names.{IsTold, AreTold};
 ghost use Rattle.ps_params.specs.Sets.{Gains, HaveSame};
 
-use ps_values::{Items, Memory, Text};
+use ps_data::{Items, Memory, Text};
 use std::alloc::Global;
 use std::collections::BTreeSet;
 use std::marker::Model;

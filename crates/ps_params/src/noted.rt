@@ -1,5 +1,5 @@
+use ps_data::{Position, Text};
 use ps_rows::Row;
-use ps_values::{Position, Text};
 
 /// A row as a change left it at a position; None where it was deleted.
 #[derive(Debug, Drop)]

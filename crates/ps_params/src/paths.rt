@@ -5,9 +5,9 @@ ghost use Rattle.std.specs.Option.{option_copied};
 ghost use Rattle.ps_params.specs.declared.paths.Path.{Path as PathData};
 
 use crate::accesses::access_of;
+use ps_data::{Items, Memory, Text};
 use ps_definitions::Definition;
 use ps_queries::ParameterQuery;
-use ps_values::{Items, Memory, Text};
 use std::alloc::Global;
 
 /// A path to the notes of a table: all of them, or each by the text of a column.

@@ -8,8 +8,9 @@ ghost use Rattle.ps_params.specs.Places.{text_in, text_by, text_on, is_spot, lie
 
 use crate::noted::Noted;
 use crate::paths::Path;
+use ps_data::{Items, Memory, Text, Value};
 use ps_rows::Row;
-use ps_values::{Items, Memory, Text, Value, decimal};
+use ps_values::decimal;
 use std::alloc::Global;
 use std::collections::BTreeMap;
 

@@ -8,10 +8,10 @@ ghost use Rattle.ps_params.specs.Spots.{spots_for};
 use crate::accesses::access_of;
 use crate::kept::Kept;
 use crate::places::text_of;
+use ps_data::{Items, Memory, Text, Value};
 use ps_queries::{Expr, same_on_every_row};
 use ps_rows::Row;
 use ps_sql_eval::{Asker, elements, eval_without_bucket};
-use ps_values::{Items, Memory, Text, Value};
 use std::alloc::Global;
 
 // What a column is compared with, for an asker.

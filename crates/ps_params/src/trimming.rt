@@ -7,7 +7,7 @@ ghost use Rattle.ps_params.specs.Kept.{note_of};
 ghost use Rattle.ps_params.specs.Trimming.{is_settled, seen, settles, SameLeft};
 
 use crate::noted::Noted;
-use ps_values::{Memory, Position, Text};
+use ps_data::{Memory, Position, Text};
 use std::alloc::Global;
 use std::collections::BTreeSet;
 

@@ -2,9 +2,9 @@
 use Rattle.std.proofs.lemmas.List.{drop_more}
 use Rattle.std.proofs.Common.{◌+◌, ◌<◌, length, drop, get_or, ◌≡◌, ℕ, Bool, true, false, List, [], ◌∷◌, map, refl, sym, ap, ◌∙◌, subst}
 use Rattle.std.specs.Prelude.{◌||◌, not, if◌then◌else◌}
-use Rattle.ps_values.specs.Values.{is_null, truth_of}
-use Rattle.ps_values.specs.declared.values.Value.{Value}
-use Rattle.ps_values.specs.declared.values.Value.TheVariants as values
+use Rattle.ps_data.specs.Values.{is_null, truth_of}
+use Rattle.ps_data.specs.declared.values.Value.{Value}
+use Rattle.ps_data.specs.declared.values.Value.TheVariants as values
 use Rattle.ps_queries.specs.declared.expressions.Expr.{Expr, fold-roll-Expr, ind-Expr, map-Expr}
 use Rattle.ps_queries.specs.declared.expressions.Expr.TheOpen.{Expr-F}
 use Rattle.ps_queries.specs.declared.expressions.Expr.TheOpen as layers

@@ -2,7 +2,7 @@
 use Rattle.std.proofs.Common.{◌≡◌, pos, [], ◌∷◌, refl, ap, ◌∙◌}
 use Rattle.std.specs.Prelude.{codes}
 use Rattle.std.specs.Fmt.{digits}
-use Rattle.ps_values.specs.declared.values.Value.TheVariants.{Null, Int, Text}
+use Rattle.ps_data.specs.declared.values.Value.TheVariants.{Null, Int, Text}
 use Rattle.ps_queries.specs.declared.expressions.Operator.TheVariants as operators
 use Rattle.ps_queries.specs.declared.expressions.Function.TheVariants as functions
 use Rattle.ps_queries.specs.declared.expressions.Expr.TheVariants as exprs

@@ -8,12 +8,12 @@ use Rattle.std.specs.declared.cmp.Ordering.TheVariants.{Less, Equal, Greater}
 use Rattle.serde_json.specs.Data.{Data, Items, no_items, item}
 use Rattle.serde_json.specs.Find.{get, at, as_array}
 use Rattle.serde_json.specs.Written.{compact_text}
-use Rattle.ps_values.specs.declared.columns.Column.{Column}
-use Rattle.ps_values.specs.declared.values.Value.{Value}
-use Rattle.ps_values.specs.declared.values.Value.TheVariants.{Null, Int, Text}
-use Rattle.ps_values.specs.declared.values.Truth.{Truth}
-use Rattle.ps_values.specs.declared.values.Truth.TheVariants.{True, False, Unknown}
-use Rattle.ps_values.specs.Values.{compare_values, equal_sql, is_null, truth_of}
+use Rattle.ps_data.specs.declared.columns.Column.{Column}
+use Rattle.ps_data.specs.declared.values.Value.{Value}
+use Rattle.ps_data.specs.declared.values.Value.TheVariants.{Null, Int, Text}
+use Rattle.ps_data.specs.declared.values.Truth.{Truth}
+use Rattle.ps_data.specs.declared.values.Truth.TheVariants.{True, False, Unknown}
+use Rattle.ps_data.specs.Values.{compare_values, equal_sql, is_null, truth_of}
 use Rattle.ps_queries.specs.declared.expressions.Expr.{Expr, fold-Expr}
 use Rattle.ps_queries.specs.declared.expressions.Expr.TheOpen.{Expr-F}
 use Rattle.ps_queries.specs.declared.expressions.Expr.TheOpen as layers
@@ -21,7 +21,7 @@ use Rattle.ps_queries.specs.declared.expressions.Function.{Function}
 use Rattle.ps_queries.specs.declared.expressions.Function.TheVariants as functions
 use Rattle.ps_queries.specs.declared.expressions.Operator.{Operator}
 use Rattle.ps_queries.specs.declared.expressions.Operator.TheVariants as operators
-use Rattle.ps_values.specs.Conversions.{value_of as json_value}
+use Rattle.ps_data.specs.Conversions.{value_of as json_value}
 use Rattle.ps_queries.specs.Json.{plain_json}
 
 -- who asks: the user, the payload and the parameters as JSON texts, and the client's id

@@ -1,9 +1,9 @@
 -- The object that a data query shows for a row: its id and its data.
 use Rattle.std.specs.Prelude.{ℕ, List, [], ◌∷◌, ◌++◌, map, if◌then◌else◌, Option, bytes_eq, codes}
-use Rattle.ps_values.specs.declared.columns.Column.{Column}
-use Rattle.ps_values.specs.declared.values.Value.{Value}
-use Rattle.ps_values.specs.declared.values.Value.TheVariants.{Null, Text}
-use Rattle.ps_values.specs.Documents.{document_of}
+use Rattle.ps_data.specs.declared.columns.Column.{Column}
+use Rattle.ps_data.specs.declared.values.Value.{Value}
+use Rattle.ps_data.specs.declared.values.Value.TheVariants.{Null, Text}
+use Rattle.ps_data.specs.Documents.{document_of}
 use Rattle.ps_queries.specs.declared.queries.Output.{Output}
 use Rattle.ps_queries.specs.declared.queries.DataQuery.{DataQuery}
 use Rattle.ps_queries.specs.Meaning.{Given, value_of, text_of}

@@ -1,8 +1,8 @@
 -- What an expression speaks of, and what its value then goes by.
 use Rattle.std.specs.Prelude.{◌≡◌, ℕ, Bool, true, false, ◌||◌, List, [], ◌∷◌, Option, Some, None}
 use Rattle.std.specs.List.{list_any}
-use Rattle.ps_values.specs.declared.columns.Column.{Column}
-use Rattle.ps_values.specs.declared.values.Value.{Value}
+use Rattle.ps_data.specs.declared.columns.Column.{Column}
+use Rattle.ps_data.specs.declared.values.Value.{Value}
 use Rattle.ps_queries.specs.declared.expressions.Expr.{Expr, fold-Expr}
 use Rattle.ps_queries.specs.declared.expressions.Expr.TheOpen.{Expr-F}
 use Rattle.ps_queries.specs.declared.expressions.Expr.TheOpen as layers

@@ -1,9 +1,9 @@
 -- The value of each form of expression, from the values of its parts.
 use Rattle.std.proofs.Common.{◌≡◌, ℕ, ℤ, Bool, List, sym, ap, ◌∙◌, map}
 use Rattle.std.specs.Prelude.{not, if◌then◌else◌}
-use Rattle.ps_values.specs.declared.values.Value.{Value}
-use Rattle.ps_values.specs.declared.values.Value.TheVariants.{Null, Int, Text}
-use Rattle.ps_values.specs.Values.{truth_of, is_null}
+use Rattle.ps_data.specs.declared.values.Value.{Value}
+use Rattle.ps_data.specs.declared.values.Value.TheVariants.{Null, Int, Text}
+use Rattle.ps_data.specs.Values.{truth_of, is_null}
 use Rattle.ps_queries.specs.declared.expressions.Expr.{Expr, fold-roll-Expr}
 use Rattle.ps_queries.specs.declared.expressions.Expr.TheOpen.{Expr-F}
 use Rattle.ps_queries.specs.declared.expressions.Expr.TheOpen as layers

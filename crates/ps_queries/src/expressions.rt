@@ -1,6 +1,6 @@
 ghost use Rattle.std.specs.Prelude.{◌≡◌, IfOk};
 
-use ps_values::{Boxed, Copied, Items, Memory, Text};
+use ps_data::{Boxed, Copied, Items, Memory, Text};
 use std::alloc::Global;
 
 /// A function of the profile, with its number of arguments.

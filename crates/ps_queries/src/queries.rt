@@ -1,7 +1,7 @@
 ghost use Rattle.std.specs.Prelude.{◌≡◌, IfOk};
 
 use crate::Expr;
-use ps_values::{Copied, Items, Memory, Text, copy_all};
+use ps_data::{Copied, Items, Memory, Text, copy_all};
 use std::alloc::Global;
 
 /// An output of a query: an expression, and the name that it is given.

@@ -5,7 +5,7 @@ use Rattle.std.specs.Ordering.{nat_cmp, ordering_then, eq_by_cmp}
 use Rattle.std.specs.Cmp.Lexicographic.{slice_cmp}
 use Rattle.std.specs.FinMap.Entries.{put, where_key}
 use Rattle.std.specs.declared.cmp.Ordering.{Ordering}
-use Rattle.ps_values.specs.declared.columns.Column.{Column}
+use Rattle.ps_data.specs.declared.columns.Column.{Column}
 use Rattle.ps_rows.specs.declared.changes.Change.{Change}
 use Rattle.ps_rows.specs.declared.changes.Transaction.{Transaction}
 

@@ -1,7 +1,7 @@
 ghost use Rattle.std.specs.Prelude.{◌≡◌, IfOk};
 
 use crate::Row;
-use ps_values::{Copied, Items, Memory, Position, Text, copy_all};
+use ps_data::{Copied, Items, Memory, Position, Text, copy_all};
 use std::alloc::Global;
 
 /// A change of one source row.

@@ -1,7 +1,7 @@
 ghost use Rattle.std.specs.Prelude.{◌≡◌, true, IfOk};
 ghost use Rattle.ps_rows.specs.Rows.{is_row};
 
-use ps_values::{Column, Items, Memory, copy_all};
+use ps_data::{Column, Items, Memory, copy_all};
 use std::alloc::Global;
 use std::marker::Model;
 
@@ -14,7 +14,7 @@ pub struct Row {
 
 impl Model for Row {
     ghost use Rattle.std.specs.Prelude.{◌≡◌, List, true};
-    ghost use Rattle.ps_values.specs.declared.columns.Column.{Column};
+    ghost use Rattle.ps_data.specs.declared.columns.Column.{Column};
     ghost use Rattle.ps_rows.specs.Rows.{is_row};
 
     ghost Value = { List Column };

@@ -1,4 +1,4 @@
-use ps_values::{Copied, Memory, Text};
+use ps_data::{Copied, Memory, Text};
 use std::alloc::Global;
 
 /// A row as a client shows it.

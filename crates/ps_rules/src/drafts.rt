@@ -1,6 +1,6 @@
+use ps_data::{Items, Text};
 use ps_definitions::{Definition, Warning};
 use ps_queries::ParameterQuery;
-use ps_values::{Items, Text};
 
 /// The text of a scalar, and where it stands.
 #[derive(Drop)]

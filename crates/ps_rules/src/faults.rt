@@ -1,5 +1,5 @@
+use ps_data::Memory;
 use ps_sql::SqlFault;
-use ps_values::Memory;
 use ps_yaml::YamlFault;
 use std::alloc::{AllocError, AllocFailed};
 

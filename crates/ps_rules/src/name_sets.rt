@@ -1,8 +1,8 @@
 ghost use Rattle.std.specs.Prelude.{◌≡◌, [], ◌∷◌, ◌++◌, IfOk, Some, None, length, if◌then◌else◌};
 ghost use Rattle.ps_definitions.specs.Names.{is_in, has_repeated, output_names};
 
+use ps_data::{Items, Memory, Text};
 use ps_queries::Output;
-use ps_values::{Items, Memory, Text};
 use std::alloc::Global;
 use std::collections::BTreeSet;
 use std::marker::Model;

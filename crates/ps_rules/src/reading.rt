@@ -13,9 +13,9 @@ use crate::RulesFault;
 use crate::checks::check;
 use crate::drafts::{Checked, Draft};
 use crate::shapes::drafts_in;
+use ps_data::{Items, Memory};
 use ps_definitions::{Definition, Rules, Warning};
 use ps_sql::queries_speak_as_they_may;
-use ps_values::{Items, Memory};
 use ps_yaml::{Node, YamlFault, places_rise, read_yaml};
 use std::alloc::Global;
 

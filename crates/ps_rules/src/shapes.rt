@@ -7,7 +7,7 @@ ghost use Rattle.ps_rules.specs.Shapes.{shape_fault, is_empty_scalar, pairs_of a
 use crate::RulesFault;
 use crate::drafts::{Draft, Parts, Written};
 use crate::name_sets::NameSet;
-use ps_values::{Items, Text};
+use ps_data::{Items, Text};
 use ps_yaml::{Node, Pair};
 use std::alloc::Global;
 

@@ -11,7 +11,7 @@ use Rattle.std.proofs.lemmas.Option.{cond_some, option_and_then_some}
 use Rattle.std.proofs.lemmas.Str.{IsUtf8-from_is_utf8, is_utf8-from_IsUtf8, IsUtf8-from_ascii}
 use Rattle.std.proofs.lemmas.Str.Ascii.{IsAscii-nil, IsAscii-cons}
 use Rattle.ps_values.specs.Laws.{ReadsWhatIsWritten}
-use Rattle.ps_values.specs.Numbers.{decimal_of, is_decimal, begins_plainly, greatest}
+use Rattle.ps_data.specs.Numbers.{decimal_of, is_decimal, begins_plainly, greatest}
 use Rattle.ps_script.proofs.Tests.{both, held}
 use Rattle.ps_script.specs.Words.{IsCount, IsName, text_of, within_count, count_of, is_name, name_of}
 

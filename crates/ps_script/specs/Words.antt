@@ -3,7 +3,7 @@ use Rattle.std.specs.Prelude.{◌≡◌, ◌≢◌, ℕ, ◌≤◌, ◌==◌, Bo
 use Rattle.std.specs.Char.{is_ascii_alphanumeric}
 use Rattle.std.specs.List.{AllPass, list_all}
 use Rattle.std.specs.Str.{is_utf8}
-use Rattle.ps_values.specs.Numbers.{decimal_of}
+use Rattle.ps_data.specs.Numbers.{decimal_of}
 use Rattle.ps_script.specs.declared.faults.ScriptFault.{ScriptFault}
 use Rattle.ps_script.specs.declared.faults.ScriptFault.TheVariants.{BadEvent, UnknownClient, WrongPhase, Memory}
 

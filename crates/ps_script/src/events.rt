@@ -1,6 +1,6 @@
+use ps_data::Text;
 use ps_rows::Change;
 use ps_sql_eval::Asker;
-use ps_values::Text;
 
 /// What a line of a script asks for: docs/FORMATS.md, "Scripts". Each name is of ASCII letters and digits, at least one.
 #[derive(Debug, Drop)]

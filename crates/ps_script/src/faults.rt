@@ -1,4 +1,4 @@
-use ps_values::Memory;
+use ps_data::Memory;
 use std::alloc::AllocError;
 
 /// Why a line of a script is refused.

@@ -8,7 +8,8 @@ ghost use Rattle.ps_script.specs.Refusals.{RefusesUnless};
 ghost use Rattle.ps_script.specs.Words.{Reads, count_of, text_of, name_of, is_name as is_name_of};
 
 use crate::ScriptFault;
-use ps_values::{Memory, Text, read_decimal};
+use ps_data::{Memory, Text};
+use ps_values::read_decimal;
 use std::alloc::Global;
 
 // The greatest number of an event.

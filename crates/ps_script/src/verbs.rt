@@ -4,7 +4,7 @@ ghost use Rattle.std.specs.Prelude.{◌≡◌};
 ghost use Rattle.ps_script.specs.Verbs.{verb_of, event_by};
 
 use crate::ScriptEvent;
-use ps_values::Text;
+use ps_data::Text;
 
 #[derive(Clone, Copy, PartialEq, Eq)]
 pub enum Verb {

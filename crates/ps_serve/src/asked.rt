@@ -1,7 +1,7 @@
+use ps_data::{Items, Text};
 use ps_lines::Known;
 use ps_rows::Change;
 use ps_sql_eval::Asker;
-use ps_values::{Items, Text};
 
 /// What a request asks for.
 #[derive(Drop)]

@@ -12,10 +12,10 @@ ghost use Rattle.ps_serve.specs.Changing.{AnswersNumber, AnswersUpload};
 use crate::ends::End;
 use crate::refusals::Refusal;
 use crate::writing::{answer_with, number_body, position_body, refuse};
+use ps_data::{Items, Memory, Position, Text};
 use ps_io::Sink;
 use ps_rows::Change;
 use ps_store::{FeedFault, Store};
-use ps_values::{Items, Memory, Position, Text};
 use ps_write_cp::NumberFault;
 use std::alloc::Global;
 

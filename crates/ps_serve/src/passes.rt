@@ -7,9 +7,9 @@ ghost use Rattle.ps_serve.specs.Requests.{HasToken, IsOpen, token_in as token_na
 
 use crate::refusals::Refusal;
 use crate::ways::{Way, way_of};
+use ps_data::Text;
 use ps_http::Head;
 use ps_token::{Claims, Keys, TokenFault, verify};
-use ps_values::Text;
 use std::alloc::Global;
 
 /// What may be answered, and to whom.

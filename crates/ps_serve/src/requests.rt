@@ -10,12 +10,12 @@ use crate::passes::{Pass, admit};
 use crate::refusals::Refusal;
 use crate::ways::Way;
 use ps_changes::{ChangeFault, read_changes};
+use ps_data::{Memory, Text};
 use ps_http::{BodyFault, Head, HeadFault, query_value, read_body, read_head};
 use ps_io::{Clock, Source};
 use ps_lines::{LineFault, read_body as read_stream_body};
 use ps_sql_eval::Asker;
 use ps_token::{Claims, Keys};
-use ps_values::{Memory, Text};
 use std::alloc::Global;
 
 // The refusal of a head that was not read.

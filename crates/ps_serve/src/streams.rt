@@ -20,11 +20,11 @@ use crate::ends::End;
 use crate::refusals::Refusal;
 use crate::writing::{head, refuse};
 use ps_core::{calls_make_turns, runs_go_on};
+use ps_data::{Memory, OpId};
 use ps_io::{Clock, Sink};
 use ps_lines::{Line, write_line};
 use ps_session::{Action, Session, StreamRequest};
 use ps_store::{Store, TakeFault, courses_are_lawful, places_are_fronts};
-use ps_values::{Memory, OpId};
 use std::alloc::Global;
 
 // Writes the line of a turn, if it gives one.

@@ -1,7 +1,7 @@
 ghost use Rattle.std.specs.Prelude.{◌≡◌};
 ghost use Rattle.ps_serve.specs.Requests.{way_of as way_named, method_of};
 
-use ps_values::Text;
+use ps_data::Text;
 
 /// What the service does, each under a path of its own.
 #[derive(Clone, Copy, PartialEq, Eq)]

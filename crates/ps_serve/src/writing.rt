@@ -8,9 +8,9 @@ ghost use Rattle.ps_serve.specs.Answers.{IsWritten, Refuses, refusal_text, head_
 
 use crate::ends::End;
 use crate::refusals::Refusal;
+use ps_data::{Memory, Position};
 use ps_http::write_head;
 use ps_io::Sink;
-use ps_values::{Memory, Position};
 use std::alloc::Global;
 
 /// The head of an answer, whose status is one of the table.

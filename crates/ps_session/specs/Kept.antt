@@ -1,6 +1,6 @@
 -- What a session keeps: places beside the buckets of the last taken value.
 use Rattle.std.specs.Prelude.{◌≡◌, ℕ, suc, if◌then◌else◌, List, [], ◌∷◌, bytes_eq, nat_lt, length}
-use Rattle.ps_values.specs.declared.ids.OpId.{OpId}
+use Rattle.ps_data.specs.declared.ids.OpId.{OpId}
 use Rattle.ps_lines.specs.declared.bodies.Known.{Known}
 use Rattle.ps_sql_eval.specs.declared.askers.Asker.{Asker}
 use Rattle.ps_bucket_log.specs.declared.takes.Taken.{Taken}

@@ -1,7 +1,7 @@
 -- A session: what it makes of what it takes and reads, one checkpoint after another.
 use Rattle.std.specs.Prelude.{◌≡◌, ℕ, false, if◌then◌else◌, List, [], ◌∷◌, Option, Some, None, unwrap_or, bytes_eq, nat_lt, IsTrue}
 use Rattle.std.specs.Option.{option_or}
-use Rattle.ps_values.specs.declared.ids.OpId.{OpId}
+use Rattle.ps_data.specs.declared.ids.OpId.{OpId}
 use Rattle.ps_bucket_log.specs.declared.batches.Batch.{Batch}
 use Rattle.ps_bucket_log.specs.Ops.{place_after}
 use Rattle.ps_lines.specs.declared.bodies.Known.{Known}

@@ -1,4 +1,4 @@
-use ps_values::OpId;
+use ps_data::OpId;
 
 /// What a session wants next of its store.
 #[derive(Clone, Copy, Debug, PartialEq, Eq)]

@@ -7,8 +7,8 @@ ghost use Rattle.ps_session.specs.Matches.{match_of, is_as_found};
 use crate::entries::entry_of;
 use crate::matches::matches_among;
 use ps_bucket_log::{Taken, TakenBucket};
+use ps_data::{Items, Memory, Text};
 use ps_lines::{Entry, Line};
-use ps_values::{Items, Memory, Text};
 use std::alloc::Global;
 
 // Whether a bucket is as it was.

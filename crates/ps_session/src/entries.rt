@@ -4,8 +4,8 @@ ghost use Rattle.std.specs.Prelude.{◌≡◌, map, IfOk};
 ghost use Rattle.ps_session.specs.Takes.{entry_of, first_line};
 
 use ps_bucket_log::{Taken, TakenBucket};
+use ps_data::{Items, Memory};
 use ps_lines::{Entry, Line};
-use ps_values::{Items, Memory};
 use std::alloc::Global;
 
 // The priority of every bucket.

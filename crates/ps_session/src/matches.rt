@@ -5,7 +5,7 @@ ghost use Rattle.ps_session.specs.Takes.{NamesRise};
 ghost use Rattle.ps_session.specs.Matches.{match_of, below_front, match_at};
 
 use ps_bucket_log::TakenBucket;
-use ps_values::{Memory, Text};
+use ps_data::{Memory, Text};
 use std::alloc::Global;
 
 // For each bucket the place of the bucket of its name among others. The names of both rise.

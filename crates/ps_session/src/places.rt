@@ -2,7 +2,7 @@
 
 ghost use Rattle.std.specs.Prelude.{◌≡◌, ◌+◌, ◌≤◌, ℕ, List, drop, map, length, IfOk, option_map};
 ghost use Rattle.std.specs.BTreeMap.{get};
-ghost use Rattle.ps_values.specs.declared.ids.OpId.{OpId as OpIdSeen};
+ghost use Rattle.ps_data.specs.declared.ids.OpId.{OpId as OpIdSeen};
 ghost use Rattle.std.specs.Cmp.Lexicographic.{slice_cmp};
 ghost use Rattle.std.specs.Ordering.{nat_cmp};
 ghost use Rattle.ps_session.specs.Sessions.{known_in};
@@ -10,8 +10,8 @@ ghost use Rattle.ps_session.specs.Kept.{done_front};
 ghost use Rattle.ps_session.specs.Matches.{requested_place, place_at};
 
 use ps_bucket_log::TakenBucket;
+use ps_data::{Memory, OpId, Text};
 use ps_lines::Known;
-use ps_values::{Memory, OpId, Text};
 use std::alloc::Global;
 use std::collections::BTreeMap;
 

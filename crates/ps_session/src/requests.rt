@@ -1,6 +1,6 @@
+use ps_data::Items;
 use ps_lines::Known;
 use ps_sql_eval::Asker;
-use ps_values::Items;
 
 /// What a client asks a stream for.
 #[derive(Debug, Drop)]

@@ -16,9 +16,9 @@ use crate::phases::Phase;
 use crate::places::{first_behind, kept_places, requested_places};
 use crate::requests::StreamRequest;
 use ps_bucket_log::{Batch, Op, Taken};
+use ps_data::{Items, Memory, OpId, Position, Text};
 use ps_lines::{Known, Line};
 use ps_sql_eval::Asker;
-use ps_values::{Items, Memory, OpId, Position, Text};
 use std::alloc::Global;
 use std::marker::Model;
 

@@ -7,7 +7,7 @@ use Rattle.std.proofs.lemmas.List.Sums.{prefix_len-le-length, prefix_len_passes}
 use Rattle.ps_sql.specs.declared.words.Word.{Word}
 use Rattle.ps_sql.specs.declared.words.Word.TheVariants as words
 use Rattle.ps_sql.specs.declared.words.Mark.{Mark}
-use Rattle.ps_values.specs.Numbers.{greatest}
+use Rattle.ps_data.specs.Numbers.{greatest}
 use Rattle.ps_sql.specs.Words.{decimal_after, ends_number, is_digit, begins_name, continues_name, number_at, quoted, quoted_word, behind, marked, single_mark, longest_mark, word_at, CutsBehindAscii}
 
 -- which way a test went

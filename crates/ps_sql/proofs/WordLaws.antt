@@ -10,7 +10,7 @@ use Rattle.ps_sql.specs.declared.words.Word.TheVariants as words
 use Rattle.ps_sql.specs.declared.words.Keyword.{Keyword}
 use Rattle.ps_sql.specs.declared.words.Mark.{Mark}
 use Rattle.ps_sql.specs.declared.words.Mark.TheVariants as marks
-use Rattle.ps_values.specs.Numbers.{greatest}
+use Rattle.ps_data.specs.Numbers.{greatest}
 use Rattle.ps_sql.specs.Words.{is_digit, begins_name, continues_name, decimal_after, ends_number, named, keyword_of, name_at, number_at, word_at, quoted, quoted_word, behind, single_mark, longest_mark, marked}
 use Rattle.ps_sql.specs.Spellings.{IsWord, IsName, IsNumber, IsQuoted, IsMark, ends_mark, doubled}
 use Rattle.ps_sql.proofs.Cuts.{chosen, word_cuts, first_cuts, name_cuts, number_cuts, mark_cuts, behind_some}

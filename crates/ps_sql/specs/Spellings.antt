@@ -5,7 +5,7 @@ use Rattle.ps_sql.specs.declared.words.Word.{Word}
 use Rattle.ps_sql.specs.declared.words.Word.TheVariants as words
 use Rattle.ps_sql.specs.declared.words.Mark.{Mark}
 use Rattle.ps_sql.specs.declared.words.Mark.TheVariants as marks
-use Rattle.ps_values.specs.Numbers.{greatest}
+use Rattle.ps_data.specs.Numbers.{greatest}
 use Rattle.ps_sql.specs.Words.{begins_name, continues_name, is_digit, decimal_after, ends_number, keyword_of}
 
 -- a letter or `_`, then letters, digits and `_`, as many as there are

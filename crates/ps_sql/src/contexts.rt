@@ -1,5 +1,5 @@
 use crate::{Expr, Output};
-use ps_values::{Items, Text};
+use ps_data::{Items, Text};
 
 /// What is known of the table that a query's columns come from.
 #[derive(Drop)]

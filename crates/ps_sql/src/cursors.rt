@@ -1,6 +1,6 @@
 use crate::SqlFault;
 use crate::words::{Keyword, Lexeme, Mark, Word};
-use ps_values::Text;
+use ps_data::Text;
 use std::alloc::Global;
 use std::marker::Model;
 

@@ -12,7 +12,7 @@ use crate::primes::{
 };
 use crate::words::{Keyword, Mark, Word};
 use crate::{Expr, Function, SqlFault};
-use ps_values::{Boxed, Items, Text};
+use ps_data::{Boxed, Items, Text};
 use std::alloc::Global;
 
 /// A whole expression, with brackets at most `depth` deep.

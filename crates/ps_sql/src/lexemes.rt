@@ -6,7 +6,7 @@ ghost use Rattle.ps_sql.specs.Lexemes.{AreTokens, Rise, Stops, token_of};
 use crate::SqlFault;
 use crate::scans::{byte_at, cut, front_word, is_blank_byte};
 use crate::words::{Lexeme, Token};
-use ps_values::{Items, Memory, Text};
+use ps_data::{Items, Memory, Text};
 use std::alloc::Global;
 
 /// The words of a text and where they stand, or the first place where no word begins.

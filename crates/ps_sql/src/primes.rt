@@ -9,7 +9,7 @@ use crate::cursors::Cursor;
 use crate::scans::is_same_word;
 use crate::words::{Keyword, Mark, Word};
 use crate::{Expr, Function, Operator, SqlFault};
-use ps_values::{Boxed, Text};
+use ps_data::{Boxed, Text};
 use std::alloc::Global;
 
 /// Whether a text is these bytes.

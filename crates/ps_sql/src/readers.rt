@@ -14,7 +14,7 @@ use crate::grammars::expr;
 use crate::lexemes::lexemes;
 use crate::words::{Keyword, Mark};
 use crate::{DataQuery, Expr, Output, ParameterQuery, SqlFault};
-use ps_values::{Items, Memory, Text};
+use ps_data::{Items, Memory, Text};
 use std::alloc::Global;
 
 /// Whether FROM, WHERE, `;` or the text's end comes next.

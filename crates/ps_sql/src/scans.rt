@@ -1,11 +1,11 @@
 ghost use Rattle.std.specs.Prelude.{◌≡◌, true, ℕ, pos, ◌+◌, ◌-◌, ◌<◌, ◌≤◌, length, take, drop, slice_index, IfOk, IfSome, Some, None, option_map, if◌then◌else◌, nat_le};
 ghost use Rattle.std.specs.List.{prefix_len};
 ghost use Rattle.ps_sql.specs.declared.words.Word.TheVariants as words;
-ghost use Rattle.ps_values.specs.Numbers.{greatest};
+ghost use Rattle.ps_data.specs.Numbers.{greatest};
 ghost use Rattle.ps_sql.specs.Words.{CutsBehindAscii, name_at, begins_name, continues_name, decimal_after, ends_number, is_blank, is_digit, is_left_out, clause_word, operator_word, value_word, keyword_of, longest_mark, number_at, quoted, same_word, single_mark, word_at};
 
 use crate::words::{Keyword, Mark, Word};
-use ps_values::{GREATEST, Memory, Text};
+use ps_data::{GREATEST, Memory, Text};
 use std::alloc::Global;
 
 pub fn is_blank_byte(b: u8) -> bool

@@ -1,4 +1,4 @@
-use ps_values::Text;
+use ps_data::Text;
 
 /// What a token is.
 #[derive(Clone, Copy, Debug, PartialEq, Eq)]

@@ -1,12 +1,12 @@
 -- The value of a function's call, and the value whatever it does not go by.
 use Rattle.std.proofs.Common.{◌≡◌, ℕ, false, List, map, sym, ap, ◌∙◌}
 use Rattle.std.specs.Prelude.{Result, Ok, Err, IfOk}
-use Rattle.ps_values.specs.declared.values.Value.{Value}
+use Rattle.ps_data.specs.declared.values.Value.{Value}
 use Rattle.ps_queries.specs.declared.expressions.Expr.{Expr}
 use Rattle.ps_queries.specs.declared.expressions.Expr.TheVariants as exprs
 use Rattle.ps_queries.specs.declared.expressions.Function.{Function}
 use Rattle.ps_queries.specs.Meaning.{Given, value_of, call_value}
-use Rattle.ps_values.specs.declared.columns.Column.{Column}
+use Rattle.ps_data.specs.declared.columns.Column.{Column}
 use Rattle.ps_queries.specs.declared.subjects.Subject.TheVariants as subjects
 use Rattle.ps_queries.specs.Subjects.{speaks, IsSameForEveryAsker, IsSameForEveryBucket}
 use Rattle.ps_sql_eval.specs.declared.askers.Asker.{Asker}

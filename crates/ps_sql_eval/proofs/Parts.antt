@@ -4,8 +4,8 @@ use Rattle.std.specs.Prelude.{Some, None, option_and_then}
 use Rattle.serde_json.specs.Data.{Data, null, boolean, number, string, array, object, Items}
 use Rattle.serde_json.specs.Find.{as_array}
 use Rattle.serde_json.specs.Written.{has_float, items_have_float}
-use Rattle.ps_values.specs.declared.values.Value.{Value}
-use Rattle.ps_values.specs.declared.values.Value.TheVariants.{Null, Int, Text}
+use Rattle.ps_data.specs.declared.values.Value.{Value}
+use Rattle.ps_data.specs.declared.values.Value.TheVariants.{Null, Int, Text}
 use Rattle.ps_queries.specs.Meaning.{member_at, member_of, array_of}
 use Rattle.ps_sql_eval.specs.Evaluated.{json_in}
 use Rattle.ps_sql_eval.proofs.Floats.{IsFloatless, found_floatless}

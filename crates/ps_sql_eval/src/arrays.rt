@@ -6,7 +6,7 @@ ghost use Rattle.ps_queries.specs.Meaning.{array_of};
 ghost use Rattle.ps_sql_eval.specs.Evaluated.{values_of_items, values_in};
 
 use crate::members::{json_of, value_of_plain};
-use ps_values::{Items, Memory, Value};
+use ps_data::{Items, Memory, Value};
 use serde_json::Value as Json;
 use std::alloc::Global;
 

@@ -1,7 +1,7 @@
 ghost use Rattle.std.specs.Prelude.{◌≡◌};
 ghost use Rattle.ps_sql_eval.specs.Evaluated.{asker_of, nobody as nobody_asks};
 
-use ps_values::Text;
+use ps_data::Text;
 use std::alloc::Global;
 
 /// Who asks.

@@ -1,10 +1,10 @@
 ghost use Rattle.std.specs.Prelude.{◌≡◌, true, IfOk, option_map, unwrap_or};
-ghost use Rattle.ps_values.specs.declared.values.Value.TheVariants as values;
+ghost use Rattle.ps_data.specs.declared.values.Value.TheVariants as values;
 ghost use Rattle.ps_rows.specs.Rows.{is_row};
 ghost use Rattle.ps_queries.specs.Meaning.{value_in, column_value as value_of_column};
 
+use ps_data::{Column, Memory, Text, Value};
 use ps_rows::Row;
-use ps_values::{Column, Memory, Text, Value};
 use std::alloc::Global;
 
 /// The value of a column, by its name among sorted ones; None where there is none of that name.

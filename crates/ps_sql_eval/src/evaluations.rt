@@ -13,9 +13,10 @@ use crate::truths::{
     bool_value, greater, greater_or_equal, greatest, least, less, less_or_equal, opposite,
     truth_value,
 };
+use ps_data::{Memory, Text, Truth, Value};
 use ps_queries::{Expr, Function, Operator, same_for_every_asker, same_for_every_bucket};
 use ps_rows::Row;
-use ps_values::{Memory, Text, Truth, Value, equal_sql, truth_of};
+use ps_values::{equal_sql, truth_of};
 use std::alloc::Global;
 
 /// The value of an expression that has neither a request function nor a bucket parameter, on a row.

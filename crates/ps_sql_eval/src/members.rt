@@ -3,11 +3,12 @@ ghost use Rattle.serde_json.specs.Find.{as_array};
 ghost use Rattle.ps_sql_eval.specs.Evaluated.{json_in};
 ghost use Rattle.serde_json.specs.View.{view, items_view};
 ghost use Rattle.serde_json.specs.Written.{has_float, items_have_float};
-ghost use Rattle.ps_values.specs.Conversions.{value_of as value_of_data};
+ghost use Rattle.ps_data.specs.Conversions.{value_of as value_of_data};
 ghost use Rattle.ps_queries.specs.Meaning.{any_equals as any_equals_of, array_of, within_items as within_items_of, member_at, member_of, member_text, member_value};
 
 use crate::truths::bool_value;
-use ps_values::{Memory, Text, Truth, Value, equal_sql, plain_json, text_of_json};
+use ps_data::{Memory, Text, Truth, Value};
+use ps_values::{equal_sql, plain_json, text_of_json};
 use serde_json::Value as Json;
 use std::alloc::Global;
 

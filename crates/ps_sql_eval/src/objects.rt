@@ -7,9 +7,10 @@ ghost use Rattle.ps_sql_eval.specs.Evaluated.{without_bucket};
 use crate::Asker;
 use crate::evaluations::eval_without_bucket;
 use crate::texts::text_of;
+use ps_data::{Column, Items, Memory, Text, Value, copy_all};
 use ps_queries::{DataQuery, Output};
 use ps_rows::Row;
-use ps_values::{Column, Items, Memory, Text, Value, copy_all, document};
+use ps_values::document;
 use std::alloc::Global;
 
 /// The id of the object that a data query shows an asker for a row, where every parameter of a bucket is Null: the text of its output

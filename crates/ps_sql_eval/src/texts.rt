@@ -1,10 +1,11 @@
 ghost use Rattle.std.specs.Prelude.{◌≡◌, ◌++◌, pos, length as count, IfOk, map, option_map};
 ghost use Rattle.std.specs.Str.{chars};
-ghost use Rattle.ps_values.specs.declared.values.Value.TheVariants as values;
+ghost use Rattle.ps_data.specs.declared.values.Value.TheVariants as values;
 ghost use Rattle.std.specs.Char.{to_ascii_uppercase, to_ascii_lowercase};
 ghost use Rattle.ps_queries.specs.Meaning.{text_of as text_in, text_value, joined, length_value, type_text};
 
-use ps_values::{Memory, Text, Value, decimal};
+use ps_data::{Memory, Text, Value};
+use ps_values::decimal;
 use std::alloc::Global;
 
 /// The text of a value: of an integer its decimal text, of Null none.

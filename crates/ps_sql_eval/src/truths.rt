@@ -1,8 +1,9 @@
 ghost use Rattle.std.specs.Prelude.{◌≡◌, not, ◌||◌, if◌then◌else◌, Option, Some, None};
-ghost use Rattle.ps_values.specs.Values.{compare_values, is_null};
+ghost use Rattle.ps_data.specs.Values.{compare_values, is_null};
 ghost use Rattle.ps_queries.specs.Meaning.{least as least_of, greatest as greatest_of, opposite_truth, truth_value as value_of_truth, bool_value as value_of_bool, is_less, is_greater, ordered};
 
-use ps_values::{Truth, Value, compare};
+use ps_data::{Truth, Value};
+use ps_values::compare;
 use std::cmp::Ordering;
 
 /// True where either side is, and else Unknown where either side is.

@@ -3,16 +3,17 @@
 ghost use Rattle.std.specs.Prelude.{◌≡◌, Some, IfOk, map};
 ghost use Rattle.std.specs.List.{list_any};
 ghost use Rattle.std.specs.Option.{option_to_list};
-ghost use Rattle.ps_values.specs.Values.{is_null};
+ghost use Rattle.ps_data.specs.Values.{is_null};
 ghost use Rattle.ps_queries.specs.Meaning.{holds as holds_for};
 ghost use Rattle.ps_queries.specs.Vectors.{output_value as value_of_output, vector_on as vectors_on, at_row};
 ghost use Rattle.ps_sql_eval.specs.Evaluated.{asker_of, without_bucket};
 
 use crate::Asker;
 use crate::evaluations::eval_without_bucket;
+use ps_data::{Items, Memory, Text, Truth, Value};
 use ps_queries::{Expr, Output, ParameterQuery};
 use ps_rows::Row;
-use ps_values::{Items, Memory, Text, Truth, Value, truth_of};
+use ps_values::truth_of;
 use std::alloc::Global;
 
 /// Whether a condition holds for an asker on a row, where every parameter of a bucket is Null: only `True` lets a row through.

@@ -8,7 +8,7 @@ use Rattle.ps_rows.specs.Source.{Key}
 use Rattle.ps_definitions.specs.declared.definitions.Definition.{Definition}
 use Rattle.ps_params.specs.Indexes.{is_read}
 use Rattle.ps_params.specs.Notes.{Note, SameFrom}
-use Rattle.ps_values.specs.declared.columns.Column.{Column}
+use Rattle.ps_data.specs.declared.columns.Column.{Column}
 use Rattle.ps_store.specs.declared.plans.Made.{Made}
 use Rattle.ps_store.specs.Noting.{noted, row_noted, with_note}
 use Rattle.ps_store.specs.Originals.{Timed, key_of}

@@ -4,7 +4,7 @@ use Rattle.std.specs.Prelude.{T}
 use Rattle.std.specs.Ordering.{is_eq, eq_by_cmp}
 use Rattle.std.specs.FinMap.Entries.{find, is_sorted}
 use Rattle.std.proofs.lemmas.Option.{same_Some}
-use Rattle.ps_values.specs.declared.columns.Column.{Column}
+use Rattle.ps_data.specs.declared.columns.Column.{Column}
 use Rattle.ps_rows.specs.Source.{Key, key_cmp, Version, Source, after_row}
 use Rattle.ps_rows.specs.Keys.{keys_exact, find-after_row, sorted-after_row}
 use Rattle.ps_definitions.specs.declared.definitions.Definition.{Definition}

@@ -11,12 +11,12 @@ use Rattle.std.proofs.lemmas.Bool.{and_parts, and_from, or_parts, both_ways}
 use Rattle.std.proofs.lemmas.List.{length-map}
 use Rattle.std.proofs.lemmas.Option.{same_Some}
 use Rattle.std.proofs.lemmas.Slice.Eq.{bytes_eq-Decides}
-use Rattle.ps_values.specs.declared.values.Value.{Value}
-use Rattle.ps_values.specs.declared.values.Value.TheVariants.{Null, Text}
-use Rattle.ps_values.specs.declared.values.Truth.{Truth}
-use Rattle.ps_values.specs.declared.values.Truth.TheVariants.{True, False, Unknown}
-use Rattle.ps_values.specs.Values.{truth_of}
-use Rattle.ps_values.specs.Documents.{document_of}
+use Rattle.ps_data.specs.declared.values.Value.{Value}
+use Rattle.ps_data.specs.declared.values.Value.TheVariants.{Null, Text}
+use Rattle.ps_data.specs.declared.values.Truth.{Truth}
+use Rattle.ps_data.specs.declared.values.Truth.TheVariants.{True, False, Unknown}
+use Rattle.ps_data.specs.Values.{truth_of}
+use Rattle.ps_data.specs.Documents.{document_of}
 use Rattle.ps_rows.specs.Source.{Key, key_cmp, Version, Source}
 use Rattle.ps_rows.specs.Keys.{keys_total, keys_exact}
 use Rattle.ps_queries.specs.declared.expressions.Expr.{Expr}

@@ -7,7 +7,7 @@ use Rattle.std.proofs.lemmas.Bool.{and_parts}
 use Rattle.std.proofs.lemmas.List.Elements.{All-push}
 use Rattle.std.proofs.lemmas.List.Sorted.{IsNonDecreasingBy-push}
 use Rattle.std.proofs.lemmas.Slice.Eq.{bytes_eq-Decides}
-use Rattle.ps_values.specs.declared.ids.Position.{Position}
+use Rattle.ps_data.specs.declared.ids.Position.{Position}
 use Rattle.ps_bucket_log.specs.declared.ops.Op.{Op}
 use Rattle.ps_bucket_log.specs.Logs.{IsRising, AreEntries}
 use Rattle.ps_bucket_log.specs.Ops.{id_of, is_entry, newest}

@@ -4,7 +4,7 @@ use Rattle.std.specs.Cmp.Lexicographic.{slice_cmp}
 use Rattle.std.specs.List.Sorted.{IsStrictlySortedBy}
 use Rattle.std.specs.Ordering.{nat_cmp}
 use Rattle.std.proofs.lemmas.Bool.{cases_lt, lt-ltb, le-ltb}
-use Rattle.ps_values.specs.declared.ids.OpId.{OpId}
+use Rattle.ps_data.specs.declared.ids.OpId.{OpId}
 use Rattle.ps_bucket_log.specs.declared.ops.Op.{Op}
 use Rattle.ps_bucket_log.specs.declared.batches.Batch.{Batch}
 use Rattle.ps_bucket_log.specs.Ops.{greatest_target, upto, past, newest, sum_of}

@@ -7,7 +7,7 @@ use Rattle.std.specs.Cmp.{eq_by_cmp_equiv}
 use Rattle.std.specs.FinMap.Entries.{find}
 use Rattle.std.proofs.lemmas.Bool.{and_parts, or_cases, false_from_ne_true, ltb-true, eqb-true}
 use Rattle.std.proofs.lemmas.Option.{same_Some}
-use Rattle.ps_values.specs.declared.columns.Column.{Column}
+use Rattle.ps_data.specs.declared.columns.Column.{Column}
 use Rattle.ps_bucket_log.specs.declared.ops.Key.{Key as EntryKey}
 use Rattle.ps_bucket_log.specs.declared.ops.Op.{Op}
 use Rattle.ps_bucket_log.specs.Ops.{id_of}

@@ -1,8 +1,8 @@
 -- The store stands for a ledger, before and after a call.
 use Rattle.std.proofs.Common.{◌≡◌, ℕ, zero, suc, ◌+◌, ◌*◌, ◌^◌, ◌≤◌, ◌<◌, max, Option, List, [], ◌∷◌, ◌++◌, refl, sym, ap, ◌∙◌, subst, length, map, take, drop, fold, arith, append_assoc, append-nil, length-append, length-take, length-drop}
 use Rattle.std.specs.FinMap.Entries.{find}
-use Rattle.ps_values.specs.declared.ids.OpId.{OpId}
-use Rattle.ps_values.specs.declared.ids.Position.{Position}
+use Rattle.ps_data.specs.declared.ids.OpId.{OpId}
+use Rattle.ps_data.specs.declared.ids.Position.{Position}
 use Rattle.ps_bucket_log.specs.declared.ops.Op.{Op}
 use Rattle.ps_bucket_log.specs.Logs.{IsRising}
 use Rattle.ps_bucket_log.specs.Ops.{newest, sum_of}

@@ -1,7 +1,7 @@
 -- The laws of original operations.
 use Rattle.std.specs.Prelude.{◌≡◌, ◌≢◌, ℕ, ◌<◌, ◌^◌, List, [], ◌∷◌, Contains, IfSome, IsSome, None}
 use Rattle.std.specs.List.{AllByRecursion}
-use Rattle.ps_values.specs.declared.values.Value.{Value}
+use Rattle.ps_data.specs.declared.values.Value.{Value}
 use Rattle.ps_bucket_log.specs.declared.ops.Key.{Key}
 use Rattle.ps_bucket_log.specs.Buckets.{bucket_of}
 use Rattle.ps_rows.specs.declared.changes.Transaction.{Transaction}

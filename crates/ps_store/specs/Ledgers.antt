@@ -1,6 +1,6 @@
 -- A history, and what is known of it: one fold.
 use Rattle.std.specs.Prelude.{◌≡◌, ℕ, ◌+◌, ◌-◌, ◌≤◌, ◌<◌, Bool, true, false, if◌then◌else◌, List, [], ◌∷◌, ◌++◌, length, take, drop, fold, max, nat_le, bytes_eq, ◌≢◌, Option}
-use Rattle.ps_values.specs.declared.ids.Position.{Position}
+use Rattle.ps_data.specs.declared.ids.Position.{Position}
 use Rattle.ps_bucket_log.specs.declared.ops.Op.{Op}
 use Rattle.ps_compact.specs.Compaction.{compacted}
 use Rattle.ps_write_cp.specs.Numbers.{Made, heads_of, covered}

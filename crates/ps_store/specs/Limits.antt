@@ -1,6 +1,6 @@
 -- What bounds a store.
 use Rattle.std.specs.Prelude.{◌≤◌}
-pub use Rattle.ps_values.specs.Numbers.{greatest}
+pub use Rattle.ps_data.specs.Numbers.{greatest}
 use Rattle.ps_store.specs.declared.fixed.Limits.{Limits}
 
 abbrev pub usual_limits : Limits

@@ -1,5 +1,5 @@
 use ps_bucket_log::Op;
-use ps_values::Text;
+use ps_data::Text;
 
 /// An operation, and the bucket that it is written into.
 #[derive(Debug, Drop)]

@@ -1,5 +1,5 @@
+use ps_data::Text;
 use ps_rows::Transaction;
-use ps_values::Text;
 
 /// One accepted changing call of a store. A history is a list of them.
 #[derive(Debug, Drop)]

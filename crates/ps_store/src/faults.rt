@@ -1,4 +1,4 @@
-use ps_values::{Memory, OpId, Position, Text};
+use ps_data::{Memory, OpId, Position, Text};
 
 /// Why a transaction or an upload was not fed.
 #[derive(Debug, Drop)]

@@ -1,8 +1,8 @@
 ghost use Rattle.std.specs.Prelude.{◌≡◌};
 ghost use Rattle.ps_store.specs.Limits.{usual_limits, AreWithin};
 
+use ps_data::GREATEST;
 use ps_definitions::Rules;
-use ps_values::GREATEST;
 
 /// What bounds a store.
 #[derive(Clone, Copy, Debug)]

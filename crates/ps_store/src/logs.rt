@@ -18,7 +18,7 @@ use crate::entered::Entered;
 use ps_bucket_log::{Batch, BucketLog, Log, Op, TakenBucket};
 use ps_checksum::Sum;
 use ps_compact::{Report, compact};
-use ps_values::{Items, Memory, OpId, Text};
+use ps_data::{Items, Memory, OpId, Text};
 use std::alloc::Global;
 use std::collections::BTreeMap;
 

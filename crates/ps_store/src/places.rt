@@ -7,7 +7,7 @@ ghost use Rattle.ps_store.specs.Places.{place_of as place_of_entry, place_cmp, e
 
 use ps_bucket_eval::Placed;
 use ps_bucket_log::Key;
-use ps_values::{Items, Memory, Text};
+use ps_data::{Items, Memory, Text};
 use std::alloc::Global;
 use std::collections::BTreeSet;
 

@@ -24,9 +24,9 @@ use crate::waiting::Waiting;
 use ps_bucket_eval::{PlaceFault, Placed, entries_of_row};
 use ps_bucket_log::{Key, Op};
 use ps_checksum::{put_sum, remove_sum};
+use ps_data::{Items, Memory, OpId};
 use ps_params::reads_table;
 use ps_rows::Row;
-use ps_values::{Items, Memory, OpId};
 use std::alloc::Global;
 use std::collections::{BTreeMap, VecDeque};
 

@@ -3,7 +3,7 @@
 ghost use Rattle.std.specs.Prelude.{◌≡◌, ◌+◌, ◌<◌, ◌≤◌, [], ◌∷◌, ◌++◌, true, false, length, OnOk};
 ghost use Rattle.ps_store.specs.Reach.{reached, settled, AwaitsOne, end_room};
 
-use ps_values::{Memory, OpId, Position};
+use ps_data::{Memory, OpId, Position};
 use std::alloc::Global;
 use std::collections::VecDeque;
 

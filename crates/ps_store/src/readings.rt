@@ -1,6 +1,6 @@
 //! Why a store's reader is given no checkpoint.
 
-use ps_values::Memory;
+use ps_data::Memory;
 
 /// Why no checkpoint was taken.
 #[derive(Debug, Drop)]

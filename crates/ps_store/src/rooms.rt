@@ -5,7 +5,7 @@ ghost use Rattle.ps_store.specs.Originals.{in_bucket};
 ghost use Rattle.ps_store.specs.StoreLogs.{wanted};
 
 use crate::entered::Entered;
-use ps_values::{Memory, Text};
+use ps_data::{Memory, Text};
 use std::alloc::Global;
 use std::collections::BTreeMap;
 

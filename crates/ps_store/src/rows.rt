@@ -7,8 +7,8 @@ ghost use Rattle.std.specs.Ordering.{eq_by_cmp};
 ghost use Rattle.ps_rows.specs.Source.{Key, key_cmp};
 ghost use Rattle.ps_store.specs.Rows.{row_at, has_place};
 
+use ps_data::{Memory, Position, Text};
 use ps_rows::Row;
-use ps_values::{Memory, Position, Text};
 use std::alloc::Global;
 use std::collections::BTreeMap;
 use std::marker::Model;

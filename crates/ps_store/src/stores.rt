@@ -32,11 +32,11 @@ use ps_bucket_log::{
     Batch, Taken, standing_logs_have_the_sums_of_their_originals, standing_logs_stay_standing,
 };
 use ps_compact::Report;
+use ps_data::{Items, Memory, OpId, Position, Text};
 use ps_definitions::Rules;
 use ps_params::{ParameterIndex, notes_of_changes_are_the_source};
 use ps_rows::{Change, Transaction};
 use ps_sql_eval::Asker;
-use ps_values::{Items, Memory, OpId, Position, Text};
 use ps_write_cp::{NumberFault, WriteCheckpoints};
 use std::alloc::Global;
 use std::collections::VecDeque;

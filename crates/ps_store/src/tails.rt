@@ -13,9 +13,9 @@ use crate::plans::Made;
 use crate::reach::{End, Reach};
 use crate::rows::{Live, Rows};
 use crate::waiting::Waiting;
+use ps_data::{Items, Memory, OpId, Position};
 use ps_params::ParameterIndex;
 use ps_rows::{Change, Row, Transaction};
-use ps_values::{Items, Memory, OpId, Position};
 use std::alloc::Global;
 use std::collections::VecDeque;
 

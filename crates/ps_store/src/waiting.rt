@@ -4,8 +4,8 @@ ghost use Rattle.std.specs.Prelude.{◌≡◌, IfOk};
 ghost use Rattle.ps_store.specs.Originals.{key_of};
 
 use crate::rows::RowKey;
+use ps_data::{Memory, Position};
 use ps_rows::{Change, Row};
-use ps_values::{Memory, Position};
 use std::alloc::Global;
 use std::marker::Model;
 

@@ -5,7 +5,7 @@ use Rattle.std.proofs.lemmas.Str.{is_utf8-from_IsUtf8}
 use Rattle.serde_json.specs.Data.{Data as Json, depth}
 use Rattle.serde_json.specs.Read.{read, max_depth}
 use Rattle.serde_json.specs.Written.{has_float, compact_text}
-use Rattle.ps_values.specs.Documents.{json_of}
+use Rattle.ps_data.specs.Documents.{json_of}
 use Rattle.ps_token.specs.Tokens.{header_json, header_text}
 
 pub header_written : (kid : List ℕ) (d : Json) (bytes : List ℕ) → d ≡ header_json kid → (has_float d ≡ false → bytes ≡ compact_text d) → bytes ≡ header_text kid

@@ -4,7 +4,7 @@ use Rattle.std.specs.Prelude.{option_map, option_and_then}
 use Rattle.std.proofs.lemmas.Slice.Eq.{bytes_eq-Decides}
 use Rattle.serde_json.specs.Data.{Data as Json, null, boolean, number, string, array, object, Items, no_items, item}
 use Rattle.serde_json.specs.Find.{get, as_str, as_array}
-use Rattle.ps_values.specs.Documents.{json_of}
+use Rattle.ps_data.specs.Documents.{json_of}
 use Rattle.ps_token.specs.declared.key_lists.Key.{Key}
 use Rattle.ps_token.specs.KeyLists.{are_distinct}
 use Rattle.ps_token.specs.Parts.{bytes_of}

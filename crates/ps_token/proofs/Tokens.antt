@@ -7,8 +7,8 @@ use Rattle.serde_json.specs.Data.{Data as Json, null, boolean, number, string, a
 use Rattle.serde_json.specs.Find.{get, as_str, as_number, as_u64}
 use Rattle.serde_json.specs.Written.{compact_text}
 use Rattle.base64.specs.GeneralPurpose.{IsBytes}
-use Rattle.ps_values.specs.Conversions.{plain_of}
-use Rattle.ps_values.specs.Documents.{json_of}
+use Rattle.ps_data.specs.Conversions.{plain_of}
+use Rattle.ps_data.specs.Documents.{json_of}
 use Rattle.ps_token.specs.declared.claim_sets.Claims.{Claims}
 use Rattle.ps_token.specs.declared.key_lists.Key.{Key}
 use Rattle.ps_token.specs.declared.faults.TokenFault.{TokenFault}

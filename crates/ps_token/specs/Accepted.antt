@@ -1,7 +1,7 @@
 -- Accepted tokens, in the words of RFC 7515 and RFC 7519.
 use Rattle.std.specs.Prelude.{◌≡◌, ℕ, ◌<◌, List, [], ◌∷◌, codes, Option, Some, None, Contains}
 use Rattle.serde_json.specs.Data.{Data as Json, string, number, unsigned}
-use Rattle.ps_values.specs.Documents.{json_of}
+use Rattle.ps_data.specs.Documents.{json_of}
 use Rattle.ps_token.specs.declared.claim_sets.Claims.{Claims}
 use Rattle.ps_token.specs.declared.key_lists.Key.{Key}
 use Rattle.ps_token.specs.KeyFiles.{Has}

@@ -2,7 +2,7 @@
 use Rattle.std.specs.Prelude.{◌≡◌, ◌≢◌, ℕ, Bool, if◌then◌else◌, List, [], ◌∷◌, ◌++◌, codes, bytes_eq, Option, Some, None, option_and_then, option_map, Result, Err}
 use Rattle.serde_json.specs.Data.{Data as Json, string, array, Items, no_items, item}
 use Rattle.serde_json.specs.Find.{get, as_str, as_array}
-use Rattle.ps_values.specs.Documents.{json_of}
+use Rattle.ps_data.specs.Documents.{json_of}
 use Rattle.ps_token.specs.declared.key_lists.Key.{Key}
 use Rattle.ps_token.specs.declared.faults.KeysFault.{KeysFault}
 use Rattle.ps_token.specs.declared.faults.KeysFault.TheVariants.{BadJson, BadShape}

@@ -3,8 +3,8 @@ use Rattle.std.specs.Prelude.{ℕ, Bool, false, List, codes, bytes_eq, Option, S
 use Rattle.serde_json.specs.Data.{Data as Json}
 use Rattle.serde_json.specs.Find.{get, as_str, as_number, as_u64}
 use Rattle.serde_json.specs.Written.{compact_text}
-use Rattle.ps_values.specs.Conversions.{plain_of}
-use Rattle.ps_values.specs.Documents.{json_of}
+use Rattle.ps_data.specs.Conversions.{plain_of}
+use Rattle.ps_data.specs.Documents.{json_of}
 use Rattle.ps_token.specs.declared.claim_sets.Claims.{Claims}
 use Rattle.ps_token.specs.declared.faults.TokenFault.{TokenFault}
 use Rattle.ps_token.specs.declared.faults.TokenFault.TheVariants.{Malformed, NoSubject}

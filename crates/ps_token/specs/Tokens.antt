@@ -2,7 +2,7 @@
 use Rattle.std.specs.Prelude.{◌≡◌, ℕ, nat_lt, List, codes, bytes_eq, Some, Result, Ok}
 use Rattle.serde_json.specs.Data.{Data as Json, string, object, no_members, member}
 use Rattle.serde_json.specs.Written.{compact_text}
-use Rattle.ps_values.specs.Documents.{json_of}
+use Rattle.ps_data.specs.Documents.{json_of}
 use Rattle.ps_token.specs.declared.claim_sets.Claims.{Claims}
 use Rattle.ps_token.specs.declared.key_lists.Key.{Key}
 use Rattle.ps_token.specs.declared.faults.TokenFault.{TokenFault}

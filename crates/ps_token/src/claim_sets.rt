@@ -1,4 +1,4 @@
-use ps_values::Text;
+use ps_data::Text;
 
 /// What an accepted token says.
 #[derive(Debug, Drop)]

@@ -7,7 +7,8 @@ ghost use Rattle.ps_token.specs.KeyFiles.{text_at, is_oct_key, oct_key, distinct
 
 use crate::parts::decoded;
 use crate::{Key, Keys, KeysFault};
-use ps_values::{Items, Text, read_json};
+use ps_data::{Items, Text};
+use ps_values::read_json;
 use serde_json::Value as Json;
 use std::alloc::Global;
 

@@ -2,7 +2,7 @@ ghost use Rattle.std.specs.Prelude.{◌≡◌, [], ◌∷◌, ◌++◌, true, no
 ghost use Rattle.std.specs.Option.{option_copied};
 ghost use Rattle.ps_token.specs.KeyLists.{key_of, are_distinct, HaveDistinctKids, key_named};
 
-use ps_values::{Items, Memory, Text};
+use ps_data::{Items, Memory, Text};
 use std::alloc::Global;
 use std::collections::BTreeMap;
 use std::marker::Model;

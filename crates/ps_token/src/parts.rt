@@ -4,7 +4,7 @@ ghost use Rattle.ps_token.specs.Seen.{IsSplit};
 
 use base64::DecodeAllocError;
 use base64::engine::general_purpose::URL_SAFE_NO_PAD;
-use ps_values::Memory;
+use ps_data::Memory;
 use std::alloc::Global;
 
 /// The parts of a token, as they are spelled.

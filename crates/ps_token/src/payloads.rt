@@ -5,7 +5,8 @@ ghost use Rattle.ps_token.specs.Payloads.{json_of_part, kid_of, exp_of, claims_o
 
 use crate::parts::decoded;
 use crate::{Claims, TokenFault};
-use ps_values::{Memory, Text, plain, read_json, text_of_json};
+use ps_data::{Memory, Text};
+use ps_values::{plain, read_json, text_of_json};
 use serde_json::Value as Json;
 use std::alloc::Global;
 

@@ -1,6 +1,6 @@
 ghost use Rattle.std.specs.Prelude.{◌≡◌, ◌<◌, ℕ, Some, IfOk, string_bytes};
 ghost use Rattle.serde_json.specs.View.{view};
-ghost use Rattle.ps_values.specs.Documents.{json_of};
+ghost use Rattle.ps_data.specs.Documents.{json_of};
 ghost use Rattle.ps_token.specs.Accepted.{Claimed};
 ghost use Rattle.ps_token.specs.Macs.{hmac};
 ghost use Rattle.ps_token.specs.Members.{Signs};
@@ -10,7 +10,7 @@ ghost use Rattle.ps_token.specs.Types.{Claims as ClaimsData};
 use crate::macs::mac;
 use crate::parts::encoded;
 use crate::{Key, Keys, SignFault};
-use ps_values::{Memory, Text};
+use ps_data::{Memory, Text};
 use serde_json::{Value as Json, json};
 use std::alloc::Global;
 

@@ -7,7 +7,7 @@ use Rattle.std.proofs.lemmas.Str.Parse.{parse_plain, numerals_by_value, tells_al
 use Rattle.std.proofs.lemmas.Bool.{cases_lt}
 use Rattle.std.specs.Fmt.{decimal}
 use Rattle.std.proofs.lemmas.Fmt.{digits_decimal, digits_value-decimal, decimal-digits_value, decimal_digit, decimal_nonempty, first_decimal}
-use Rattle.ps_values.specs.Numbers.{begins_plainly, is_decimal, decimal_of, greatest}
+use Rattle.ps_data.specs.Numbers.{begins_plainly, is_decimal, decimal_of, greatest}
 use Rattle.ps_values.specs.Laws.{ReadsWhatIsWritten}
 
 own : IsNumeralModel (λ ds. all_ascii_digits ds ≡ true) (digits_value 10)

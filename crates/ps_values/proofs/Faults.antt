@@ -6,8 +6,9 @@ use Rattle.serde_json.specs.Data.{Num, unsigned, negative, float, Data, null, bo
 use Rattle.serde_json.specs.Written.{has_float, items_have_float, members_have_float, compact_text}
 use Rattle.ps_values.specs.declared.conversions.ValueFault.{ValueFault}
 use Rattle.ps_values.specs.declared.conversions.ValueFault.TheVariants.{TooBig, Memory}
-use Rattle.ps_values.specs.declared.values.Value.TheVariants.{Text}
-use Rattle.ps_values.specs.Conversions.{number_fault, value_of, first_fault, numbers_of, numbers_of_items, numbers_of_members, plain_number, plain_of, plain_items, plain_members}
+use Rattle.ps_data.specs.declared.values.Value.TheVariants.{Text}
+use Rattle.ps_data.specs.Conversions.{value_of, plain_number, plain_of, plain_items, plain_members}
+use Rattle.ps_values.specs.ValueFaults.{number_fault, first_fault, numbers_of, numbers_of_items, numbers_of_members}
 use Rattle.std.proofs.lemmas.List.{drop_more}
 use Rattle.std.specs.List.Sorted.{IsStrictlySortedBy}
 use Rattle.std.specs.Map.{keys_of}

@@ -3,10 +3,10 @@ use Rattle.std.proofs.Common.{◌≡◌, ◌≢◌, ◌⊎◌, inl, inr, Orderin
 use Rattle.std.specs.Ordering.{ordering_reverse}
 use Rattle.std.proofs.lemmas.Cmp.{int_cmp_total, nat_list_cmp_total, tied_itself}
 use Rattle.std.proofs.lemmas.Map.Lookups.{exact_signed, exact_bytes}
-use Rattle.ps_values.specs.declared.values.Value.{Value}
-use Rattle.ps_values.specs.declared.values.Value.TheVariants.{Null, Int, Text}
-use Rattle.ps_values.specs.declared.values.Truth.TheVariants.{True}
-use Rattle.ps_values.specs.Values.{compare_values, equal_by, equal_sql}
+use Rattle.ps_data.specs.declared.values.Value.{Value}
+use Rattle.ps_data.specs.declared.values.Value.TheVariants.{Null, Int, Text}
+use Rattle.ps_data.specs.declared.values.Truth.TheVariants.{True}
+use Rattle.ps_data.specs.Values.{compare_values, equal_by, equal_sql}
 use Rattle.ps_values.specs.Laws.{IsAntisymmetric, IsTransitive, IsTotal, TiesTheSame, IsEqualWherePresent}
 
 pub antisymmetric : IsAntisymmetric

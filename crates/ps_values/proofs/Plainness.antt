@@ -3,7 +3,7 @@ use Rattle.std.proofs.Common.{◌≡◌, ℕ, suc, Bool, true, false, refl, sym,
 use Rattle.std.specs.Prelude.{nat_lt}
 use Rattle.serde_json.specs.Data.{Num, unsigned, negative, float, Data, null, boolean, number, string, array, object, Items, no_items, item, Members, no_members, member, depth, items_depth, members_depth}
 use Rattle.serde_json.specs.Written.{has_float}
-use Rattle.ps_values.specs.Conversions.{plain_number, plain_of, plain_items, plain_members}
+use Rattle.ps_data.specs.Conversions.{plain_number, plain_of, plain_items, plain_members}
 use Rattle.ps_values.proofs.Faults.{plain_floatless}
 
 whole_or_null : (b : Bool) (n : ℕ) → nat_lt n (2 ^ 63) ≡ b → plain_of (cond b (number (unsigned n)) null) ≡ cond b (number (unsigned n)) null

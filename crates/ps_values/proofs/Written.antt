@@ -8,9 +8,9 @@ use Rattle.json.specs.Token.{Token, begin_object}
 use Rattle.json.specs.Print.{print}
 use Rattle.serde_json.specs.Data.{string, object, member, put}
 use Rattle.serde_json.proofs.Texts.{print-outline}
-use Rattle.ps_values.specs.declared.columns.Column.{Column}
-use Rattle.ps_values.specs.declared.values.Value.{Value}
-use Rattle.ps_values.specs.Documents.{data_of, members_of, document_of, quoted_of}
+use Rattle.ps_data.specs.declared.columns.Column.{Column}
+use Rattle.ps_data.specs.declared.values.Value.{Value}
+use Rattle.ps_data.specs.Documents.{data_of, members_of, document_of, quoted_of}
 use Rattle.ps_values.specs.Writing.{members_tokens, listed, paired, with_id, RiseAbove}
 
 -- a column more

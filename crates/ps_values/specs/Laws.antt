@@ -4,12 +4,12 @@ use Rattle.std.specs.Ordering.{ordering_reverse}
 use Rattle.std.specs.declared.cmp.Ordering.TheVariants.{Less, Equal}
 use Rattle.serde_json.specs.Data.{Data}
 use Rattle.serde_json.specs.Written.{has_float}
-use Rattle.ps_values.specs.declared.values.Value.{Value}
-use Rattle.ps_values.specs.Conversions.{plain_of}
-use Rattle.ps_values.specs.declared.values.Value.TheVariants.{Null}
-use Rattle.ps_values.specs.declared.values.Truth.TheVariants.{True}
-use Rattle.ps_values.specs.Numbers.{greatest, decimal_of}
-use Rattle.ps_values.specs.Values.{compare_values, equal_sql}
+use Rattle.ps_data.specs.declared.values.Value.{Value}
+use Rattle.ps_data.specs.Conversions.{plain_of}
+use Rattle.ps_data.specs.declared.values.Value.TheVariants.{Null}
+use Rattle.ps_data.specs.declared.values.Truth.TheVariants.{True}
+use Rattle.ps_data.specs.Numbers.{greatest, decimal_of}
+use Rattle.ps_data.specs.Values.{compare_values, equal_sql}
 
 -- two values the other way round are in the reverse order
 abbrev pub IsAntisymmetric : Type 0

@@ -2,11 +2,12 @@ ghost use Rattle.std.specs.Prelude.{◌≡◌, [], ◌∷◌, false, IfOk, IfSom
 ghost use Rattle.serde_json.specs.View.{view, number_view, items_view, members_view};
 ghost use Rattle.serde_json.specs.Written.{has_float};
 ghost use Rattle.serde_json.specs.Data.{depth};
-ghost use Rattle.ps_values.specs.Documents.{json_of};
-ghost use Rattle.ps_values.specs.Conversions.{first_fault as first_fault_of, numbers_of, numbers_of_items, numbers_of_members, IsValueOf, plain_of, plain_number as plain_number_of, plain_items as plain_items_of, plain_members as plain_members_of};
+ghost use Rattle.ps_data.specs.Documents.{json_of};
+ghost use Rattle.ps_data.specs.Conversions.{plain_of, plain_number as plain_number_of, plain_items as plain_items_of, plain_members as plain_members_of};
+ghost use Rattle.ps_values.specs.ValueFaults.{first_fault as first_fault_of, numbers_of, numbers_of_items, numbers_of_members, IsValueOf};
 
 use crate::documents::{put_member, read_json, text_of_json};
-use crate::{Memory, Text, Value};
+use ps_data::{Memory, Text, Value};
 use serde_json::{Map, Number, Value as Json};
 use std::alloc::{AllocError, AllocFailed, Global};
 

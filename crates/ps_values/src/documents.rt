@@ -2,11 +2,11 @@ ghost use Rattle.std.specs.Prelude.{◌≡◌, IfOk, OnOk, option_map, false, st
 ghost use Rattle.serde_json.specs.Data.{put};
 ghost use Rattle.serde_json.specs.View.{view, members_view};
 ghost use Rattle.serde_json.specs.Written.{has_float, compact_text};
-ghost use Rattle.ps_values.specs.Documents.{json_of, data_of, members_of, document_of, quoted_of};
+ghost use Rattle.ps_data.specs.Documents.{json_of, data_of, members_of, document_of, quoted_of};
 
 use crate::writing::{room, text_written, write_members};
-use crate::{Column, Memory, Text, Value};
 use json::Writer;
+use ps_data::{Column, Memory, Text, Value};
 use serde_json::Map;
 use std::alloc::Global;
 

@@ -1,12 +1,9 @@
 ghost use Rattle.std.specs.Prelude.{◌≡◌, IfOk, string_bytes, Some, None};
 ghost use Rattle.std.specs.Fmt.{signed_decimal};
-ghost use Rattle.ps_values.specs.Numbers.{begins_plainly as begins_as_decimal, decimal_of};
+ghost use Rattle.ps_data.specs.Numbers.{begins_plainly as begins_as_decimal, decimal_of};
 
-use crate::{Memory, Text};
+use ps_data::{GREATEST, Memory, Text};
 use std::alloc::Global;
-
-/// The greatest position, id and number: 2^63 - 1.
-pub const GREATEST: u64 = 9223372036854775807;
 
 /// The decimal text of a number, with `-` before one below 0.
 pub fn decimal(alloc: Global, n: i64) -> Result<Text, Memory>

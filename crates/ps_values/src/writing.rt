@@ -2,11 +2,11 @@ ghost use Rattle.std.specs.Prelude.{◌≡◌, ◌++◌, false, IfOk, OnOk, IsUt
 ghost use Rattle.std.specs.Bool.{OnTrue};
 ghost use Rattle.json.specs.Print.{print};
 ghost use Rattle.serde_json.specs.Data.{Members, member, no_members, string};
-ghost use Rattle.ps_values.specs.Documents.{data_of, members_of};
+ghost use Rattle.ps_data.specs.Documents.{data_of, members_of};
 ghost use Rattle.ps_values.specs.Writing.{value_tokens, member_tokens, members_tokens, listed, paired, with_id, Rise, RiseAbove};
 
-use crate::{Column, Memory, Text, Value};
 use json::Writer;
+use ps_data::{Column, Memory, Text, Value};
 use std::alloc::Global;
 use std::cmp::Ordering;
 use std::collections::BTreeMap;

@@ -5,10 +5,10 @@ ghost use Rattle.ps_lock.specs.Words.{IsSeatOf, seen_by, own_entries_of};
 ghost use Rattle.ps_store.specs.Limits.{AreWithin};
 ghost use Rattle.ps_workers.specs.Sharing.{fixed_of};
 
+use ps_data::Memory;
 use ps_definitions::Rules;
 use ps_lock::{Seat, StoreLock, open_lock};
 use ps_store::{Limits, Store};
-use ps_values::Memory;
 use std::alloc::Global;
 
 /// A lock round a new store for rules, under limits that are at most the usual ones, and its first seat. The lock's history is empty.

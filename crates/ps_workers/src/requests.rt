@@ -8,10 +8,10 @@ ghost use Rattle.ps_store.specs.declared.events.Event.TheVariants.{WriteCheckpoi
 ghost use Rattle.ps_workers.specs.Sharing.{fixed_of};
 ghost use Rattle.ps_workers.specs.Gains.{UploadsIn, NumbersIn};
 
+use ps_data::{Items, Memory, Position, Text, copy_all};
 use ps_lock::{Seat, StoreLock};
 use ps_rows::{Change, Transaction};
 use ps_store::{Event, FeedFault, Store};
-use ps_values::{Items, Memory, Position, Text, copy_all};
 use ps_write_cp::NumberFault;
 use std::alloc::Global;
 use std::sync::Wait;

@@ -1,7 +1,7 @@
 -- The number that a position covers.
 use Rattle.std.proofs.Common.{◌≡◌, ℕ, zero, suc, ◌+◌, ◌-◌, ◌<◌, ◌≤◌, max, leb, leb-true, leb-false, le-leb, Bool, true, false, ◌⊎◌, inl, inr, List, [], ◌∷◌, length, get_or, fold, Some, None, refl, sym, ap, ◌∙◌, subst, arith}
 use Rattle.std.specs.Prelude.{if◌then◌else◌, slice_get}
-use Rattle.ps_values.specs.declared.ids.Position.{Position}
+use Rattle.ps_data.specs.declared.ids.Position.{Position}
 use Rattle.ps_write_cp.specs.Numbers.{reached_from, greatest, covered}
 use Rattle.ps_write_cp.specs.Laws.{HasHead, IsGreatestReached, CoveredIsGreatest, CoversAllBefore}
 

@@ -4,7 +4,7 @@ use Rattle.std.specs.Prelude.{if◌then◌else◌, bytes_eq, OnErr}
 use Rattle.std.proofs.lemmas.List.{length-append}
 use Rattle.std.proofs.lemmas.List.Sorted.{IsNonDecreasingBy-push}
 use Rattle.std.proofs.lemmas.List.Elements.{All-weaker, All-push}
-use Rattle.ps_values.specs.declared.ids.Position.{Position}
+use Rattle.ps_data.specs.declared.ids.Position.{Position}
 use Rattle.ps_write_cp.specs.Numbers.{Made, is_of, heads_of}
 use Rattle.ps_write_cp.specs.Kept.{Clients, heads_under, Rises, AreUpTo, IsSound}
 use Rattle.ps_write_cp.proofs.Heads.{same_texts}

@@ -1,6 +1,6 @@
 -- The laws of write checkpoints.
 use Rattle.std.specs.Prelude.{◌≡◌, ℕ, ◌-◌, ◌≤◌, ◌<◌, List, Option, Some, None, slice_get}
-use Rattle.ps_values.specs.declared.ids.Position.{Position}
+use Rattle.ps_data.specs.declared.ids.Position.{Position}
 use Rattle.ps_write_cp.specs.Numbers.{covered}
 use Rattle.ps_write_cp.specs.Kept.{Rises}
 

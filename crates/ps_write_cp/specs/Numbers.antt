@@ -1,6 +1,6 @@
 -- Write checkpoints, their numbers, and the number that a position covers.
 use Rattle.std.specs.Prelude.{ℕ, suc, nat_le, max, Bool, ◌&&◌, if◌then◌else◌, List, [], ◌∷◌, map, filter, fold, Option, Some, None, bytes_eq}
-use Rattle.ps_values.specs.declared.ids.Position.{Position}
+use Rattle.ps_data.specs.declared.ids.Position.{Position}
 
 -- a write checkpoint: whose it is, and the head of the source when it was made
 pub record Made : Type 0 where

@@ -3,7 +3,7 @@
 ghost use Rattle.std.specs.Prelude.{◌≡◌, ℕ, List, [], ◌∷◌, ◌++◌, bytes_eq, if◌then◌else◌, OnOk, OnErr};
 ghost use Rattle.ps_write_cp.specs.Kept.{heads_among};
 
-use ps_values::{Items, Memory, Position, Text};
+use ps_data::{Items, Memory, Position, Text};
 use std::alloc::Global;
 use std::collections::BTreeMap;
 use std::marker::Model;
@@ -16,7 +16,7 @@ pub(crate) struct ClientHeads {
 
 impl Model for ClientHeads {
     ghost use Rattle.std.specs.Prelude.{ℕ, List};
-    ghost use Rattle.ps_values.specs.declared.ids.Position.{Position};
+    ghost use Rattle.ps_data.specs.declared.ids.Position.{Position};
 
     ghost Value = { List (List ℕ × List Position) };
 

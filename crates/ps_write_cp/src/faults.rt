@@ -1,4 +1,4 @@
-use ps_values::Memory;
+use ps_data::Memory;
 use std::alloc::{AllocError, AllocFailed};
 
 /// Why no number was given.

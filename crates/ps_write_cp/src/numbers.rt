@@ -6,7 +6,7 @@ ghost use Rattle.ps_write_cp.specs.Kept.{heads_under, heads_at, Rises, StandsFor
 
 use crate::clients::ClientHeads;
 use crate::faults::NumberFault;
-use ps_values::{Memory, Position, Text};
+use ps_data::{Memory, Position, Text};
 use std::alloc::Global;
 use std::collections::BTreeMap;
 use std::marker::Model;

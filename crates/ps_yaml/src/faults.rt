@@ -2,7 +2,7 @@ ghost use Rattle.std.specs.Prelude.{◌≡◌};
 ghost use Rattle.ps_yaml.specs.declared.faults.YamlFault.{YamlFault as Fault};
 ghost use Rattle.ps_yaml.specs.declared.faults.YamlFault.TheVariants as faults;
 
-use ps_values::Memory as WantOfMemory;
+use ps_data::Memory as WantOfMemory;
 use std::alloc::{AllocError, AllocFailed};
 use thiserror::Error;
 

@@ -4,7 +4,7 @@ ghost use Rattle.ps_yaml.specs.declared.faults.YamlFault.TheVariants as faults;
 ghost use Rattle.ps_yaml.specs.Lines as words;
 
 use crate::YamlFault;
-use ps_values::Memory;
+use ps_data::Memory;
 use std::alloc::Global;
 use std::marker::Model;
 

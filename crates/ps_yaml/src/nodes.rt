@@ -1,4 +1,4 @@
-use ps_values::{Items, Text};
+use ps_data::{Items, Text};
 
 /// A node of a document, with the place of its first byte: lines and columns count from 1, columns in bytes.
 #[cycle(node)]

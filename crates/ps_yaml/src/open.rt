@@ -2,7 +2,7 @@ ghost use Rattle.std.specs.Prelude.{◌≡◌, [], ◌∷◌, ◌++◌, IfOk};
 ghost use Rattle.ps_yaml.specs.Trees.{is_named};
 
 use crate::Pair;
-use ps_values::{Items, Memory, Text};
+use ps_data::{Items, Memory, Text};
 use std::alloc::Global;
 use std::collections::BTreeSet;
 use std::marker::Model;

@@ -6,7 +6,7 @@ ghost use Rattle.ps_yaml.specs.Scalars as words;
 
 use crate::lines::{Kind, Line, begins, front, is_space_or_tab, past, spaces};
 use crate::{Node, YamlFault};
-use ps_values::{Memory, Text, TextFault};
+use ps_data::{Memory, Text, TextFault};
 use std::alloc::Global;
 
 /// The node of a text that begins at an offset of a line.

@@ -15,7 +15,7 @@ use crate::lines::{
 use crate::open::OpenMap;
 use crate::scalars::{is_line_end, scalar, scalar_at};
 use crate::{Node, Pair, YamlFault};
-use ps_values::{Items, Memory, Text, TextFault};
+use ps_data::{Items, Memory, Text, TextFault};
 use std::alloc::Global;
 
 /// The next line of a map or a list that is open at an indent, and the lines after it; none where it ends.

@@ -1,7 +1,7 @@
 -- The turns of a session at the end of a history.
 use Rattle.std.proofs.Common.{◌≡◌, ◌≢◌, ℕ, ◌⊎◌, Option, Some, None, IfSome, List, [], refl, sym, ap, ◌∙◌, subst, length, arith}
 use Rattle.std.specs.Prelude.{option_map}
-use Rattle.ps_values.specs.declared.ids.OpId.{OpId}
+use Rattle.ps_data.specs.declared.ids.OpId.{OpId}
 use Rattle.ps_bucket_log.specs.declared.batches.Batch.{Batch}
 use Rattle.ps_lines.specs.declared.lines.Line.{Line}
 use Rattle.ps_lines.specs.Writing.{IsWritable}

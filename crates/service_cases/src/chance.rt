@@ -4,11 +4,11 @@ use crate::commands::rows;
 use crate::granting::due_text;
 use crate::reading::{asker_of, transactions_of};
 use case_stores::rules_of;
-use case_words::{Stop, cut};
+use case_words::{Stop, cut, number_in};
+use ps_data::Memory;
 use ps_definitions::Rules;
 use ps_rows::Transaction;
 use ps_sql_eval::Asker;
-use ps_values::Memory;
 use std::alloc::Global;
 
 static PARAMETERS: [&str; 7] = [
@@ -214,14 +214,14 @@ fn is_same(alloc: Global, dice: &mut Dice) -> Result<(bool, bool), Stop> {
 pub fn write_tries(alloc: Global, words: &str, out: &mut String) -> Result<(), Stop> {
     let (seed, count) = cut(words);
     let mut dice = Dice {
-        state: seed.parse::<u64>()?,
+        state: number_in(seed)?,
     };
     let mut outcome = Outcome {
         same: 0,
         different: 0,
         without_rows: 0,
     };
-    'tries: for _ in 0..count.parse::<u64>()? {
+    'tries: for _ in 0..number(count)? {
         let (is_same, is_empty) = is_same(alloc, &mut dice)?;
         if is_same {
             outcome.same = outcome.same.saturating_add(1);

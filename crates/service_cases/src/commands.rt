@@ -1,10 +1,10 @@
 //! The commands, on files and sinks in memory.
 
 use crate::texts::Texts;
-use case_words::{Stop, cut};
+use case_words::{Stop, cut, number_in, size_in};
 use ps_commands::run_plain;
+use ps_data::{Items, Text};
 use ps_io::{Files, MemoryFile, MemoryFiles, MemorySink, SureFiles};
-use ps_values::{Items, Text};
 use std::alloc::Global;
 
 // What a command answered, printed and said.
@@ -179,7 +179,7 @@ pub fn write_unread(
     out: &mut String,
 ) -> Result<(), Stop> {
     let (call, words) = cut(words);
-    let answer = unread(alloc, texts, words, call.parse::<u64>()?)?;
+    let answer = unread(alloc, texts, words, number_in(call)?)?;
     write_answer(out, &answer)
 }
 
@@ -198,13 +198,7 @@ pub fn write_unwritten(
 ) -> Result<(), Stop> {
     let (room, words) = cut(words);
     let (call, words) = cut(words);
-    let answer = unwritten(
-        alloc,
-        texts,
-        words,
-        room.parse::<usize>()?,
-        call.parse::<u64>()?,
-    )?;
+    let answer = unwritten(alloc, texts, words, size_in(room)?, number_in(call)?)?;
     write_sizes(out, &answer)
 }
 

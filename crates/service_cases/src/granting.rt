@@ -3,12 +3,13 @@
 use crate::reading::{asker_of, transactions_of};
 use crate::texts::Texts;
 use case_stores::rules_of;
-use case_words::{Stop, cut};
+use case_words::{Stop, cut, number_in};
+use ps_data::{Items, Memory, Position};
 use ps_definitions::Rules;
 use ps_grant::{Granted, SourceRows, grants_of, rows_of, source_at};
 use ps_rows::{Shown, Transaction};
 use ps_sql_eval::Asker;
-use ps_values::{Items, Memory, Position, quoted};
+use ps_values::quoted;
 use std::alloc::Global;
 
 // The source that a change file has at a position.
@@ -46,7 +47,7 @@ fn granted(alloc: Global, texts: &Texts, words: &str) -> Result<Items<Granted>, 
     let (changes, words) = cut(words);
     let (user, words) = cut(words);
     let (parameters, position) = cut(words);
-    let source = source_of(alloc, texts.text(changes)?, position.parse::<u64>()?)?;
+    let source = source_of(alloc, texts.text(changes)?, number_in(position)?)?;
     granted_to(alloc, texts.text(rules)?, &source, user, parameters)
 }
 

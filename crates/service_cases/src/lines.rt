@@ -10,12 +10,12 @@ use crate::storing::store_over;
 use crate::texts::Texts;
 use crate::turns::{begin, turn};
 use case_stores::rules_of;
-use case_words::{Stop, cut};
+use case_words::{Stop, cut, size_in};
+use ps_data::Memory;
 use ps_lines::{Line, read_line, write_line};
 use ps_session::{Action, Session};
 use ps_sql_eval::Asker;
 use ps_store::Store;
-use ps_values::Memory;
 use std::alloc::Global;
 
 // Adds the line of a session's next turn, if there is one.
@@ -101,7 +101,7 @@ pub fn write_line_end(
     let (count, words) = cut(words);
     let lines = lines_of(alloc, texts, words)?;
     let data = lines.as_str().lines().nth(1).ok_or("no data")?.as_bytes();
-    let start = data.len().saturating_sub(count.parse::<usize>()?);
+    let start = data.len().saturating_sub(size_in(count)?);
     Ok(out.push_str(str::from_utf8(&data[start..])?)?)
 }
 

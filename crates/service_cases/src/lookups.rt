@@ -5,13 +5,13 @@ ghost use Rattle.std.specs.Prelude.{◌≡◌, ◌≤◌, OnOk};
 use crate::reading::asker_of;
 use crate::texts::Texts;
 use case_stores::rules_of;
-use case_words::{Stop, cut};
+use case_words::{Stop, cut, number_in};
 use ps_changes::read_line;
+use ps_data::{Items, Memory, Position, Text};
 use ps_definitions::Rules;
 use ps_params::ParameterIndex;
 use ps_rows::Transaction;
 use ps_sql_eval::Asker;
-use ps_values::{Items, Memory, Position, Text};
 use std::alloc::Global;
 
 // Notes the changes of a transaction.
@@ -86,8 +86,8 @@ fn names_for(
 fn positions(words: &str) -> Result<(Position, Position), Stop> {
     let (forgotten, position) = cut(words);
     Ok((
-        Position(forgotten.parse::<u64>()?),
-        Position(position.parse::<u64>()?),
+        Position(number_in(forgotten)?),
+        Position(number_in(position)?),
     ))
 }
 

@@ -2,12 +2,13 @@
 
 use crate::texts::Texts;
 use case_stores::rules_of;
-use case_words::{Stop, cut};
+use case_words::{Stop, cut, short_number_in};
 use ps_bucket_eval::{PlaceFault, Placed, entries_of_row, entries_stand_where_conditions_hold};
 use ps_changes::read_change;
+use ps_data::{Items, Memory, Text, Value};
 use ps_definitions::{Rules, bucket_name, names_are_distinct};
 use ps_rows::{Change, Row};
-use ps_values::{Items, Memory, Text, Value, read_json, value_of_json};
+use ps_values::{read_json, value_of_json};
 use std::alloc::{AllocError, Global};
 
 // Writes the line of an entry.
@@ -132,7 +133,7 @@ fn write_wide_row(alloc: Global, rules: &Rules, row: &Row, out: &mut String) -> 
 pub fn write_wide(alloc: Global, texts: &Texts, words: &str, out: &mut String) -> Result<(), Stop> {
     let (rules, count) = cut(words);
     let rules = texts.text(rules)?;
-    let row = wide_row(alloc, count.parse::<u32>()?)?;
+    let row = wide_row(alloc, short_number_in(count)?)?;
     let rules = rules_of(alloc, rules)?;
     write_wide_row(alloc, &rules, &row, out)
 }

@@ -2,9 +2,9 @@
 
 use case_words::Stop;
 use ps_changes::read_line;
+use ps_data::{Items, Memory, Text};
 use ps_rows::Transaction;
 use ps_sql_eval::Asker;
-use ps_values::{Items, Memory, Text};
 use std::alloc::Global;
 
 /// The transactions of a text's lines.

@@ -18,11 +18,11 @@ ghost use Rattle.service_cases.specs.Standing.{IsStore};
 mod asking;
 mod stores;
 
-use case_words::{Stop, cut, push_spelled};
+use case_words::{Stop, cut, number_in, push_spelled};
+use ps_data::Text;
 use ps_serve::Site;
 use ps_store::Store;
 use ps_token::{Keys, read_keys, sign};
-use ps_values::Text;
 use std::alloc::Global;
 
 // One definition of all rows of one table.
@@ -83,7 +83,7 @@ fn is_added(
         "add" => push_spelled(rest, request)?,
         "times" => {
             let (count, text) = cut(rest);
-            'times: for _ in 0..count.parse::<u64>()? {
+            'times: for _ in 0..number(count)? {
                 push_spelled(text, request)?;
             }
         }
@@ -109,7 +109,7 @@ fn is_changed(alloc: Global, store: &mut Store, word: &str, rest: &str) -> Resul
 {
     match word {
         "feed" => stores::feed(alloc, store, rest)?,
-        "rows" => stores::feed_rows(alloc, store, rest.parse::<u64>()?)?,
+        "rows" => stores::feed_rows(alloc, store, number_in(rest)?)?,
         "write" => stores::write(alloc, store)?,
         "commit" => stores::commit(store)?,
         "close" => stores::close(store),

@@ -7,10 +7,10 @@ use crate::texts::Texts;
 use case_stores::rules_of;
 use case_words::{Stop, cut};
 use ps_bucket_log::Op;
+use ps_data::{Memory, OpId, Text};
 use ps_definitions::Rules;
 use ps_files::write_changes;
 use ps_store::{Store, latest_rows_are_due, readers_hold_what_stands};
-use ps_values::{Memory, OpId, Text};
 use std::alloc::Global;
 
 /// A store that a change file was written into.

@@ -1,6 +1,6 @@
 //! The texts that lines have made.
 
-use case_words::{Stop, cut};
+use case_words::{Stop, cut, number_in};
 use std::alloc::Global;
 
 /// A text with a name.
@@ -103,10 +103,10 @@ impl Texts {
             self.push(more)?;
         } else if let Some(more) = line.strip_prefix('*') {
             let (count, part) = cut(more);
-            self.push_times(count.parse::<u64>()?, part)?;
+            self.push_times(number_in(count)?, part)?;
         } else if let Some(more) = line.strip_prefix('+') {
             let (count, template) = cut(more);
-            self.push_lines(count.parse::<u64>()?, template)?;
+            self.push_lines(number_in(count)?, template)?;
         } else {
             return Ok(false);
         }

@@ -11,11 +11,11 @@ ghost use Rattle.service_cases.specs.Serving.{IsServing, IsOver};
 
 use case_words::Stop;
 use ps_core::calls_make_turns;
+use ps_data::{Items, OpId};
 use ps_lines::Line;
 use ps_session::{Action, Session, StreamRequest};
 use ps_sql_eval::Asker;
 use ps_store::{Store, courses_are_lawful, places_are_fronts};
-use ps_values::{Items, OpId};
 use std::alloc::Global;
 
 /// The session of an asker who holds nothing.

@@ -1,11 +1,11 @@
 -- A store may go to another thread, as may all that it holds. The proof goes up from its expressions, since one search from the store down to them is too long.
 use denote.Param.Send.{IsSend, sendable}
 use Rattle.std.proofs.Crossing.{crosses}
-use Rattle.ps_values.proofs.lists.Items.TheSendSync as items
-use Rattle.ps_values.proofs.texts.Text.TheSendSync as texts
-use Rattle.ps_values.proofs.ids.Position.TheSendSync as positions
-use Rattle.ps_values.proofs.ids.OpId.TheSendSync as ops
-use Rattle.ps_values.proofs.boxes.Boxed.TheSendSync as boxes
+use Rattle.ps_data.proofs.lists.Items.TheSendSync as items
+use Rattle.ps_data.proofs.texts.Text.TheSendSync as texts
+use Rattle.ps_data.proofs.ids.Position.TheSendSync as positions
+use Rattle.ps_data.proofs.ids.OpId.TheSendSync as ops
+use Rattle.ps_data.proofs.boxes.Boxed.TheSendSync as boxes
 use Rattle.ps_queries.proofs.expressions.Function.TheSendSync as functions
 use Rattle.ps_queries.proofs.expressions.Operator.TheSendSync as operators
 use Rattle.ps_queries.proofs.expressions.Expr.TheLaws.TheKnot.{send-Expr}

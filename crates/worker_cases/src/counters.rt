@@ -4,7 +4,7 @@ ghost use Rattle.std.specs.Prelude.{IfOk};
 ghost use Rattle.ps_lock.specs.Words.{IsSeatOf};
 
 use crate::cut;
-use case_words::Stop;
+use case_words::{Stop, number_in, short_number_in};
 use lock_tests::{Counter, add, add_by_four, added_by_two, refreshed};
 use ps_lock::{Seat, StoreLock, open_lock};
 use std::alloc::Global;
@@ -144,7 +144,7 @@ fn write_two<R: Threads + Wait + Sync>(
     out: &mut String,
 ) -> Result<(), Stop> {
     let (one, two) = cut(rest);
-    let amounts = (one.parse::<u64>()?, two.parse::<u64>()?);
+    let amounts = (number_in(one)?, number_in(two)?);
     match word {
         "fits" => write_fits(rt, alloc, most, amounts, out),
         "joins" => write_joins(rt, alloc, most, amounts, out),
@@ -161,10 +161,10 @@ pub fn write_case<R: Threads + Wait + Sync>(
 ) -> Result<(), Stop> {
     let (word, rest) = cut(rest);
     let (most, rest) = cut(rest);
-    let most = most.parse::<u64>()?;
+    let most = number_in(most)?;
     match word {
-        "sees" => write_sees(rt, alloc, most, rest.parse::<u64>()?, out),
-        "four" => write_four(rt, alloc, most, rest.parse::<u32>()?, out),
+        "sees" => write_sees(rt, alloc, most, number_in(rest)?, out),
+        "four" => write_four(rt, alloc, most, short_number_in(rest)?, out),
         _ => write_two(rt, alloc, word, most, rest, out),
     }
 }

@@ -1,10 +1,10 @@
 //! A diary under a lock, as `lock_tests` has it.
 
 use crate::cut;
-use case_words::Stop;
+use case_words::{Stop, number_in};
 use lock_tests::{Diary, note, remark};
+use ps_data::Text;
 use ps_lock::open_lock;
-use ps_values::Text;
 use std::alloc::Global;
 use std::sync::Wait;
 
@@ -33,6 +33,6 @@ pub fn write_diary<R: Wait>(
     out: &mut String,
 ) -> Result<(), Stop> {
     let (number, text) = cut(rest);
-    let number = number.parse::<u64>()?;
+    let number = number_in(number)?;
     write_kept(rt, alloc, number, Text::from_str(alloc, text)?, out)
 }

@@ -22,7 +22,7 @@ mod stores;
 mod threads;
 mod turns;
 
-use case_words::{Stop, cut};
+use case_words::{Stop, cut, short_number_in};
 use std::alloc::Global;
 use std::sync::Wait;
 use std::thread::Threads;
@@ -36,8 +36,8 @@ fn write_counts<R: Threads + Wait + Sync>(
     out: &mut String,
 ) -> Result<(), Stop> {
     let (count, limit) = cut(rest);
-    let count = count.parse::<u32>()?;
-    let limit = limit.parse::<u32>()?.clamp(1, 1000000);
+    let count = short_number_in(count)?;
+    let limit = short_number_in(limit)?.clamp(1, 1000000);
     let store = if word == "four" {
         threads::by_four(rt, alloc, count, limit)?
     } else {

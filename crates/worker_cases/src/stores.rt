@@ -4,11 +4,11 @@ ghost use Rattle.std.specs.Prelude.{IfOk};
 ghost use Rattle.ps_lock.specs.Words.{IsSeatOf};
 
 use case_words::Stop;
+use ps_data::Text;
 use ps_gen::make_rules;
 use ps_lock::{Seat, StoreLock};
 use ps_rules::read_rules;
 use ps_store::{Limits, Store};
-use ps_values::Text;
 use ps_workers::open_store;
 use std::alloc::Global;
 

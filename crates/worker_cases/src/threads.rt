@@ -10,11 +10,11 @@ ghost use Rattle.ps_store.specs.Stores.{StoreStandsFor};
 
 use crate::stores::made_store;
 use case_words::Stop;
+use ps_data::{GREATEST, Items, Text};
 use ps_gen::make_input;
 use ps_lock::{Seat, StoreLock};
 use ps_rows::{Change, Transaction};
 use ps_store::Store;
-use ps_values::{GREATEST, Items, Text};
 use ps_workers::{
     close_in_turn, commit_in_turn, feed_in_turn, number_in_turn, upload_in_turn, write_in_turn,
 };

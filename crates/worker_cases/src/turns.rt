@@ -4,7 +4,7 @@ ghost use Rattle.std.specs.Prelude.{◌≡◌, length};
 ghost use Rattle.ps_lock.specs.Words.{IsSeatOf};
 
 use crate::cut;
-use case_words::Stop;
+use case_words::{Stop, short_number_in};
 use ps_lock::{Kept, Seat, StoreLock, open_lock};
 use std::alloc::Global;
 use std::sync::Wait;
@@ -148,8 +148,8 @@ fn count_for<R: Threads + Wait + Clock + Sync>(
     seats: &str,
     amount: &str,
 ) -> Option<u64> {
-    let seats = seats.parse::<u32>().ok()?;
-    let amount = amount.parse::<u32>().ok()?;
+    let seats = short_number_in(seats).ok()?;
+    let amount = short_number_in(amount).ok()?;
     let plans = plans_for(kind, amount)?;
     let (lock, seat) = open_lock(alloc, Counter { count: 0 }).ok()?;
     let seat = seat;

@@ -6,15 +6,14 @@ ghost use Rattle.ps_client_log.specs.Kept.{Kept};
 ghost use Rattle.ps_client_log.specs.Soundness.{IsSound, same_row};
 ghost use Rattle.ps_client_log.specs.Edits.{CanTake, CanMakeAll};
 
-use crate::lines::number;
-use case_words::Stop;
+use case_words::{Stop, number_in};
 use ps_bucket_log::{Key, Op};
 use ps_checksum::Sum;
 use ps_client_log::{
     ClientLog, Edit, KeepFault, Keeper, MemoryKeeper, Shown, SureKeeper, Target,
     edits_leave_what_is_sound,
 };
-use ps_values::{Items, Memory, OpId, Text};
+use ps_data::{Items, Memory, OpId, Text};
 use std::alloc::Global;
 
 fn key(alloc: Global, id: &str) -> Result<Key, Memory> {
@@ -336,12 +335,12 @@ fn add_failed_load(out: &mut String, alloc: Global) -> Result<(), KeepFault> {
 
 /// What a client tells after the history in two parts, of which the second begins with an id.
 pub fn write_parts(alloc: Global, middle: &str, out: &mut String) -> Result<(), Stop> {
-    Ok(add_parts(out, alloc, number(middle)?)?)
+    Ok(add_parts(out, alloc, number_in(middle)?)?)
 }
 
 /// What a client tells where a call of its keeper fails, once after that call and then after all.
 pub fn write_failing(alloc: Global, call: &str, out: &mut String) -> Result<(), Stop> {
-    Ok(add_failing(out, alloc, number(call)?)?)
+    Ok(add_failing(out, alloc, number_in(call)?)?)
 }
 
 /// What a client tells in a case that has a name.

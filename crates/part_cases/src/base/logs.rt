@@ -4,8 +4,7 @@ ghost use Rattle.std.specs.Prelude.{◌≡◌, false, IfOk};
 ghost use Rattle.ps_bucket_log.specs.Ops.{id_of, is_clear, newest};
 ghost use Rattle.ps_bucket_log.specs.Logs.{IsLog};
 
-use crate::lines::number;
-use case_words::{Stop, cut};
+use case_words::{Stop, cut, number_in, size_in};
 use ps_bucket_log::{
     Batch, BucketLog, Key, Log, Op, batches_are_the_log, batches_keep_readers_honest,
     honest_readers_stay_honest, readers_are_whole_at_the_newest, readers_need_no_targets,
@@ -14,7 +13,7 @@ use ps_bucket_log::{
     totals_are_sums, what_is_written_later_adds_nothing,
 };
 use ps_checksum::Sum;
-use ps_values::{Items, OpId, Text};
+use ps_data::{Items, OpId, Text};
 use std::alloc::Global;
 
 fn key(alloc: Global, id: &str) -> Result<Key, Stop> {
@@ -128,7 +127,7 @@ fn write_ops(out: &mut String, ops: &[Op]) -> Result<(), Stop> {
 
 fn write_read<L: Log>(alloc: Global, log: &L, words: &str, out: &mut String) -> Result<(), Stop> {
     let (after, upto) = cut(words);
-    let batch = log.read(alloc, OpId(number(after)?), OpId(number(upto)?))?;
+    let batch = log.read(alloc, OpId(number_in(after)?), OpId(number_in(upto)?))?;
     write_batch(out, &batch)
 }
 
@@ -137,9 +136,9 @@ fn write_answer<L: Log>(alloc: Global, log: &L, words: &str, out: &mut String) -
     let (question, words) = cut(words);
     match question {
         "read" => write_read(alloc, log, words, out),
-        "count" => Ok(write!(out, "{}", log.count_upto(OpId(number(words)?)))?),
-        "newest" => Ok(write!(out, "{}", log.newest_upto(OpId(number(words)?)).0)?),
-        "sum" => Ok(write!(out, "{}", log.sum_upto(OpId(number(words)?)).0)?),
+        "count" => Ok(write!(out, "{}", log.count_upto(OpId(number_in(words)?)))?),
+        "newest" => Ok(write!(out, "{}", log.newest_upto(OpId(number_in(words)?)).0)?),
+        "sum" => Ok(write!(out, "{}", log.sum_upto(OpId(number_in(words)?)).0)?),
         "ops" => write_ops(out, log.ops(alloc)?.as_slice()),
         _ => Err("no question".into()),
     }
@@ -150,7 +149,7 @@ pub fn write_of_filled(alloc: Global, words: &str, out: &mut String) -> Result<(
     let (count, words) = cut(words);
     let (size, words) = cut(words);
     let mut log = BucketLog::new(alloc);
-    fill(&mut log, alloc, number(count)?, size.parse::<usize>()?)?;
+    fill(&mut log, alloc, number_in(count)?, size_in(size)?)?;
     write_answer(alloc, &log, words, out)
 }
 

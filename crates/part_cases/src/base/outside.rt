@@ -1,13 +1,12 @@
 //! Files and sinks, in memory and in the system.
 
 use crate::base::words::numbers;
-use crate::lines::number;
-use case_words::{Stop, cut};
+use case_words::{Stop, cut, number_in, size_in};
 use ps_checksum::first_four;
+use ps_data::{Items, Text};
 use ps_io::{
     DiskFiles, FileFault, Files, MemoryFile, MemoryFiles, MemorySink, Sink, StdSink, SureFiles,
 };
-use ps_values::{Items, Text};
 use std::alloc::Global;
 use std::io;
 
@@ -60,7 +59,7 @@ fn write_reads<F: Files>(
     'words: for word in words.split(' ') {
         match name.take() {
             None => name = Some(word),
-            Some(name) => write_read(alloc, files, name, number(word)?, out)?,
+            Some(name) => write_read(alloc, files, name, number_in(word)?, out)?,
         }
     }
     Ok(())
@@ -105,7 +104,7 @@ pub fn write_of_sink(alloc: Global, words: &str, out: &mut String) -> Result<(),
     let (room, words) = cut(words);
     let (failing, words) = cut(words);
     let failing = Items::from_vec(numbers(alloc, failing)?);
-    let mut sink = MemorySink::new(alloc, room.parse::<usize>()?, failing)?;
+    let mut sink = MemorySink::new(alloc, size_in(room)?, failing)?;
     write!(out, "{}", sink.write_faults())?;
     write_taken(out, sink.bytes())?;
     'pieces: for piece in words.split(' ') {

@@ -1,8 +1,8 @@
 //! Sums of operations.
 
-use case_words::{Stop, cut};
+use case_words::{Stop, cut, short_number_in};
 use ps_checksum::{Sum, add, first_four, put_sum, remove_sum, sums_are_a_commutative_group};
-use ps_values::Text;
+use ps_data::Text;
 use std::alloc::Global;
 
 fn write_sum(out: &mut String, sum: Sum) -> Result<(), Stop> {
@@ -12,7 +12,7 @@ fn write_sum(out: &mut String, sum: Sum) -> Result<(), Stop> {
 /// The sum of two sums.
 pub fn write_added(words: &str, out: &mut String) -> Result<(), Stop> {
     let (a, b) = cut(words);
-    write_sum(out, add(Sum(a.parse::<u32>()?), Sum(b.parse::<u32>()?)))
+    write_sum(out, add(Sum(short_number_in(a)?), Sum(short_number_in(b)?)))
 }
 
 /// The first four bytes of the text's SHA-256 as a sum.

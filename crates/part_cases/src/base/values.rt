@@ -1,11 +1,11 @@
 //! Values, numbers and JSON.
 
 use crate::base::words::bytes;
-use case_words::{Stop, cut};
+use case_words::{Stop, cut, signed_number_in};
+use ps_data::{Boxed, Column, Items, Text, TextFault, Truth, Value};
 use ps_values::{
-    Boxed, Column, Items, Text, TextFault, Truth, Value, ValueFault, compare,
-    compare_is_a_total_order, decimal, decimals_read_back, document, equal_sql,
-    equal_where_both_are_present, json_of_value, object_of_columns, plain, plain_json,
+    ValueFault, compare, compare_is_a_total_order, decimal, decimals_read_back, document,
+    equal_sql, equal_where_both_are_present, json_of_value, object_of_columns, plain, plain_json,
     plain_json_has_no_float, quoted, read_decimal, read_json, text_of_json, truth_of,
     value_of_json,
 };
@@ -62,7 +62,7 @@ pub fn write_decimal(alloc: Global, text: &str, out: &mut String) -> Result<(), 
 
 /// The decimal text of a number.
 pub fn write_number(alloc: Global, number: &str, out: &mut String) -> Result<(), Stop> {
-    let text = decimal(alloc, number.parse::<i64>()?)?;
+    let text = decimal(alloc, signed_number_in(number)?)?;
     Ok(out.push_str(text.as_str())?)
 }
 
@@ -170,7 +170,7 @@ pub fn write_kept(alloc: Global, texts: &str, out: &mut String) -> Result<(), St
 pub fn write_items(alloc: Global, words: &str, out: &mut String) -> Result<(), Stop> {
     let mut items = Items::new(alloc);
     'words: for word in words.split(' ') {
-        items.push(word.parse::<i64>()?)?;
+        items.push(signed_number_in(word)?)?;
     }
     Ok(write!(out, "{:?}", items.as_slice())?)
 }

@@ -1,7 +1,6 @@
 //! The words of a line.
 
-use crate::lines::number;
-use case_words::Stop;
+use case_words::{Stop, number_in};
 use std::alloc::Global;
 
 /// The numbers between commas; none for `-`.
@@ -11,7 +10,7 @@ pub fn numbers(alloc: Global, word: &str) -> Result<Vec<u64>, Stop> {
         return Ok(all);
     }
     'numbers: for one in word.split(',') {
-        all.push(number(one)?)?;
+        all.push(number_in(one)?)?;
     }
     Ok(all)
 }

@@ -1,11 +1,11 @@
 //! Steps of local writes.
 
 use crate::clients::events::write_done;
-use case_words::Stop;
+use case_words::{Stop, number_in};
 use ps_changes::read_change;
 use ps_client::Client;
 use ps_client_log::MemoryKeeper;
-use ps_values::GREATEST;
+use ps_data::GREATEST;
 use std::alloc::Global;
 
 fn write_locally(
@@ -37,7 +37,7 @@ fn write_number(
     number: &str,
     out: &mut String,
 ) -> Result<(), Stop> {
-    let number = number.parse::<u64>()?;
+    let number = number_in(number)?;
     if number > GREATEST {
         return Err("the number is too great".into());
     }

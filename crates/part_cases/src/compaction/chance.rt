@@ -2,11 +2,10 @@
 
 use crate::compaction::logs::{log_of, put, remove};
 use crate::compaction::plain::{compacted, is_told};
-use crate::lines::number;
-use case_words::{Stop, cut};
+use case_words::{Stop, cut, number_in};
 use ps_bucket_log::{BucketLog, Log, Op};
 use ps_compact::compact;
-use ps_values::OpId;
+use ps_data::OpId;
 use std::alloc::Global;
 
 // Numbers by chance, from a seed.
@@ -87,7 +86,7 @@ fn differences(alloc: Global, log: &BucketLog) -> Result<(u64, u64), Stop> {
 pub fn write_lists(alloc: Global, words: &str, out: &mut String) -> Result<(), Stop> {
     let (count, seed) = cut(words);
     let mut chance = Chance {
-        state: number(seed)?,
+        state: number_in(seed)?,
     };
     let mut wrong: u64 = 0;
     let mut tried: u64 = 0;

@@ -1,11 +1,10 @@
 //! Events of a log, one after another: `put ID ROW SUM`, `remove ID ROW SUM` and `compact LEVEL`.
 
 use crate::compaction::logs::{log_of, put, remove, write_ops};
-use crate::lines::number;
-use case_words::{Stop, cut};
+use case_words::{Stop, cut, number_in};
 use ps_bucket_log::{BucketLog, Log, Op};
 use ps_compact::{Report, compact};
-use ps_values::OpId;
+use ps_data::OpId;
 use std::alloc::Global;
 
 /// The numbers of a report.
@@ -24,10 +23,10 @@ fn appended(alloc: Global, log: &BucketLog, op: Op) -> Result<BucketLog, Stop> {
 fn written(alloc: Global, kind: &str, words: &str) -> Result<Op, Stop> {
     let (id, words) = cut(words);
     let (row, sum) = cut(words);
-    let sum = u32::try_from(number(sum)?)?;
+    let sum = u32::try_from(number_in(sum)?)?;
     match kind {
-        "put" => put(alloc, number(id)?, row, sum),
-        "remove" => remove(alloc, number(id)?, row, sum),
+        "put" => put(alloc, number_in(id)?, row, sum),
+        "remove" => remove(alloc, number_in(id)?, row, sum),
         _ => Err("no event".into()),
     }
 }
@@ -53,7 +52,7 @@ pub fn write_log(alloc: Global, events: &str, out: &mut String) -> Result<(), St
             if !out.is_empty() {
                 out.push_str(" | ")?;
             }
-            write_compacted(alloc, &mut log, number(words)?, out)?;
+            write_compacted(alloc, &mut log, number_in(words)?, out)?;
         } else {
             log = appended(alloc, &log, written(alloc, word, words)?)?;
         }

@@ -7,7 +7,7 @@ ghost use Rattle.ps_bucket_log.specs.Logs.{IsRising, rest};
 use case_words::Stop;
 use ps_bucket_log::{BucketLog, Key, Log, Op};
 use ps_checksum::Sum;
-use ps_values::{Items, OpId, Text};
+use ps_data::{Items, OpId, Text};
 use std::alloc::Global;
 
 /// The key of a row.

@@ -2,11 +2,10 @@
 
 use crate::compaction::events::write_report;
 use crate::compaction::logs::{log_of, put};
-use crate::lines::number;
-use case_words::{Stop, cut};
+use case_words::{Stop, cut, number_in};
 use ps_bucket_log::Op;
 use ps_compact::compact;
-use ps_values::{Items, OpId};
+use ps_data::{Items, OpId};
 use std::alloc::Global;
 
 // PUTs of so many rows in turn.
@@ -22,8 +21,8 @@ fn puts(alloc: Global, count: u64, rows: u64) -> Result<Items<Op>, Stop> {
 /// What the compaction of so many PUTs of so many rows reports.
 pub fn write_many(alloc: Global, words: &str, out: &mut String) -> Result<(), Stop> {
     let (count, rows) = cut(words);
-    let count = number(count)?;
-    let mut log = log_of(alloc, puts(alloc, count, number(rows)?)?)?;
+    let count = number_in(count)?;
+    let mut log = log_of(alloc, puts(alloc, count, number_in(rows)?)?)?;
     let report = compact(alloc, &mut log, OpId(count))?;
     write_report(out, &report)
 }

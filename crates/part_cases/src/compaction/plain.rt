@@ -4,7 +4,7 @@ use case_words::Stop;
 use ps_bucket_log::{Key, Op};
 use ps_checksum::{Sum, add};
 use ps_compact::Report;
-use ps_values::{Items, OpId};
+use ps_data::{Items, OpId};
 use std::alloc::Global;
 
 /// A compacted log, and how many operations were moved and cleared.

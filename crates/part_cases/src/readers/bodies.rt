@@ -1,6 +1,6 @@
 use crate::readers::written::shown_bytes;
+use ps_data::Memory;
 use ps_lines::{Known, StreamBody, read_body, write_body};
-use ps_values::Memory;
 use std::alloc::{AllocError, Global};
 
 /// What the body of a stream's request is read as.

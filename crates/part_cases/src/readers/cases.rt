@@ -8,7 +8,7 @@ use crate::readers::rules::{branches, condition, copied_rules, definition, laws,
 use crate::readers::written::{written, written_change};
 use crate::readers::yaml::yaml;
 use case_words::{push_escaped, unescaped};
-use ps_values::Memory;
+use ps_data::Memory;
 use std::alloc::Global;
 
 /// Adds the answer to a line.

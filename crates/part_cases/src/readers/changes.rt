@@ -1,7 +1,7 @@
 use crate::readers::queries::text_of;
 use ps_changes::{ChangeFault, read_change, read_changes, read_line};
+use ps_data::{Column, Memory, Text, Value};
 use ps_rows::{Change, Row, Shown, Transaction};
-use ps_values::{Column, Memory, Text, Value};
 use std::alloc::{AllocError, Global};
 
 /// What a change line is read as.

@@ -2,11 +2,11 @@ use crate::readers::changes::show_change;
 use crate::readers::expressions::show_fault;
 use crate::readers::queries::text_of;
 use ps_changes::read_change;
+use ps_data::{Items, Memory, Text, Value};
 use ps_queries::{Expr, Subject};
 use ps_rows::{Change, Row};
 use ps_sql::{SqlFault, read_parameter_query};
 use ps_sql_eval::{Asker, eval_request, eval_row};
-use ps_values::{Items, Memory, Text, Value};
 use std::alloc::Global;
 
 /// Who asks, and the row that is asked of.

@@ -1,6 +1,6 @@
 use ps_bucket_log::{Key, Op};
+use ps_data::{Memory, Text};
 use ps_lines::{Entry, Line, read_line};
-use ps_values::{Memory, Text};
 use std::alloc::{AllocError, Global};
 
 /// What a line of a stream is read as.

@@ -1,12 +1,13 @@
 //! Documents that are too long or too deep for a line.
 
 use crate::readers::yaml::pairs_of;
-use ps_values::Memory;
+use case_words::short_number_in;
+use ps_data::Memory;
 use std::alloc::Global;
 
 fn number_of(bytes: &[u8]) -> u32 {
     match str::from_utf8(bytes) {
-        Ok(digits) => digits.parse::<u32>().unwrap_or(0),
+        Ok(digits) => short_number_in(digits).unwrap_or(0),
         Err(_) => 0,
     }
 }

@@ -1,12 +1,12 @@
 use crate::readers::expressions::show;
 use crate::readers::rules_faults::show_fault;
+use ps_data::Memory;
 use ps_definitions::{
     Branch, Definition, Match, Planned, Rules, Warning, WarningKind,
     conditions_hold_where_a_branch_is_met, null_is_not_allowed, spread_as_written,
 };
 use ps_queries::same_for_every_bucket;
 use ps_rules::{RulesFault, read_rules};
-use ps_values::Memory;
 use std::alloc::{AllocError, Global};
 
 /// What rules are read as: a line for each definition and each warning.

@@ -3,9 +3,9 @@
 use ps_bucket_log::{Key, Op};
 use ps_changes::{read_change, write_change};
 use ps_checksum::Sum;
+use ps_data::{Items, Memory, OpId, Position, Text};
 use ps_lines::{Entry, Line, write_line};
 use ps_rows::{Change, Transaction};
-use ps_values::{Items, Memory, OpId, Position, Text};
 use std::alloc::Global;
 
 /// Bytes as text.

@@ -1,4 +1,4 @@
-use ps_values::Memory;
+use ps_data::Memory;
 use ps_yaml::{Node, YamlFault, read_yaml};
 use std::alloc::{AllocError, Global};
 

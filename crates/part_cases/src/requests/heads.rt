@@ -1,8 +1,7 @@
 //! Heads of answers.
 
-use crate::lines::number;
 use crate::requests::words::push_shown;
-use case_words::{Stop, cut};
+use case_words::{Stop, cut, number_in};
 use ps_http::write_head;
 use std::alloc::Global;
 
@@ -28,8 +27,8 @@ pub fn write_answer(alloc: Global, rest: &str, out: &mut String) -> Result<(), S
     let length = if length == "-" {
         None
     } else {
-        Some(number(length)?)
+        Some(number_in(length)?)
     };
-    let head = head_of(alloc, number(status)?, length)?;
+    let head = head_of(alloc, number_in(status)?, length)?;
     push_shown(head.as_slice(), out)
 }

@@ -1,8 +1,7 @@
 //! Sources and clocks of the system.
 
-use crate::lines::number;
 use crate::requests::reading::{name_of, write_head};
-use case_words::{Stop, cut};
+use case_words::{Stop, cut, number_in};
 use ps_http::read_head;
 use ps_io::{Clock, MemoryClock, Source, StdSource, WallClock};
 use std::alloc::Global;
@@ -33,7 +32,7 @@ pub fn write_clock<R: std::time::Clock + Drop>(rt: R, out: &mut String) -> Resul
 /// What a clock in memory gives, asked three times.
 pub fn write_moments(words: &str, out: &mut String) -> Result<(), Stop> {
     let (start, step) = cut(words);
-    let clock = MemoryClock::new(number(start)?, number(step)?);
+    let clock = MemoryClock::new(number_in(start)?, number_in(step)?);
     let first = clock.now();
     let second = clock.now();
     let third = clock.now();

@@ -2,9 +2,9 @@
 
 use crate::requests::words;
 use case_words::Stop;
+use ps_data::{Items, Text};
 use ps_http::{BodyFault, Head, HeadFault, read_body, read_head};
 use ps_io::{MemorySource, Source};
-use ps_values::{Items, Text};
 use std::alloc::Global;
 
 // A source of these bytes, of which the calls of these numbers fail.

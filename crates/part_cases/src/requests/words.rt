@@ -1,14 +1,13 @@
 //! The words of a line, and the bytes that a text spells.
 
-use crate::lines::number;
-use case_words::Stop;
+use case_words::{Stop, number_in};
 use std::alloc::Global;
 
 /// The number that a word gives, or none for `-`.
 pub fn numbers(alloc: Global, word: &str) -> Result<Vec<u64>, Stop> {
     let mut all = Vec::new(alloc);
     if word != "-" {
-        all.push(number(word)?)?;
+        all.push(number_in(word)?)?;
     }
     Ok(all)
 }

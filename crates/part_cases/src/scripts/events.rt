@@ -2,10 +2,10 @@
 
 use crate::changes::write_change;
 use case_words::push_escaped;
+use ps_data::{Memory, Text};
 use ps_rows::Change;
 use ps_script::ScriptEvent;
 use ps_sql_eval::Asker;
-use ps_values::{Memory, Text};
 use std::alloc::AllocError;
 
 /// An event: its word, and its arguments.

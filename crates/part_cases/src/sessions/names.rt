@@ -10,7 +10,7 @@ ghost use Rattle.ps_session.specs.Takes.{NamesRise, name_of};
 ghost use Rattle.part_cases.specs.Rising.{RiseOn};
 
 use ps_bucket_log::TakenBucket;
-use ps_values::Text;
+use ps_data::Text;
 
 // Whether a name is below those of all.
 fn is_below_all(name: &Text, buckets: &[TakenBucket]) -> bool

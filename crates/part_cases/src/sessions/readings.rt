@@ -1,11 +1,10 @@
 //! The words of a case.
 
-use crate::lines::number;
-use case_words::Stop;
+use case_words::{Stop, number_in, short_number_in};
 use ps_bucket_log::{Op, Taken, TakenBucket};
 use ps_checksum::Sum;
+use ps_data::{Items, OpId, Position, Text};
 use ps_lines::Known;
-use ps_values::{Items, OpId, Position, Text};
 use std::alloc::Global;
 
 // What stands before the first mark, and what stands behind it.
@@ -21,14 +20,14 @@ pub fn id_or_none(word: &str) -> Result<Option<OpId>, Stop> {
     if word == "none" {
         return Ok(None);
     }
-    Ok(Some(OpId(number(word)?)))
+    Ok(Some(OpId(number_in(word)?)))
 }
 
 fn number_or_none(word: &str) -> Result<Option<u64>, Stop> {
     if word == "none" {
         return Ok(None);
     }
-    Ok(Some(number(word)?))
+    Ok(Some(number_in(word)?))
 }
 
 pub fn known_of(alloc: Global, rest: &str) -> Result<Vec<Known>, Stop> {
@@ -37,7 +36,7 @@ pub fn known_of(alloc: Global, rest: &str) -> Result<Vec<Known>, Stop> {
         let (name, after) = cut(word, ':');
         known.push(Known {
             bucket: Text::from_str(alloc, name)?,
-            after: OpId(number(after)?),
+            after: OpId(number_in(after)?),
         })?;
     }
     Ok(known)
@@ -49,9 +48,9 @@ fn bucket_of(alloc: Global, word: &str) -> Result<TakenBucket, Stop> {
     let (count, newest) = cut(rest, ':');
     Ok(TakenBucket {
         name: Text::from_str(alloc, name)?,
-        sum: Sum(sum.parse::<u32>()?),
-        count: number(count)?,
-        newest: OpId(number(newest)?),
+        sum: Sum(short_number_in(sum)?),
+        count: number_in(count)?,
+        newest: OpId(number_in(newest)?),
     })
 }
 
@@ -70,10 +69,10 @@ pub fn taken_of(alloc: Global, rest: &str) -> Result<Taken, Stop> {
     let (op, rest) = cut(rest, ' ');
     let (covered, rest) = cut(rest, ' ');
     Ok(Taken {
-        position: Position(number(position)?),
-        head: Position(number(head)?),
+        position: Position(number_in(position)?),
+        head: Position(number_in(head)?),
         closed: feed == "closed",
-        last_op: OpId(number(op)?),
+        last_op: OpId(number_in(op)?),
         number: number_or_none(covered)?,
         buckets: Items::from_vec(buckets_of(alloc, rest)?),
     })
@@ -84,10 +83,10 @@ pub fn ops_of(alloc: Global, rest: &str) -> Result<Vec<Op>, Stop> {
     let mut ops = Vec::new(alloc);
     'words: for word in rest.split_whitespace() {
         let (id, sum) = cut(word, ':');
-        let id = OpId(number(id)?);
+        let id = OpId(number_in(id)?);
         ops.push(Op::Move {
             id,
-            sum: Sum(sum.parse::<u32>()?),
+            sum: Sum(short_number_in(sum)?),
             target: id,
         })?;
     }

@@ -2,8 +2,8 @@
 
 use case_words::Stop;
 use ps_bucket_log::Op;
+use ps_data::Text;
 use ps_lines::{Entry, Line};
-use ps_values::Text;
 
 pub fn write_action(text: &str, out: &mut String) -> Result<(), Stop> {
     Ok(out.push_str(text)?)

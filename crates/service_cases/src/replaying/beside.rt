@@ -1,12 +1,12 @@
 //! What is known beside the world: what was fed and written, and what is due to a client.
 
 use crate::replaying::stops::{Stop, expect};
+use ps_data::{Items, Memory, Position};
 use ps_definitions::Rules;
 use ps_grant::{grants_of, rows_of, source_at};
 use ps_rows::{Change, Shown, Transaction};
 use ps_sql_eval::Asker;
 use ps_store::Totals;
-use ps_values::{Items, Memory, Position};
 use std::alloc::Global;
 use std::collections::VecDeque;
 

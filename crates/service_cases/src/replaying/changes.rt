@@ -6,8 +6,8 @@ ghost use Rattle.ps_core.specs.Scripts.{AreLow};
 use crate::replaying::chance::Chance;
 use crate::replaying::stops::Stop;
 use ps_changes::read_line;
+use ps_data::GREATEST;
 use ps_rows::Transaction;
-use ps_values::GREATEST;
 use std::alloc::Global;
 
 fn push_list(chance: &mut Chance, out: &mut String) -> Result<(), Stop> {

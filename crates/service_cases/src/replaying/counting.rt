@@ -3,6 +3,7 @@
 use crate::replaying::chance::Chance;
 use crate::replaying::scripts::{Played, play_script};
 use crate::replaying::stops::Stop;
+use case_words::number_in;
 use ps_definitions::Rules;
 use ps_rules::read_rules;
 use std::alloc::Global;
@@ -99,12 +100,12 @@ pub fn write_scripts(
         None => return Err(Stop::Broken),
     };
     let rules = read_rules(alloc, RULES)?;
-    let mut chance = Chance::of(seed.parse::<u64>()?);
+    let mut chance = Chance::of(number_in(seed)?);
     play_scripts(
         alloc,
         &rules,
         &mut chance,
-        count.parse::<u64>()?,
+        number_in(count)?,
         has_uploads,
         out,
     )

@@ -5,10 +5,10 @@ use crate::replaying::readers::{Begun, Reader};
 use crate::replaying::stages::Stage;
 use crate::replaying::stops::{Stop, expect};
 use ps_core::Effect;
+use ps_data::{Items, OpId, Position};
 use ps_lines::Line;
 use ps_rows::Shown;
 use ps_script::{ScriptEvent, ScriptFault, read_event};
-use ps_values::{Items, OpId, Position};
 use std::alloc::Global;
 
 fn event_of(alloc: Global, line: &str) -> Result<ScriptEvent, Stop> {

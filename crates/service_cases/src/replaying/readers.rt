@@ -1,9 +1,9 @@
 //! What is known of a client, beside the world.
 
 use crate::replaying::stops::{Stop, expect};
+use ps_data::{Memory, OpId, Position, Text};
 use ps_rows::Change;
 use ps_sql_eval::Asker;
-use ps_values::{Memory, OpId, Position, Text};
 use std::alloc::Global;
 use std::collections::VecDeque;
 

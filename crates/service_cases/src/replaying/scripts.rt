@@ -9,8 +9,8 @@ use crate::replaying::playing::{
 use crate::replaying::readers::Reader;
 use crate::replaying::stages::Stage;
 use crate::replaying::stops::Stop;
+use ps_data::{Memory, Text};
 use ps_definitions::Rules;
-use ps_values::{Memory, Text};
 use std::alloc::Global;
 
 static BUCKETS: [&str; 7] = [

@@ -3,10 +3,10 @@
 ghost use Rattle.ps_core.specs.Scripts.{AreLow};
 
 use ps_core::{Effect, World};
+use ps_data::Memory;
 use ps_definitions::Rules;
 use ps_rows::Transaction;
 use ps_script::{ScriptEvent, ScriptFault};
-use ps_values::Memory;
 use std::alloc::Global;
 use std::marker::Model;
 

@@ -2,11 +2,11 @@
 
 ghost use Rattle.service_cases.specs.Standing.{IsStore};
 
-use case_words::{Stop, cut, push_shown};
+use case_words::{Stop, cut, number_in, push_shown};
+use ps_data::Items;
 use ps_io::{MemoryClock, MemorySink, MemorySource};
 use ps_serve::{End, Site, answer_alone};
 use ps_store::Store;
-use ps_values::Items;
 use std::alloc::Global;
 
 // The room of a sink.
@@ -16,7 +16,7 @@ const ROOM: usize = 1048576;
 fn failing(alloc: Global, word: &str) -> Result<Items<u64>, Stop> {
     let mut calls = Vec::new(alloc);
     if word != "-" {
-        calls.push(word.parse::<u64>()?)?;
+        calls.push(number_in(word)?)?;
     }
     Ok(Items::from_vec(calls))
 }
@@ -71,7 +71,7 @@ pub fn ask(
 {
     let (moment, rest) = cut(rest);
     let (reads, writes) = cut(rest);
-    let clock = MemoryClock::new(moment.parse::<u64>()?, 0);
+    let clock = MemoryClock::new(number_in(moment)?, 0);
     let mut from = source(alloc, request, reads)?;
     let mut to = MemorySink::new(alloc, ROOM, failing(alloc, writes)?)?;
     let answered = connect(alloc, site, store, &mut from, &mut to, &clock);
@@ -110,7 +110,7 @@ pub fn ask_cuts(
     requires { IsStore store.old }
     ensures { IsStore store.new }
 {
-    let moment = rest.parse::<u64>()?;
+    let moment = number_in(rest)?;
     let mut cuts = 0u64;
     let mut others = 0u64;
     'cuts: for length in 0..request.len() {

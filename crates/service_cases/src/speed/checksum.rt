@@ -1,8 +1,9 @@
 //! Takes checksums of one content again and again, for `bench/checksum` to time: `put SIZE COUNT` by `put_sum`,
 //! `sha2 SIZE COUNT` by `sha2` alone. Prints their sum.
 
+use case_words::{number_in, short_number_in};
 use ps_checksum::{Sum, add, put_sum};
-use ps_values::Text;
+use ps_data::Text;
 use sha2::{Digest, Sha256};
 use std::alloc::Global;
 use std::io;
@@ -33,8 +34,8 @@ fn sum_of_digests(content: &Text, count: u64) -> Sum {
 
 // The sum that the words ask for, if they are such words and there is memory.
 fn sum_for(alloc: Global, work: &str, size: &str, count: &str) -> Option<Sum> {
-    let size = size.parse::<u32>().ok()?;
-    let count = count.parse::<u64>().ok()?;
+    let size = short_number_in(size).ok()?;
+    let count = number_in(count).ok()?;
     let bytes = vec![in alloc; b'a'; size as usize].ok()?;
     let content = Text::from_bytes(alloc, bytes.as_slice()).ok()?;
     match work {

@@ -3,9 +3,10 @@
 //! the lines are made and nobody takes them. Prints the last id, and how many bytes all lines had.
 
 use crate::speed::shared::TITLE;
+use case_words::number_in;
 use ps_client::{Client, Event};
 use ps_client_log::SureKeeper;
-use ps_values::{Memory, Text};
+use ps_data::{Memory, Text};
 use std::alloc::Global;
 use std::io;
 
@@ -101,8 +102,8 @@ fn open_and_take(alloc: Global, thousands: u64, count: u64) -> Option<u64> {
 
 // The last id and the bytes of the lines, if the words are such.
 fn figures_of(alloc: Global, thousands: &str, lines: &str, takes: bool) -> Option<(u64, u64)> {
-    let thousands = thousands.parse::<u64>().ok()?;
-    let count = thousands.checked_add(lines.parse::<u64>().ok()?)?;
+    let thousands = number_in(thousands).ok()?;
+    let count = thousands.checked_add(number_in(lines).ok()?)?;
     let bytes = if takes {
         open_and_take(alloc, thousands, count)?
     } else {

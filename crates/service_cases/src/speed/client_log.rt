@@ -6,9 +6,10 @@ ghost use Rattle.std.specs.Prelude.{◌+◌, ◌≤◌, IfOk};
 ghost use Rattle.ps_client_log.specs.Edits.{CanTake};
 
 use crate::speed::shared::put;
+use case_words::number_in;
 use ps_bucket_log::{Op, rising_ids_rise_on};
 use ps_client_log::{ClientLog, SureKeeper};
-use ps_values::{Memory, Text};
+use ps_data::{Memory, Text};
 use std::alloc::Global;
 use std::io;
 
@@ -65,7 +66,7 @@ fn figures_after(
 
 // The figures of a log that holds nothing before.
 fn figures_of(alloc: Global, work: &str, count: &str) -> Option<(u64, u32, usize)> {
-    let count = count.parse::<u64>().ok()?;
+    let count = number_in(count).ok()?;
     let bucket = Text::from_str(alloc, "mine[\"ann\"]").ok()?;
     let mut log = ClientLog::open(alloc, SureKeeper::new(alloc)).ok()?;
     figures_after(&mut log, alloc, &bucket, work, count)

@@ -5,11 +5,12 @@
 //! lists and an empty one. Prints how many entries were found in all, and how often there were more than 1,000.
 
 use crate::speed::shared::{TO_DO, rules_of};
+use case_words::{number_in, short_number_in};
 use ps_bucket_eval::{PlaceFault, entries_of_row};
 use ps_changes::read_change;
+use ps_data::{Memory, Text};
 use ps_definitions::Rules;
 use ps_rows::{Change, Row};
-use ps_values::{Memory, Text};
 use std::alloc::Global;
 use std::io;
 
@@ -103,8 +104,8 @@ fn find(
 
 // What is found where the words ask for it, if they are such words and there is memory.
 fn found_for(alloc: Global, work: &str, elements: &str, count: &str) -> Option<Found> {
-    let elements = elements.parse::<u32>().ok()?;
-    let count = count.parse::<u64>().ok()?;
+    let elements = short_number_in(elements).ok()?;
+    let count = number_in(count).ok()?;
     let rules = rules_of(alloc, rules_text(work)?)?;
     let line = change_text(alloc, work, elements).ok()?;
     let Change { table, id, row } = read_change(alloc, line.as_bytes()).ok()?;

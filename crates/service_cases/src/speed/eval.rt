@@ -8,12 +8,14 @@ ghost use Rattle.ps_queries.specs.declared.subjects.Subject.TheVariants as subje
 ghost use Rattle.ps_queries.specs.Subjects.{speaks};
 
 use crate::speed::shared::nested;
+use case_words::{number_in, short_number_in};
 use ps_changes::read_change;
+use ps_data::{Items, Memory, Text, Truth, Value};
 use ps_queries::{Expr, ParameterQuery, Subject};
 use ps_rows::{Change, Row};
 use ps_sql::read_parameter_query;
 use ps_sql_eval::{Asker, eval_request};
-use ps_values::{Items, Memory, Text, Truth, Value, truth_of};
+use ps_values::truth_of;
 use std::alloc::Global;
 use std::thread::Threads;
 use std::{io, thread};
@@ -196,7 +198,7 @@ fn held_on_row(alloc: Global, count: u64, condition: &Expr) -> Option<u64>
 
 // The same for as many times as a word says, if it is such a word.
 fn held(alloc: Global, count: &str, condition: &[&str]) -> Option<u64> {
-    let count = count.parse::<u64>().ok()?;
+    let count = number_in(count).ok()?;
     let condition = condition_of(alloc, condition)?;
     if condition.speaks_of(Subject::Bucket) {
         return None;
@@ -220,9 +222,9 @@ fn task_of(words: &[&str]) -> Option<Task> {
     };
     Some(Task {
         shape: shape_of(shape)?,
-        count: count.parse::<u32>().ok()?,
+        count: short_number_in(count).ok()?,
         work: work_of(work)?,
-        stack: stack.parse::<u32>().ok()?,
+        stack: short_number_in(stack).ok()?,
     })
 }
 

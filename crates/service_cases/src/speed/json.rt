@@ -1,8 +1,8 @@
 //! Reads the lines of a file into JSON values by `serde_json` and drops them, and does nothing else: what `bench/rows`
 //! measures the program against. Takes the file's name, and prints how many lines are JSON.
 
+use ps_data::Text;
 use ps_io::{DiskFiles, Files};
-use ps_values::Text;
 use serde_json::Value;
 use std::alloc::Global;
 use std::io;

@@ -8,9 +8,10 @@ ghost use Rattle.ps_bucket_log.specs.Logs.{IsRising};
 ghost use Rattle.ps_lines.specs.Writing.{IsWritable};
 
 use crate::speed::shared::put;
+use case_words::number_in;
 use ps_bucket_log::Op;
+use ps_data::{Items, Memory, OpId, Text};
 use ps_lines::{Line, read_line, write_line};
-use ps_values::{Items, Memory, OpId, Text};
 use serde_json::Value as Json;
 use std::alloc::Global;
 use std::io;
@@ -78,7 +79,7 @@ fn read_json(alloc: Global, text: &[u8], count: u64) -> Option<u64> {
 
 // How many bytes the work that the words ask for took, if they are such words and there is memory.
 fn bytes_of(alloc: Global, work: &str, count: &str) -> Option<u64> {
-    let count = count.parse::<u64>().ok()?;
+    let count = number_in(count).ok()?;
     let line = data_line(alloc).ok()?;
     let text = write_line(alloc, &line).ok()?;
     match work {

@@ -5,12 +5,13 @@
 ghost use Rattle.std.specs.Prelude.{◌≡◌, ◌≤◌, IfSome};
 
 use crate::speed::shared::{TO_DO, asker, rules_of};
+use case_words::number_in;
 use ps_changes::read_change;
+use ps_data::{Memory, Position, Text};
 use ps_definitions::Rules;
 use ps_params::ParameterIndex;
 use ps_rows::Change;
 use ps_sql_eval::Asker;
-use ps_values::{Memory, Position, Text};
 use std::alloc::Global;
 use std::io;
 
@@ -95,8 +96,8 @@ fn look_up(
 
 // What is found where the words ask for it, if they are such words and there is memory.
 fn found_for(alloc: Global, work: &str, rows: &str, count: &str) -> Option<u64> {
-    let rows = rows.parse::<u64>().ok()?;
-    let count = count.parse::<u64>().ok()?;
+    let rows = number_in(rows).ok()?;
+    let count = number_in(count).ok()?;
     let rules = rules_of(alloc, rules_text(work)?)?;
     let index = noted(alloc, &rules, rows)?;
     look_up(alloc, &index, &rules, rows, count)

@@ -5,10 +5,10 @@ ghost use Rattle.ps_bucket_log.specs.Ops.{id_of};
 
 use ps_bucket_log::{Key, Op};
 use ps_checksum::Sum;
+use ps_data::{Memory, OpId, Text};
 use ps_definitions::Rules;
 use ps_rules::read_rules;
 use ps_sql_eval::Asker;
-use ps_values::{Memory, OpId, Text};
 use std::alloc::Global;
 
 /// A text of some fifty bytes.

@@ -3,9 +3,10 @@
 //! stack. Prints what came of it.
 
 use crate::speed::shared::nested;
+use case_words::short_number_in;
+use ps_data::{Memory, Text};
 use ps_queries::DataQuery;
 use ps_sql::read_data_query;
-use ps_values::{Memory, Text};
 use std::alloc::Global;
 use std::thread::Threads;
 use std::{io, thread};
@@ -117,9 +118,9 @@ fn task_of(words: &[&str]) -> Option<Task> {
     };
     Some(Task {
         shape: shape_of(shape)?,
-        count: count.parse::<u32>().ok()?,
+        count: short_number_in(count).ok()?,
         work: work_of(work)?,
-        stack: stack.parse::<u32>().ok()?,
+        stack: short_number_in(stack).ok()?,
     })
 }
 

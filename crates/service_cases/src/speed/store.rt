@@ -9,9 +9,10 @@ ghost use Rattle.service_cases.specs.Histories.{HasHistory};
 
 use crate::speed::shared::{TITLE, asker};
 use crate::speed::stores::{commit, feed, store_of, transaction_of, write};
+use case_words::{number_in, short_number_in};
+use ps_data::{Memory, Text};
 use ps_sql_eval::Asker;
 use ps_store::Store;
-use ps_values::{Memory, Text};
 use std::alloc::Global;
 use std::io;
 
@@ -181,8 +182,8 @@ fn read_all(alloc: Global, job: Job) -> Option<(u64, u64, u64)> {
 fn job_of(work: &str, changes: &str, batch: &str) -> Option<Job> {
     Some(Job {
         work: work_of(work)?,
-        changes: changes.parse::<u64>().ok()?,
-        batch: batch.parse::<u32>().ok()?,
+        changes: number_in(changes).ok()?,
+        batch: short_number_in(batch).ok()?,
     })
 }
 

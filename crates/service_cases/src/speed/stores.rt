@@ -6,9 +6,9 @@ ghost use Rattle.service_cases.specs.Histories.{HasHistory};
 
 use crate::speed::shared::rules_of;
 use ps_changes::read_line;
+use ps_data::GREATEST;
 use ps_rows::Transaction;
 use ps_store::{Limits, Store};
-use ps_values::GREATEST;
 use std::alloc::Global;
 
 /// The transaction of a change line, if it is one and there is memory.

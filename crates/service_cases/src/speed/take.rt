@@ -7,9 +7,10 @@ ghost use Rattle.service_cases.specs.Histories.{HasHistory};
 
 use crate::speed::shared::asker;
 use crate::speed::stores::{commit, feed, store_of, transaction_of, write};
+use case_words::number_in;
+use ps_data::{Memory, Text};
 use ps_sql_eval::Asker;
 use ps_store::Store;
-use ps_values::{Memory, Text};
 use std::alloc::Global;
 use std::io;
 
@@ -91,9 +92,9 @@ fn figures_of(alloc: Global, job: Job) -> Option<(u64, u64)> {
 
 fn job_of(buckets: &str, own: &str, takes: &str) -> Option<Job> {
     Some(Job {
-        buckets: buckets.parse::<u64>().ok()?,
-        own: own.parse::<u64>().ok()?,
-        takes: takes.parse::<u64>().ok()?,
+        buckets: number_in(buckets).ok()?,
+        own: number_in(own).ok()?,
+        takes: number_in(takes).ok()?,
     })
 }
 

@@ -6,10 +6,10 @@ ghost use Rattle.service_cases.specs.Histories.{HasHistory};
 
 use crate::stores::reading::transaction_of;
 use case_stores::{limits_of, rules_of};
-use case_words::Stop;
+use case_words::{Stop, short_number_in};
+use ps_data::{Memory, Text};
 use ps_rows::Transaction;
 use ps_store::{CompactFault, FeedFault, Store, WriteFault, Wrote};
-use ps_values::{Memory, Text};
 use std::alloc::Global;
 
 /// A store for the rules of a text, under limits.
@@ -115,7 +115,7 @@ pub fn write_one(
     requires { HasHistory store.old }
     ensures { HasHistory store.new }
 {
-    let limit = limit.parse::<u32>()?;
+    let limit = short_number_in(limit)?;
     match write_next(alloc, store, limit) {
         Ok(wrote) => {
             write!(out, "wrote {} ops {}", wrote.changes, wrote.ops)?;
@@ -135,7 +135,7 @@ pub fn write_all(
     requires { HasHistory store.old }
     ensures { HasHistory store.new }
 {
-    let limit = limit.parse::<u32>()?;
+    let limit = short_number_in(limit)?;
     'batches: for _ in 0..1000 {
         match write_next(alloc, store, limit) {
             Ok(wrote) => write!(out, "{} ", wrote.changes)?,

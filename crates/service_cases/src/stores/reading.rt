@@ -3,13 +3,13 @@
 ghost use Rattle.std.specs.Prelude.{◌≤◌, IfOk};
 ghost use Rattle.ps_store.specs.Limits.{greatest};
 
-use case_words::Stop;
+use case_words::{Stop, number_in};
 use ps_rows::Transaction;
 use std::alloc::Global;
 
 // Adds the numbers from 1 on, with commas between.
 fn push_numbers(text: &mut String, count: &str) -> Result<(), Stop> {
-    'numbers: for before in 0..count.parse::<u64>()? {
+    'numbers: for before in 0..number(count)? {
         if before != 0 {
             text.push_str(",")?;
         }

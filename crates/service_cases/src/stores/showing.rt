@@ -1,8 +1,8 @@
 //! The calls that read a store, and what each gives.
 
 use case_words::Stop;
+use ps_data::{Memory, Text};
 use ps_store::Store;
-use ps_values::{Memory, Text};
 use std::alloc::Global;
 
 /// The checkpoint.

@@ -2,11 +2,11 @@
 
 ghost use Rattle.service_cases.specs.Histories.{HasHistory};
 
-use case_words::{Stop, cut};
+use case_words::{Stop, cut, number_in};
 use ps_bucket_log::{Batch, Op, Taken, TakenBucket};
+use ps_data::{Memory, OpId, Text};
 use ps_sql_eval::Asker;
 use ps_store::{Store, TakeFault};
-use ps_values::{Memory, OpId, Text};
 use std::alloc::Global;
 
 // A user with parameters, by default none, and perhaps the user's client.
@@ -104,7 +104,7 @@ fn push_batch(out: &mut String, batch: &Batch) -> Result<(), Stop> {
 pub fn show_read(alloc: Global, store: &Store, words: &str, out: &mut String) -> Result<(), Stop> {
     let (after, words) = cut(words);
     let (upto, bucket) = cut(words);
-    let (after, upto) = (after.parse::<u64>()?, upto.parse::<u64>()?);
+    let (after, upto) = (number_in(after)?, number_in(upto)?);
     let bucket = Text::from_str(alloc, bucket)?;
     match store.read_batch(alloc, &bucket, OpId(after), OpId(upto)) {
         Ok(batch) => push_batch(out, &batch),

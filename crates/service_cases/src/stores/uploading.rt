@@ -7,9 +7,9 @@ ghost use Rattle.service_cases.specs.Histories.{HasHistory};
 use crate::stores::changing::push_feed_fault;
 use case_words::{Stop, cut};
 use ps_changes::{ChangeFault, read_changes};
+use ps_data::{Items, Position, Text};
 use ps_rows::Change;
 use ps_store::{FeedFault, Store};
-use ps_values::{Items, Position, Text};
 use ps_write_cp::NumberFault;
 use std::alloc::Global;
 

@@ -1,5 +1,5 @@
 use Rattle.std.proofs.Common.{◌≡◌, ◌++◌, ◌∷◌, ◌<◌, ℕ, List, [], true, false, length, drop, arith, ap, ◌∙◌, subst}
-use Rattle.ps_values.specs.declared.values.Value.{Value}
+use Rattle.ps_data.specs.declared.values.Value.{Value}
 use Rattle.ps_bucket_eval.specs.Solving.{inserted, names_from}
 use Rattle.ps_bucket_eval.proofs.Fitting.{fits_within, fits_past, first_rest, popped, vectors_more, vectors_past}
 use Rattle.ps_bucket_eval.proofs.placing.+name_vectors.Goals as goal

@@ -1,6 +1,6 @@
 use Rattle.std.proofs.Common.{◌≡◌, ◌≤◌, ◌++◌, ◌∷◌, [], length, take, drop}
 use Rattle.std.specs.Prelude.{flat_map}
-use Rattle.ps_values.specs.declared.values.Value.{Value}
+use Rattle.ps_data.specs.declared.values.Value.{Value}
 use Rattle.ps_bucket_eval.specs.Solving.{names_from, inserted}
 use Rattle.ps_bucket_eval.proofs.placing.+name_vectors.Given as goal
 

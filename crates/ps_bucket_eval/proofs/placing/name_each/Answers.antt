@@ -1,5 +1,5 @@
 use Rattle.std.proofs.Common.{◌≡◌, ◌∷◌, ℕ, List, [], false, true, arith, ◌∙◌}
-use Rattle.ps_values.specs.declared.values.Value.{Value}
+use Rattle.ps_data.specs.declared.values.Value.{Value}
 use Rattle.ps_definitions.specs.Buckets.{bucket_name_of}
 use Rattle.ps_bucket_eval.proofs.Steps.{named_more, named_past}
 use Rattle.ps_bucket_eval.proofs.Fitting.{fits_within, fits_past, named_alone}

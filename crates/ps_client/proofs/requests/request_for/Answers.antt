@@ -4,7 +4,7 @@ use Rattle.std.specs.Cmp.Lexicographic.{slice_cmp}
 use Rattle.std.specs.List.{All, IsDistinct}
 use Rattle.std.specs.List.Sorted.{IsStrictlySortedBy}
 use Rattle.std.specs.Ordering.{nat_cmp}
-use Rattle.ps_values.specs.Numbers.{greatest}
+use Rattle.ps_data.specs.Numbers.{greatest}
 use Rattle.ps_lines.specs.declared.bodies.Known.{Known}
 use Rattle.ps_client_log.specs.Logs.{kept}
 use Rattle.ps_client.specs.Requests.{known_at, buckets_of, position_in}

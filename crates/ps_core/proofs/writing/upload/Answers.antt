@@ -1,5 +1,5 @@
 use Rattle.std.proofs.Common.{List, Ok, Err, refl, ap, sym, subst, ◌∙◌}
-use Rattle.ps_values.specs.declared.ids.Position.{Position}
+use Rattle.ps_data.specs.declared.ids.Position.{Position}
 use Rattle.ps_rows.specs.declared.changes.Change.{Change}
 use Rattle.ps_client.specs.States.{state}
 use Rattle.ps_store.specs.declared.faults.FeedFault.TheVariants as feeding

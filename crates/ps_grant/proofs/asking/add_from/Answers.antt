@@ -1,6 +1,6 @@
 use Rattle.std.proofs.Common.{List, Bool, sym, ◌∙◌, drop, filter, flat_map, ◌+◌}
 use Rattle.std.specs.Prelude.{bytes_eq}
-use Rattle.ps_values.specs.declared.values.Value.{Value}
+use Rattle.ps_data.specs.declared.values.Value.{Value}
 use Rattle.ps_queries.specs.Vectors.{SourceRow, vector_on}
 use Rattle.ps_sql_eval.specs.Evaluated.{asker_of}
 use Rattle.ps_granted.specs.Sources.{entries_of, entry_of, row_of, rows_in}

@@ -1,6 +1,6 @@
 use Rattle.std.proofs.Common.{List, ◌∙◌, subst}
 use Rattle.std.specs.Prelude.{OnOk}
-use Rattle.ps_values.specs.declared.values.Value.{Value}
+use Rattle.ps_data.specs.declared.values.Value.{Value}
 use Rattle.ps_sql_eval.specs.Evaluated.{asker_of}
 use Rattle.ps_granted.specs.Sources.{entries_of, rows_in}
 use Rattle.ps_grant.specs.Solving.{Gains}

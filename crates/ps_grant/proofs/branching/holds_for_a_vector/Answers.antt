@@ -1,6 +1,6 @@
 use Rattle.std.proofs.Common.{◌≡◌, List, ◌∙◌, subst}
 use Rattle.std.specs.Prelude.{IfOk}
-use Rattle.ps_values.specs.declared.values.Value.{Value}
+use Rattle.ps_data.specs.declared.values.Value.{Value}
 use Rattle.ps_queries.specs.Meaning.{Given}
 use Rattle.ps_sql_eval.specs.Evaluated.{asker_of}
 use Rattle.ps_granted.specs.Grants.{given_for}

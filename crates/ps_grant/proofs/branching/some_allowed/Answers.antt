@@ -1,7 +1,7 @@
 use Rattle.std.proofs.Common.{List, ap, ◌∙◌}
 use Rattle.std.specs.Prelude.{◌&&◌}
 use Rattle.std.specs.List.{list_any}
-use Rattle.ps_values.specs.declared.values.Value.{Value}
+use Rattle.ps_data.specs.declared.values.Value.{Value}
 use Rattle.ps_grant.specs.Solving.{is_same, all_allow, AreSolved}
 use Rattle.ps_grant.proofs.SolveLaws.{known_same, solved_some}
 use Rattle.ps_grant.proofs.branching.some_allowed.Goals as goal

@@ -1,6 +1,6 @@
 use Rattle.std.proofs.Common.{◌≡◌, drop, List}
 use Rattle.std.specs.List.{list_any, AllByRecursion}
-use Rattle.ps_values.specs.declared.values.Value.{Value}
+use Rattle.ps_data.specs.declared.values.Value.{Value}
 use Rattle.ps_definitions.specs.Meeting.{meets_some}
 use Rattle.ps_sql_eval.specs.Evaluated.{asker_of}
 use Rattle.ps_granted.specs.Grants.{given_for}

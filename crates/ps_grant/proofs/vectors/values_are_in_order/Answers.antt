@@ -1,5 +1,5 @@
 use Rattle.std.proofs.Common.{refl}
-use Rattle.ps_values.specs.declared.values.Value.TheVariants.{Null, Int, Text}
+use Rattle.ps_data.specs.declared.values.Value.TheVariants.{Null, Int, Text}
 use Rattle.ps_grant.proofs.vectors.values_are_in_order.Goals as goal
 
 pub returns : goal.returns

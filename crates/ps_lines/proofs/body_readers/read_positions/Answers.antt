@@ -1,5 +1,5 @@
 use Rattle.std.proofs.Common.{◌≤◌, []}
-use Rattle.ps_values.specs.Numbers.{greatest}
+use Rattle.ps_data.specs.Numbers.{greatest}
 use Rattle.ps_lines.proofs.Kept.{distinct_of, all_of}
 use Rattle.ps_lines.proofs.body_readers.read_positions.Goals as goal
 

@@ -1,5 +1,5 @@
 use Rattle.std.proofs.Common.{◌≡◌, ℕ, ◌+◌, ◌-◌, ◌<◌, List, Option, length, get_or, map, take, sym, ap, ◌∙◌, arith}
-use Rattle.ps_values.specs.declared.columns.Column.{Column}
+use Rattle.ps_data.specs.declared.columns.Column.{Column}
 use Rattle.ps_params.specs.Notes.{row_at}
 use Rattle.ps_params.specs.Kept.{note_of}
 use Rattle.ps_params.specs.Places.{notes_at}

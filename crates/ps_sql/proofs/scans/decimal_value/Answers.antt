@@ -1,6 +1,6 @@
 use Rattle.std.proofs.Common.{◌+◌, ◌-◌, ◌*◌, ◌<◌, get_or, drop, arith}
 use Rattle.std.proofs.lemmas.Bool.Decides.{nat_tests}
-use Rattle.ps_values.specs.Numbers.{greatest}
+use Rattle.ps_data.specs.Numbers.{greatest}
 use Rattle.ps_sql.specs.Words.{decimal_after}
 use Rattle.ps_sql.proofs.Decimals.{decimal_after_grows, decimal_after-drop}
 use Rattle.ps_sql.proofs.scans.decimal_value.Goals as goal

@@ -1,5 +1,5 @@
 use Rattle.std.proofs.Common.{◌≡◌, ◌≤◌, drop}
-use Rattle.ps_values.specs.Numbers.{greatest}
+use Rattle.ps_data.specs.Numbers.{greatest}
 use Rattle.ps_sql.specs.Words.{decimal_after}
 use Rattle.ps_sql.proofs.scans.decimal_value.Given as goal
 

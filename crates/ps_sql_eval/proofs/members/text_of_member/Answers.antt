@@ -1,7 +1,7 @@
 use Rattle.std.proofs.Common.{◌≡◌, false, ap, ◌∙◌}
 use Rattle.serde_json.specs.View.{view}
 use Rattle.serde_json.specs.Written.{has_float}
-use Rattle.ps_values.specs.declared.values.Value.TheVariants.{Text}
+use Rattle.ps_data.specs.declared.values.Value.TheVariants.{Text}
 use Rattle.ps_queries.specs.Meaning.{member_text}
 use Rattle.ps_sql_eval.proofs.Parts.{member_floatless}
 use Rattle.ps_sql_eval.proofs.members.text_of_member.Goals as goal

@@ -1,6 +1,6 @@
 use Rattle.std.proofs.Common.{◌≡◌, drop, codes}
 use Rattle.std.specs.Prelude.{if◌then◌else◌}
-use Rattle.ps_values.specs.declared.values.Value.TheVariants.{Null, Text}
+use Rattle.ps_data.specs.declared.values.Value.TheVariants.{Null, Text}
 use Rattle.ps_queries.specs.Objects.{value_named, id_value}
 use Rattle.ps_sql_eval.specs.Evaluated.{without_bucket}
 use Rattle.ps_sql_eval.proofs.objects.id_value.Given as goal

@@ -1,6 +1,6 @@
 use Rattle.std.proofs.Common.{◌≡◌, drop}
 use Rattle.std.specs.List.{list_any}
-use Rattle.ps_values.specs.Values.{is_null}
+use Rattle.ps_data.specs.Values.{is_null}
 use Rattle.ps_sql_eval.proofs.vectors.has_null.Given as goal
 
 -- none so far is Null

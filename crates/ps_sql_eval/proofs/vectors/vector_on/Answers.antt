@@ -1,7 +1,7 @@
 use Rattle.std.proofs.Common.{◌≡◌, List, [], ◌∷◌, false, not, cond, sym, ap, ◌∙◌, map}
 use Rattle.std.specs.List.{list_any}
-use Rattle.ps_values.specs.declared.values.Value.{Value}
-use Rattle.ps_values.specs.Values.{is_null}
+use Rattle.ps_data.specs.declared.values.Value.{Value}
+use Rattle.ps_data.specs.Values.{is_null}
 use Rattle.ps_queries.specs.declared.queries.Output.{Output}
 use Rattle.ps_queries.specs.Vectors.{output_value, vector_values, at_row}
 use Rattle.ps_sql_eval.specs.Evaluated.{asker_of, without_bucket}

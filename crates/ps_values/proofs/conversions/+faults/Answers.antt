@@ -1,6 +1,6 @@
 use Rattle.std.proofs.Common.{◌≡◌, sym, rules, arith, Some, None}
 use Rattle.serde_json.specs.View.{view}
-use Rattle.ps_values.specs.Conversions.{first_fault as first_fault_of, numbers_of}
+use Rattle.ps_values.specs.ValueFaults.{first_fault as first_fault_of, numbers_of}
 use Rattle.ps_values.proofs.Faults.{item_more}
 use Rattle.ps_values.proofs.conversions.+faults.Goals as goal
 

@@ -1,6 +1,6 @@
 use Rattle.std.proofs.Common.{◌≡◌, drop}
 use Rattle.serde_json.specs.View.{items_view, members_view}
-use Rattle.ps_values.specs.Conversions.{first_fault, numbers_of_items, numbers_of_members}
+use Rattle.ps_values.specs.ValueFaults.{first_fault, numbers_of_items, numbers_of_members}
 use Rattle.ps_values.proofs.conversions.+faults.Given as goal
 
 -- what was passed has no fault: the first one of all is the first one of what is left

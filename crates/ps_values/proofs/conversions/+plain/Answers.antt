@@ -5,7 +5,7 @@ use Rattle.std.specs.String.{string_cmp}
 use Rattle.std.proofs.lemmas.List.{take_all}
 use Rattle.serde_json.specs.View.{view, items_of}
 use Rattle.serde_json.proofs.Views.{Entry}
-use Rattle.ps_values.specs.Conversions.{plain_of}
+use Rattle.ps_data.specs.Conversions.{plain_of}
 use Rattle.ps_values.proofs.Faults.{plain_each, plain_more}
 use Rattle.ps_values.proofs.conversions.+plain.Goals as goal
 

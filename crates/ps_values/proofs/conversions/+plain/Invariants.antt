@@ -1,7 +1,7 @@
 use Rattle.std.proofs.Common.{◌≡◌, List, ◌++◌, take, map}
 use Rattle.serde_json.specs.View.{view, members_view}
 use Rattle.serde_json.proofs.Views.{Entry}
-use Rattle.ps_values.specs.Conversions.{plain_of, plain_members}
+use Rattle.ps_data.specs.Conversions.{plain_of, plain_members}
 use Rattle.ps_values.proofs.conversions.+plain.Given as goal
 
 abbrev pub invariant-plain_items-items : goal.invariant-plain_items-items

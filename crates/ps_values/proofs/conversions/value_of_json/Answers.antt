@@ -4,7 +4,7 @@ use Rattle.serde_json.specs.View.{view}
 use Rattle.serde_json.proofs.Views.{view-Array, view-Object}
 use Rattle.ps_values.specs.declared.conversions.ValueFault.{ValueFault}
 use Rattle.ps_values.specs.declared.conversions.ValueFault.TheVariants.{NotWhole, TooBig, Memory}
-use Rattle.ps_values.specs.Conversions.{first_fault as first_fault_of, numbers_of, IsValueOf}
+use Rattle.ps_values.specs.ValueFaults.{first_fault as first_fault_of, numbers_of, IsValueOf}
 use Rattle.ps_values.proofs.Faults.{text_of_array, text_of_object, numbers_want_nothing}
 use Rattle.ps_values.proofs.conversions.value_of_json.Goals as goal
 

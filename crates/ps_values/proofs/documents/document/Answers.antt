@@ -1,7 +1,7 @@
 use Rattle.std.proofs.Common.{◌≡◌, [], ◌∷◌, ◌++◌, false, ap, ◌∙◌, rules}
 use Rattle.json.specs.Token.{begin_object}
 use Rattle.json.specs.Print.{print}
-use Rattle.ps_values.specs.Documents.{members_of}
+use Rattle.ps_data.specs.Documents.{members_of}
 use Rattle.ps_values.specs.Writing.{members_tokens, with_id}
 use Rattle.ps_values.proofs.Written.{document_written}
 use Rattle.ps_values.proofs.documents.document.Goals as goal

@@ -1,6 +1,6 @@
 use Rattle.std.proofs.Common.{◌≡◌, drop}
 use Rattle.serde_json.specs.View.{members_view}
-use Rattle.ps_values.specs.Documents.{with_columns, members_of}
+use Rattle.ps_data.specs.Documents.{with_columns, members_of}
 use Rattle.ps_values.proofs.documents.object_of_columns.Given as goal
 
 abbrev pub invariant-columns : goal.invariant-columns

@@ -1,5 +1,5 @@
 use Rattle.std.proofs.Common.{◌≡◌, ℕ, true, sym, ◌∙◌, ap, rules, cond, Some, None, Ok, Err, le-leb}
-use Rattle.ps_values.specs.Numbers.{begins_plainly as begins_as_decimal}
+use Rattle.ps_data.specs.Numbers.{begins_plainly as begins_as_decimal}
 use Rattle.ps_values.proofs.Decimals.{reads}
 use Rattle.ps_values.proofs.numbers.read_decimal.Goals as goal
 

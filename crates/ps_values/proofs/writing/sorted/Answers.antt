@@ -1,6 +1,6 @@
 use Rattle.std.proofs.Common.{◌≡◌, ◌∙◌, ◌+◌, drop, ap}
 use Rattle.serde_json.specs.Data.{put}
-use Rattle.ps_values.specs.Documents.{data_of, with_columns}
+use Rattle.ps_data.specs.Documents.{data_of, with_columns}
 use Rattle.ps_values.specs.Writing.{paired}
 use Rattle.ps_values.proofs.Objects.{column_more}
 use Rattle.ps_values.proofs.Written.{paired-insert_entry}

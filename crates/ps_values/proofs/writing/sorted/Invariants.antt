@@ -1,5 +1,5 @@
 use Rattle.std.proofs.Common.{◌≡◌, drop}
-use Rattle.ps_values.specs.Documents.{with_columns, members_of}
+use Rattle.ps_data.specs.Documents.{with_columns, members_of}
 use Rattle.ps_values.specs.Writing.{paired}
 use Rattle.ps_values.proofs.writing.sorted.Given as goal
 

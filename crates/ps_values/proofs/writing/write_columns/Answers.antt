@@ -1,6 +1,6 @@
 use Rattle.std.proofs.Common.{◌≡◌, ◌∙◌, ◌+◌, ◌++◌, drop, sym, ap}
 use Rattle.serde_json.specs.Data.{member}
-use Rattle.ps_values.specs.Documents.{data_of}
+use Rattle.ps_data.specs.Documents.{data_of}
 use Rattle.ps_values.specs.Writing.{members_tokens, listed, with_id}
 use Rattle.ps_values.proofs.Written.{listed_more}
 use Rattle.ps_values.proofs.writing.write_columns.Goals as goal

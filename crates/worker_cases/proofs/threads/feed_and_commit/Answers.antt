@@ -1,6 +1,6 @@
 use denote.Param.Send.{sendable}
 use Rattle.std.proofs.Crossing.{crosses}
-use Rattle.ps_values.proofs.lists.Items.TheSendSync as items
+use Rattle.ps_data.proofs.lists.Items.TheSendSync as items
 use Rattle.ps_rows.proofs.changes.Transaction.TheSendSync as transactions
 use Rattle.ps_lock.proofs.tables.Seat.TheSendSync as seats
 use Rattle.ps_lock.proofs.tables.StoreLock.TheSendSync as locks

@@ -1,5 +1,5 @@
 use Rattle.std.proofs.Common.{List, [], ◌∷◌, map, subst}
-use Rattle.ps_values.specs.declared.values.Value.{Value}
+use Rattle.ps_data.specs.declared.values.Value.{Value}
 use Rattle.ps_grant.specs.Solving.{Gains}
 use Rattle.ps_grant.proofs.VectorLaws.{vector_gained}
 use Rattle.ps_grant.proofs.vectors.VectorSet.insert.Goals as goal

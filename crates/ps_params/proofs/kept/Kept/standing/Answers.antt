@@ -1,5 +1,5 @@
 use Rattle.std.proofs.Common.{List, Option, None, map, take, drop, sym, ap, ◌∙◌}
-use Rattle.ps_values.specs.declared.columns.Column.{Column}
+use Rattle.ps_data.specs.declared.columns.Column.{Column}
 use Rattle.ps_params.specs.Notes.{Note, row_at, row_after}
 use Rattle.ps_params.specs.Kept.{note_of}
 use Rattle.ps_params.proofs.Standing.{after_both, both_parts}

@@ -2,7 +2,7 @@ use Rattle.std.proofs.Common.{◌≡◌, ◌<◌, ◌≤◌, length, get_or, Non
 use Rattle.std.specs.Option.{option_copied}
 use Rattle.std.specs.List.{slice_get}
 use Rattle.std.proofs.lemmas.Option.{slice_get_within}
-use Rattle.ps_values.specs.declared.ids.OpId.{OpId}
+use Rattle.ps_data.specs.declared.ids.OpId.{OpId}
 use Rattle.ps_session.specs.declared.actions.Action.TheVariants.{Read}
 use Rattle.ps_session.specs.declared.phases.Phase.TheVariants.{Download}
 use Rattle.ps_session.specs.Kept.{Kept, IsKept, state_of}

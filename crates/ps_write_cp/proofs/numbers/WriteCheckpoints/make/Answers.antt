@@ -1,6 +1,6 @@
 use Rattle.std.proofs.Common.{rules, ◌<◌, ◌≤◌, List, [], ◌∷◌, ◌++◌, ◌&&◌, length, sym, ap, ◌∙◌, subst}
 use Rattle.std.specs.Prelude.{if◌then◌else◌, bytes_eq}
-use Rattle.ps_values.specs.declared.ids.Position.{Position}
+use Rattle.ps_data.specs.declared.ids.Position.{Position}
 use Rattle.ps_write_cp.specs.Kept.{Kept, heads_under, heads_at}
 use Rattle.ps_write_cp.proofs.Rising.{sound_kept, sound_more, heads_of_more}
 use Rattle.ps_write_cp.proofs.numbers.WriteCheckpoints.make.Goals as goal

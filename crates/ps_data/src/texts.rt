@@ -5,8 +5,8 @@ ghost use Rattle.std.specs.Hash as fed;
 ghost use Rattle.std.specs.Cmp.{partial_equiv_from_equiv};
 ghost use Rattle.std.specs.Cmp.Lexicographic.{slice_cmp, nat_list_eq_equiv, nat_list_cmp_total, texts_ties, texts_po};
 ghost use Rattle.std.specs.Cmp.Rules.{hashing};
-ghost use Rattle.ps_values.specs.Kept.{bytes_kept};
-ghost use Rattle.ps_values.specs.Texts.{IsTextOf};
+ghost use Rattle.ps_data.specs.Kept.{bytes_kept};
+ghost use Rattle.ps_data.specs.Texts.{IsTextOf};
 
 use crate::Memory;
 use crate::short_texts::ShortText;
@@ -36,7 +36,7 @@ enum Kept {
 
 impl Model for Text {
     ghost use Rattle.std.specs.Prelude.{List, ℕ};
-    ghost use Rattle.ps_values.specs.Kept.{bytes_kept};
+    ghost use Rattle.ps_data.specs.Kept.{bytes_kept};
 
     ghost Value = { List ℕ };
 
@@ -53,7 +53,7 @@ pub enum TextFault {
 }
 
 impl From<AllocError> for TextFault {
-    ghost use Rattle.ps_values.specs.declared.texts.TextFault.TheVariants as faults;
+    ghost use Rattle.ps_data.specs.declared.texts.TextFault.TheVariants as faults;
 
     ghost from_gives = { λ _ fault. fault ≡ faults.Memory };
 

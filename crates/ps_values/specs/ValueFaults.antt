@@ -1,15 +1,11 @@
--- JSON as a value, and JSON made plain: each of its numbers a whole number of signed 64 bits.
-use Rattle.std.specs.Prelude.{◌≡◌, ◌^◌, pos, List, [], ◌∷◌, ◌++◌, Option, Some, None, option_map, unwrap_or, Result, Ok, Err, nat_lt, if◌then◌else◌}
+-- Which JSON is a value, and else why it is none.
+use Rattle.std.specs.Prelude.{◌≡◌, ◌^◌, List, [], ◌∷◌, ◌++◌, Option, Some, None, Result, Ok, Err, nat_lt, if◌then◌else◌}
 use Rattle.std.specs.Option.{option_or}
 use Rattle.serde_json.specs.Data.{Num, unsigned, negative, float, Data, null, boolean, number, string, array, object, Items, no_items, item, Members, no_members, member}
-use Rattle.serde_json.specs.Find.{as_i64}
-use Rattle.serde_json.specs.Written.{compact_text}
-use Rattle.ps_values.specs.declared.values.Value.{Value}
-use Rattle.ps_values.specs.declared.values.Value.TheVariants.{Null, Int, Text}
+use Rattle.ps_data.specs.declared.values.Value.{Value}
+use Rattle.ps_data.specs.Conversions.{value_of}
 use Rattle.ps_values.specs.declared.conversions.ValueFault.{ValueFault}
 use Rattle.ps_values.specs.declared.conversions.ValueFault.TheVariants.{NotWhole, TooBig, Memory}
-
--- ---- JSON as a value
 
 -- why a number is no whole number of signed 64 bits
 abbrev pub number_fault : Num → Option ValueFault
@@ -40,15 +36,6 @@ abbrev mutual
   numbers_of_members no_members = []
   numbers_of_members (member name d ms) = numbers_of d ++ numbers_of_members ms
 
--- the value that JSON is: an array or an object is the text of its compact JSON
-abbrev pub value_of : Data → Value
-value_of null = Null
-value_of (boolean truth) = Int (if truth then pos 1 else pos 0)
-value_of (number n) = unwrap_or (option_map Int (as_i64 n)) Null
-value_of (string text) = Text text
-value_of (array ds) = Text (compact_text (array ds))
-value_of (object ms) = Text (compact_text (object ms))
-
 -- JSON is a value exactly where none of its numbers has a fault; else the fault is that of the first one that has, which is known before any
 -- memory is taken
 abbrev pub IsValueOf : Data → Result Value ValueFault → Type 0
@@ -56,28 +43,3 @@ IsValueOf d (Ok value) = (first_fault (numbers_of d) ≡ None) × (value ≡ val
 IsValueOf d (Err NotWhole) = first_fault (numbers_of d) ≡ Some NotWhole
 IsValueOf d (Err TooBig) = first_fault (numbers_of d) ≡ Some TooBig
 IsValueOf d (Err Memory) = first_fault (numbers_of d) ≡ None
-
--- ---- plain JSON
-
-abbrev pub plain_number : Num → Data
-plain_number (unsigned n) = if nat_lt n (2 ^ 63) then number (unsigned n) else null
-plain_number (negative z) = number (negative z)
-plain_number (float x) = null
-
--- the same JSON, with null for each number that is no whole number of signed 64 bits
-abbrev mutual
-  pub plain_of : Data → Data
-  plain_of null = null
-  plain_of (boolean truth) = boolean truth
-  plain_of (number n) = plain_number n
-  plain_of (string text) = string text
-  plain_of (array ds) = array (plain_items ds)
-  plain_of (object ms) = object (plain_members ms)
-
-  pub plain_items : Items → Items
-  plain_items no_items = no_items
-  plain_items (item d ds) = item (plain_of d) (plain_items ds)
-
-  pub plain_members : Members → Members
-  plain_members no_members = no_members
-  plain_members (member name d ms) = member name (plain_of d) (plain_members ms)
