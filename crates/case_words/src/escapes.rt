@@ -41,7 +41,7 @@ fn push_repeated(bytes: &mut Vec<u8>, part: &str) -> Result<(), Memory> {
     };
     let (part, rest) = part.split_once('}').unwrap_or((part, ""));
     let count = count.strip_prefix('*').unwrap_or(count);
-    'times: for _ in 0..short_number(count).unwrap_or(0) {
+    'times: for _ in 0..short_number_in(count).unwrap_or(0) {
         bytes.extend_from_slice(part.as_bytes())?;
     }
     Ok(bytes.extend_from_slice(rest.as_bytes())?)

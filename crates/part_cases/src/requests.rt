@@ -45,7 +45,7 @@ fn is_added(word: &str, rest: &str, request: &mut Vec<u8>) -> Result<bool, Stop>
     }
     if word == "times" {
         let (count, text) = cut(rest);
-        'times: for _ in 0..number(count)? {
+        'times: for _ in 0..number_in(count)? {
             push_spelled(text, request)?;
         }
         return Ok(true);

@@ -221,7 +221,7 @@ pub fn write_tries(alloc: Global, words: &str, out: &mut String) -> Result<(), S
         different: 0,
         without_rows: 0,
     };
-    'tries: for _ in 0..number(count)? {
+    'tries: for _ in 0..number_in(count)? {
         let (is_same, is_empty) = is_same(alloc, &mut dice)?;
         if is_same {
             outcome.same = outcome.same.saturating_add(1);

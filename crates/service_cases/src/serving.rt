@@ -83,7 +83,7 @@ fn is_added(
         "add" => push_spelled(rest, request)?,
         "times" => {
             let (count, text) = cut(rest);
-            'times: for _ in 0..number(count)? {
+            'times: for _ in 0..number_in(count)? {
                 push_spelled(text, request)?;
             }
         }

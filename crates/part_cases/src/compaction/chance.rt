@@ -90,7 +90,7 @@ pub fn write_lists(alloc: Global, words: &str, out: &mut String) -> Result<(), S
     };
     let mut wrong: u64 = 0;
     let mut tried: u64 = 0;
-    'lists: for _ in 0..number(count)? {
+    'lists: for _ in 0..number_in(count)? {
         let mut log = grown(alloc, &mut chance, &BucketLog::new(alloc))?;
         let (first_wrong, first_tried) = differences(alloc, &log)?;
         let level = chance.below(14);

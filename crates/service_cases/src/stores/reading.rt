@@ -9,7 +9,7 @@ use std::alloc::Global;
 
 // Adds the numbers from 1 on, with commas between.
 fn push_numbers(text: &mut String, count: &str) -> Result<(), Stop> {
-    'numbers: for before in 0..number(count)? {
+    'numbers: for before in 0..number_in(count)? {
         if before != 0 {
             text.push_str(",")?;
         }
