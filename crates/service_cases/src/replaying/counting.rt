@@ -3,7 +3,6 @@
 use crate::replaying::chance::Chance;
 use crate::replaying::scripts::{Played, play_script};
 use crate::replaying::stops::Stop;
-use case_words::number_in;
 use ps_definitions::Rules;
 use ps_rules::read_rules;
 use std::alloc::Global;
@@ -100,12 +99,12 @@ pub fn write_scripts(
         None => return Err(Stop::Broken),
     };
     let rules = read_rules(alloc, RULES)?;
-    let mut chance = Chance::of(number_in(seed)?);
+    let mut chance = Chance::of(seed.parse::<u64>()?);
     play_scripts(
         alloc,
         &rules,
         &mut chance,
-        number_in(count)?,
+        count.parse::<u64>()?,
         has_uploads,
         out,
     )
