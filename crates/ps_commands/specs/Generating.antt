@@ -28,16 +28,20 @@ all_before reports = sum_by (λ (c : Compacted). c.report.before) reports
 abbrev pub all_after : List Compacted → ℕ
 all_after reports = sum_by (λ (c : Compacted). c.report.after) reports
 
--- `transactions T changes C operations O buckets B rows R before X after Y` and a line feed
+-- `transactions T changes C operations O buckets B`
+abbrev pub totals_text : Totals → List ℕ
+totals_text totals =
+    codes "transactions " ++ (decimal totals.transactions ++ (codes " changes " ++ (decimal totals.changes
+    ++ (codes " operations " ++ (decimal totals.operations ++ (codes " buckets " ++ decimal totals.buckets))))))
+
+-- ` rows R before X after Y` and a line feed
+abbrev pub rest_text : (rows before after : ℕ) → List ℕ
+rest_text rows before after =
+    codes " rows " ++ (decimal rows ++ (codes " before " ++ (decimal before ++ (codes " after " ++ (decimal after ++ codes "\n")))))
+
+-- both, with the sums of the reports
 unfoldable pub summary_line : Totals → ℕ → List Compacted → List ℕ
-summary_line totals rows reports =
-    codes "transactions " ++ (decimal totals.transactions
-    ++ (codes " changes " ++ (decimal totals.changes
-    ++ (codes " operations " ++ (decimal totals.operations
-    ++ (codes " buckets " ++ (decimal totals.buckets
-    ++ (codes " rows " ++ (decimal rows
-    ++ (codes " before " ++ (decimal (all_before reports)
-    ++ (codes " after " ++ (decimal (all_after reports) ++ codes "\n")))))))))))))
+summary_line totals rows reports = totals_text totals ++ rest_text rows (all_before reports) (all_after reports)
 
 -- the summary of a number of rows, and of what is known of transactions that were fed, written and committed
 abbrev pub summary_by : RuleSet → List Transaction → List Shown → List ℕ

@@ -1,19 +1,19 @@
 //! Made rules and transactions, written into a store, read by one stream and compacted.
 
-ghost use Rattle.std.specs.Prelude.{◌≡◌, ◌+◌, ◌^◌, ◌<◌, ◌≤◌, ◌++◌, List, [], IfOk, OnOk, decimal};
+ghost use Rattle.std.specs.Prelude.{◌≡◌, ◌+◌, ◌^◌, ◌<◌, ◌≤◌, ◌++◌, List, [], IfOk};
 ghost use Rattle.ps_rows.specs.declared.changes.Transaction.{Transaction as TransactionData};
 ghost use Rattle.ps_definitions.specs.RuleSets.{RuleSet, AreRules};
 ghost use Rattle.ps_sql_eval.specs.Evaluated.{asker_of};
 ghost use Rattle.ps_store.specs.Laws.{HaveNumbers};
 ghost use Rattle.ps_files.specs.Making.{made_limit};
-ghost use Rattle.ps_commands.specs.Generating.{CountsRows, Summarizes, all_after, all_before, generated, made_asker as made_asker_of, summary_after, summary_line, summary_under};
+ghost use Rattle.ps_commands.specs.Generating.{CountsRows, Summarizes, all_after, all_before, generated, made_asker as made_asker_of, rest_text, summary_after, summary_under, totals_text};
 ghost use Rattle.ps_files.specs.ChangeFiles.{CanBeFed};
 ghost use Rattle.ps_files.specs.ReadingChanges.{HasCommitted};
 
 use crate::syncing::synced_rows;
 use ps_data::{Items, Memory, Text};
 use ps_definitions::Rules;
-use ps_files::{Compacted, Fault, compact_all, push_number, read_rules_file, write_transactions};
+use ps_files::{Compacted, Fault, compact_all, read_rules_file, write_transactions};
 use ps_gen::{make_input, make_rules};
 use ps_rows::Transaction;
 use ps_sql_eval::Asker;
@@ -70,41 +70,28 @@ fn add_up(reports: &[Compacted]) -> (u128, u128)
     (before, after)
 }
 
-// Adds the decimal text of a great number.
-fn push_great(alloc: Global, out: &mut Vec<u8>, number: u128) -> Result<(), Memory>
-    ensures { OnOk result (out.new.items ≡ out.old.items ++ decimal number) }
-{
-    let digits = format!(in alloc; "{number}")?;
-    out.extend_from_slice(digits.as_str().as_bytes())?;
-    Ok(())
-}
-
-// Prints the summary: docs/FORMATS.md, "Made input".
+// Prints the summary, with the sums of the reports: docs/FORMATS.md, "Made input".
 fn print_line(
     alloc: Global,
     totals: &Totals,
     rows: usize,
-    reports: &[Compacted],
+    before: u128,
+    after: u128,
 ) -> Result<Vec<u8>, Memory>
-    ensures { IfOk result (λ text. text.items ≡ summary_line totals.now rows reports.now) }
+    ensures { IfOk result (λ text. text.items ≡ totals_text totals.now ++ rest_text rows before after) }
 {
-    let (before, after) = add_up(reports);
-    let mut out = Vec::new(alloc);
-    out.extend_from_slice(b"transactions ")?;
-    push_number(alloc, &mut out, totals.transactions)?;
-    out.extend_from_slice(b" changes ")?;
-    push_great(alloc, &mut out, totals.changes)?;
-    out.extend_from_slice(b" operations ")?;
-    push_number(alloc, &mut out, totals.operations)?;
-    out.extend_from_slice(b" buckets ")?;
-    push_number(alloc, &mut out, totals.buckets)?;
-    out.extend_from_slice(b" rows ")?;
-    push_number(alloc, &mut out, rows as u64)?;
-    out.extend_from_slice(b" before ")?;
-    push_great(alloc, &mut out, before)?;
-    out.extend_from_slice(b" after ")?;
-    push_great(alloc, &mut out, after)?;
-    out.push(b'\n')?;
+    let Totals {
+        transactions,
+        changes,
+        operations,
+        buckets,
+        ..
+    } = *totals;
+    let mut out = format!(in alloc;
+        "transactions {transactions} changes {changes} operations {operations} buckets {buckets}"
+    )?.into_bytes();
+    let rest = format!(in alloc; " rows {rows} before {before} after {after}\n")?;
+    out.extend_from_slice(rest.as_str().as_bytes())?;
     Ok(out)
 }
 
@@ -120,7 +107,8 @@ fn summarize_store<'a>(alloc: Global, store: &mut Store) -> Result<Vec<u8>, Faul
         Err(fault) => return Err(fault),
     };
     let reports = compact_all(alloc, store)?;
-    Ok(print_line(alloc, &totals, rows, reports.as_slice())?)
+    let (before, after) = add_up(reports.as_slice());
+    Ok(print_line(alloc, &totals, rows, before, after)?)
 }
 
 // The summary of transactions under rules.

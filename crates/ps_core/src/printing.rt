@@ -12,12 +12,9 @@ fn push_row(alloc: Global, out: &mut Vec<u8>, row: &Shown) -> Result<(), Memory>
 {
     let kind = quoted(alloc, &row.kind)?;
     let id = quoted(alloc, &row.id)?;
-    out.extend_from_slice(kind.bytes())?;
-    out.push(b' ')?;
-    out.extend_from_slice(id.bytes())?;
-    out.push(b' ')?;
-    out.extend_from_slice(row.content.bytes())?;
-    out.push(b'\n')?;
+    let (kind, id, content) = (kind.as_str(), id.as_str(), row.content.as_str());
+    let line = format!(in alloc; "{kind} {id} {content}\n")?;
+    out.extend_from_slice(line.as_str().as_bytes())?;
     Ok(())
 }
 

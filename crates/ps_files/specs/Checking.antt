@@ -6,12 +6,14 @@ use Rattle.ps_definitions.specs.declared.warnings.WarningKind.{WarningKind}
 use Rattle.ps_definitions.specs.declared.warnings.WarningKind.TheVariants.{ClientParameters, NoData}
 use Rattle.ps_definitions.specs.RuleSets.{RuleSet}
 
+-- a name, and numbers of parameter queries and of data queries
+abbrev pub counted_line : (name : List ℕ) (parameters queries : ℕ) → List ℕ
+counted_line name parameters queries =
+    name ++ (codes " parameters " ++ (decimal parameters ++ (codes " queries " ++ (decimal queries ++ codes "\n"))))
+
 -- a definition, with how many parameter queries and data queries it has
 unfoldable pub definition_line : Definition → List ℕ
-definition_line definition =
-    codes "definition " ++ (definition.name
-    ++ (codes " parameters " ++ (decimal (length definition.parameters)
-    ++ (codes " queries " ++ (decimal (length definition.queries) ++ codes "\n")))))
+definition_line definition = codes "definition " ++ counted_line definition.name (length definition.parameters) (length definition.queries)
 
 abbrev pub kind_text : WarningKind → List ℕ
 kind_text ClientParameters = codes "client-parameters"

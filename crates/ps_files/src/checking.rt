@@ -1,31 +1,33 @@
-ghost use Rattle.std.specs.Prelude.{◌≡◌, ◌++◌, string_bytes, flat_map, codes, decimal, IfOk, OnOk};
-ghost use Rattle.ps_files.specs.Checking.{definition_line, warning_line, kind_text as kind_text_of, check_text};
+ghost use Rattle.std.specs.Prelude.{◌≡◌, ◌++◌, string_bytes, flat_map, codes, IfOk, OnOk};
+ghost use Rattle.ps_files.specs.Checking.{counted_line, definition_line, warning_line, kind_text as kind_text_of, check_text};
 
-use ps_data::Memory;
+use ps_data::{Memory, Text};
 use ps_definitions::{Definition, Rules, Warning, WarningKind};
 use std::alloc::Global;
 
-/// Adds the decimal text of a number.
-pub fn push_number(alloc: Global, out: &mut Vec<u8>, number: u64) -> Result<(), Memory>
-    ensures { OnOk result (out.new.items ≡ out.old.items ++ decimal number) }
+// Prints a name, and numbers of parameter queries and of data queries.
+fn push_counted(
+    alloc: Global,
+    out: &mut Vec<u8>,
+    name: &Text,
+    parameters: usize,
+    queries: usize,
+) -> Result<(), Memory>
+    ensures { OnOk result (out.new.items ≡ out.old.items ++ counted_line name.now parameters queries) }
 {
-    let digits = format!(in alloc; "{number}")?;
-    out.extend_from_slice(digits.as_str().as_bytes())?;
+    let name = name.as_str();
+    let line = format!(in alloc; "{name} parameters {parameters} queries {queries}\n")?;
+    out.extend_from_slice(line.as_str().as_bytes())?;
     Ok(())
 }
 
 // Prints a definition, with how many parameter queries and data queries it has.
-#[tactic(auto, unfolding(crate::specs::Checking::definition_line))]
 fn push_definition(alloc: Global, out: &mut Vec<u8>, definition: &Definition) -> Result<(), Memory>
     ensures { OnOk result (out.new.items ≡ out.old.items ++ definition_line definition.now) }
 {
+    let (parameters, queries) = (definition.parameters.len(), definition.queries.len());
     out.extend_from_slice(b"definition ")?;
-    out.extend_from_slice(definition.name.bytes())?;
-    out.extend_from_slice(b" parameters ")?;
-    push_number(alloc, out, definition.parameters.len() as u64)?;
-    out.extend_from_slice(b" queries ")?;
-    push_number(alloc, out, definition.queries.len() as u64)?;
-    out.push(b'\n')?;
+    push_counted(alloc, out, &definition.name, parameters, queries)?;
     Ok(())
 }
 
@@ -43,13 +45,10 @@ fn kind_text(kind: WarningKind) -> &'static str
 fn push_warning(alloc: Global, out: &mut Vec<u8>, warning: Warning) -> Result<(), Memory>
     ensures { OnOk result (out.new.items ≡ out.old.items ++ warning_line warning) }
 {
-    out.extend_from_slice(b"warning ")?;
-    push_number(alloc, out, u64::from(warning.line))?;
-    out.push(b':')?;
-    push_number(alloc, out, u64::from(warning.column))?;
-    out.push(b' ')?;
-    out.extend_from_slice(kind_text(warning.kind).as_bytes())?;
-    out.push(b'\n')?;
+    let Warning { line, column, kind } = warning;
+    let kind = kind_text(kind);
+    let line = format!(in alloc; "warning {line}:{column} {kind}\n")?;
+    out.extend_from_slice(line.as_str().as_bytes())?;
     Ok(())
 }
 

@@ -10,7 +10,6 @@ ghost use Rattle.ps_files.specs.Compacting.{CompactsOne, FindsReports, RefusesRe
 ghost use Rattle.ps_files.specs.Loading.{Loads};
 
 use crate::change_files::write_changes;
-use crate::checking::push_number;
 use crate::faults::Fault;
 use crate::loading::{FILE_LIMIT, load};
 use ps_compact::Report;
@@ -58,19 +57,21 @@ pub fn compact_all(alloc: Global, store: &mut Store) -> Result<Items<Compacted>,
 }
 
 // Prints a report.
+#[tactic(auto, unfolding(crate::specs::Compacting::report_line))]
 fn push_report(alloc: Global, out: &mut Vec<u8>, compacted: &Compacted) -> Result<(), Memory>
     ensures { OnOk result (out.new.items ≡ out.old.items ++ report_line compacted.now) }
 {
-    out.extend_from_slice(compacted.bucket.bytes())?;
-    out.extend_from_slice(b" moved ")?;
-    push_number(alloc, out, compacted.report.moved)?;
-    out.extend_from_slice(b" cleared ")?;
-    push_number(alloc, out, compacted.report.cleared)?;
-    out.extend_from_slice(b" before ")?;
-    push_number(alloc, out, compacted.report.before)?;
-    out.extend_from_slice(b" after ")?;
-    push_number(alloc, out, compacted.report.after)?;
-    out.push(b'\n')?;
+    let bucket = compacted.bucket.as_str();
+    let Report {
+        moved,
+        cleared,
+        before,
+        after,
+    } = compacted.report;
+    let line = format!(in alloc;
+        "{bucket} moved {moved} cleared {cleared} before {before} after {after}\n"
+    )?;
+    out.extend_from_slice(line.as_str().as_bytes())?;
     Ok(())
 }
 

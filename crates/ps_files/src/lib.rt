@@ -14,7 +14,7 @@ mod saying;
 mod signing;
 
 pub use change_files::{write_changes, write_transactions};
-pub use checking::{print_check, push_number};
+pub use checking::print_check;
 pub use compacting::{Compacted, compact_all, load_reports};
 pub use faults::{Fault, Limit, LineFault, RulesCause, ScriptCause};
 pub use loading::{FILE_LIMIT, RULES_LIMIT, load, load_asker, load_keys, load_rules};
