@@ -22,7 +22,7 @@ use Rattle.ps_sql.specs.declared.contexts.Step.TheVariants as steps
 use Rattle.ps_sql.specs.Words.{same_word}
 use Rattle.ps_sql.specs.Inputs.{Input, ◌>>=◌, next, second, third, fourth, here, past, is_mark, is_keyword, name_of, plain_name_of, same_mark, refusal, named_or, expect_mark, expect_keyword, expect_name}
 use Rattle.ps_sql.specs.Grammar.{Reader, allows_column, allows_qualifier, column, qualified, qualified_by, bucket, bucket_by, request, request_by, request_value, request_or, token_user, token_or, dotted, quoted_name, function_of, arity, more_arguments, arguments, called, call_by, named_value, plain_name, type_by, cast, keyword_value, negative_by, bracketed, mark_value, prime_by, prime, operator_at, null_test, is_same, step_by, step, go_on, more, chain, negation, is_arithmetic, whole, expr}
-use Rattle.ps_sql.specs.Queries.{own_name, own_output, output, item, items, outputs, nothing_listed, begins_clause, condition, behind_semicolon, finish, table_clause, scope_of, parameters_of, data_of, parameter_query, alias_by, alias, source, data_query}
+use Rattle.ps_sql.specs.Queries.{name_without_as, own_or, output_name, anywhere, name_anywhere, output_of, output, item, items, outputs, nothing_listed, begins_clause, condition, behind_semicolon, finish, table_clause, scope_of, parameters_of, data_of, parameter_query, alias_by, alias, source, data_query}
 
 abbrev pub CalmFault : SqlFault → Type 0
 CalmFault (faults.BadToken at) = ⊥
@@ -239,14 +239,22 @@ module _ (context : Context) where
   calm_expr limit zero input = calm_refusal input
   calm_expr limit (suc depth) input = calm_whole limit (expr context limit depth) (calm_expr limit depth) input
 
+module _ (context : Context) where
+  calm_output_name : (start : ℕ) (value : Expr) (rest : Input) → Calm (output_name context start value rest)
+  unfolding output_name
+  calm_output_name start value rest = calm_if (is_keyword keywords.As (next rest)) _ _ (calm_name (past 1 rest))
+      (calm_if (is_mark marks.Comma (next rest) || begins_clause rest) _ _ (by_name (name_without_as context value rest)) (calm_refusal rest)) where
+        by_name : (n : Option (List ℕ)) → Calm (own_or start rest n)
+        by_name None = tt
+        by_name (Some name) = tt
+
   calm_output : (limit : ℕ) (input : Input) → Calm (output context limit input)
-  unfolding output
-  calm_output limit input = calm_bind (expr context limit limit input) _ (calm_expr limit limit input)
-      (λ x. calm_if (is_keyword keywords.As (next x.1)) _ _ (calm_bind (expect_name (past 1 x.1)) _ (calm_name (past 1 x.1)) (λ n. tt))
-      (calm_if (is_mark marks.Comma (next x.1) || begins_clause x.1) _ _ (by_own x.0 x.1 (own_name x.0)) (calm_refusal x.1))) where
-        by_own : (e : Expr) (rest : Input) (n : Option (List ℕ)) → Calm (own_output input e rest n)
-        by_own e rest None = tt
-        by_own e rest (Some name) = tt
+  unfolding output name_anywhere
+  calm_output limit input = by_expr (expr context limit limit input) (calm_expr context limit limit input) where
+    by_expr : (m : Result (Expr × Input) SqlFault) → Calm m → Calm (output_of context limit input m)
+    by_expr (Ok x) calm = calm_bind (output_name context (here input) x.0 x.1) _ (calm_output_name (here input) x.0 x.1) (λ n. tt)
+    by_expr (Err fault) calm = calm_bind (name_anywhere context limit input) _
+        (calm_bind (expr (anywhere context) limit limit input) _ (calm_expr (anywhere context) limit limit input) (λ x. calm_output_name (here input) x.0 x.1)) (λ n. calm)
 
   calm_items : (limit turns : ℕ) (listed : Listed) (input : Input) → Calm (items turns context limit listed input)
   unfolding items item
@@ -263,7 +271,7 @@ module _ (context : Context) where
   calm_condition : (limit : ℕ) (input : Input) → Calm (condition context limit input)
   unfolding condition
   calm_condition limit input = calm_if (is_keyword keywords.Where (next input)) _ _
-      (calm_bind (expr context limit limit (past 1 input)) _ (calm_expr limit limit (past 1 input)) (λ x. tt)) tt
+      (calm_bind (expr context limit limit (past 1 input)) _ (calm_expr context limit limit (past 1 input)) (λ x. tt)) tt
 
 calm_finish : (input : Input) → Calm (finish input)
 unfolding finish

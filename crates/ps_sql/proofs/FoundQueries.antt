@@ -1,6 +1,6 @@
 -- What is read as a query is spelled so.
 use Rattle.std.proofs.Common.{◌≡◌, ℕ, zero, suc, Bool, true, false, cond, List, [], ◌∷◌, ◌++◌, drop, Option, Some, None, refl, sym, ap, subst, ◌∙◌, inl, inr, append_assoc}
-use Rattle.std.specs.Prelude.{Ok, ◌&&◌, ◌||◌, not, is_some}
+use Rattle.std.specs.Prelude.{Result, Err, Ok, ◌&&◌, ◌||◌, not, is_some}
 use Rattle.ps_sql.specs.declared.words.Word.TheVariants as words
 use Rattle.ps_sql.specs.declared.words.Keyword.TheVariants as keywords
 use Rattle.ps_sql.specs.declared.words.Mark.TheVariants as marks
@@ -9,18 +9,19 @@ use Rattle.ps_queries.specs.declared.expressions.Expr.{Expr}
 use Rattle.ps_queries.specs.declared.queries.Output.{Output}
 use Rattle.ps_queries.specs.declared.queries.ParameterQuery.{ParameterQuery}
 use Rattle.ps_queries.specs.declared.queries.DataQuery.{DataQuery}
+use Rattle.ps_sql.specs.declared.faults.SqlFault.{SqlFault}
 use Rattle.ps_sql.specs.declared.contexts.Scope.TheVariants as scopes
 use Rattle.ps_sql.specs.declared.contexts.Context.{Context}
 use Rattle.ps_sql.specs.declared.contexts.Listed.{Listed}
 use Rattle.ps_sql.specs.declared.contexts.Source.{Source}
-use Rattle.ps_sql.specs.Inputs.{Input, first_word, next, past, is_mark, is_keyword, name_of, name_in, refusal, named_or, expect_keyword, expect_name}
+use Rattle.ps_sql.specs.Inputs.{Input, first_word, next, here, past, is_mark, is_keyword, name_of, name_in, refusal, named_or, expect_keyword, expect_name}
 use Rattle.ps_sql.specs.Grammar.{expr}
-use Rattle.ps_sql.specs.Queries.{own_name, begins_clause, own_output, output, item, items, outputs, nothing_listed, condition, behind_semicolon, finish, table_clause, scope_of, parameters_of, data_of, parameter_query, alias_by, alias, source, data_query}
+use Rattle.ps_sql.specs.Queries.{own_name, name_or_any, own_or, ends_without_table, output_name, name_anywhere, output_of, begins_clause, output, item, items, outputs, nothing_listed, condition, behind_semicolon, finish, table_clause, scope_of, parameters_of, data_of, parameter_query, alias_by, alias, source, data_query}
 use Rattle.ps_sql.specs.Spelled.{expression}
 use Rattle.ps_sql.specs.SpelledQueries.{IsOutput, named, own, IsItem, star, output as output_item, AreItems, last, further, AreOutputs, no_outputs, outputs as outputs_listed, IsCondition, no_condition, filter, IsEnd, nothing, semicolon, IsTable, no_table, table, IsSource, itself, alias as alias_alone, alias_with_as, IsParameterQuery, IsDataQuery}
 use Rattle.ps_sql.proofs.Cuts.{chosen}
 use Rattle.ps_sql.proofs.WordLaws.{and_both}
-use Rattle.ps_sql.proofs.Scopes.{outputs_any}
+use Rattle.ps_sql.proofs.Scopes.{never_ok, outputs_any}
 use Rattle.ps_sql.proofs.Found.{front_mark, front_keyword, bind_ok, same_ok, ok_pair, expected_keyword, expr_found, Consumed}
 
 -- a name at the front
@@ -51,35 +52,39 @@ record Took {X : Type 0} (IsIt : List Lexeme → X → Type 0) (input : Input) (
   left : input.left ≡ consumed ++ rest.left
   is : IsIt consumed x
 
-module _ (context : Context) (limit : ℕ) where
+module _ (context : Context) (limit : ℕ) (settled : (rest : Input) → ends_without_table context rest ≡ false) where
   output_found : (input : Input) (o : Output) (rest : Input) → output context limit input ≡ Ok (o, rest) → Took (IsOutput context) input o rest
-  unfolding output
-  output_found input o rest found =
-      let b = bind_ok (expr context limit limit input) _ (o, rest) found in
-      let c = expr_found context limit limit input b.0.0 b.0.1 b.1 in
-      elim (chosen (is_keyword keywords.As (next b.0.1)) _ _ _ b.2) [
-        | inl p ↦
-            let f = front_keyword b.0.1.left keywords.As p.0 in
-            let n = bind_ok (expect_name (past 1 b.0.1)) _ (o, rest) p.1 in
-            let x = expected_name (past 1 b.0.1) n.0.0 n.0.1 n.1 in
-            let behind : b.0.1.left ≡ f.lexeme ∷ x.0 ∷ rest.left = f.is ∙ ap (λ xs. f.lexeme ∷ xs) (sym (ap (λ xs. drop 1 xs) f.is) ∙ x.2 ∙ ap (λ r. x.0 ∷ r.left) (ok_pair n.2).1) in
-            record {
-              consumed = c.consumed ++ f.lexeme ∷ x.0 ∷ [];
-              left = c.left ∙ ap (λ xs. c.consumed ++ xs) behind ∙ sym (append_assoc c.consumed (f.lexeme ∷ x.0 ∷ []) rest.left);
-              is = subst (λ v. IsOutput context (c.consumed ++ f.lexeme ∷ x.0 ∷ []) v) (ok_pair n.2).0 (named f.lexeme x.0 c.spelled f.word x.1);
-            }
-        | inr p ↦ elim (chosen (is_mark marks.Comma (next b.0.1) || begins_clause b.0.1) _ _ _ p.1) [
-          | inl q ↦ by_own b.0.0 b.0.1 c (own_name b.0.0) refl q.1
-          | inr q ↦ absurd (cc (q.1))
+  unfolding output output_name
+  output_found input o rest found = by_expr (expr context limit limit input) refl found where
+    by_own : (e : Expr) (middle : Input) (n : List ℕ × Input) → Consumed context expression input e middle → (own_is : Option (List ℕ)) → own_name e ≡ own_is
+        → own_or (here input) middle (name_or_any own_is false) ≡ Ok n → ◌≡◌ {A = Result (Output × Input) SqlFault} (Ok (record { name = n.0; expr = e }, n.1)) (Ok (o, rest)) → Took (IsOutput context) input o rest
+    by_own e middle n c None absent found made = absurd (cc)
+    by_own e middle n c (Some name) there found made = record {
+      consumed = c.consumed;
+      left = c.left ∙ ap (λ (r : Input). c.consumed ++ r.left) (ap (λ (p : List ℕ × Input). p.1) (same_ok found) ∙ (ok_pair made).1);
+      is = subst (λ v. IsOutput context c.consumed v) (ap (λ (p : List ℕ × Input). record { name = p.0; expr = e }) (same_ok found) ∙ (ok_pair made).0) (own c.spelled there);
+    }
+
+    by_expr : (m : Result (Expr × Input) SqlFault) → expr context limit limit input ≡ m → output_of context limit input m ≡ Ok (o, rest) → Took (IsOutput context) input o rest
+    by_expr (Err fault) is found = absurd (never_ok (name_anywhere context limit input) fault (o, rest) found)
+    by_expr (Ok x) is found =
+        let n = bind_ok (output_name context (here input) x.0 x.1) _ (o, rest) found in
+        let c = expr_found context limit limit input x.0 x.1 is in
+        elim (chosen (is_keyword keywords.As (next x.1)) _ _ _ n.1) [
+          | inl p ↦
+              let f = front_keyword x.1.left keywords.As p.0 in
+              let y = expected_name (past 1 x.1) n.0.0 n.0.1 p.1 in
+              let behind : x.1.left ≡ f.lexeme ∷ y.0 ∷ rest.left = f.is ∙ ap (λ xs. f.lexeme ∷ xs) (sym (ap (λ xs. drop 1 xs) f.is) ∙ y.2 ∙ ap (λ r. y.0 ∷ r.left) (ok_pair n.2).1) in
+              record {
+                consumed = c.consumed ++ f.lexeme ∷ y.0 ∷ [];
+                left = c.left ∙ ap (λ xs. c.consumed ++ xs) behind ∙ sym (append_assoc c.consumed (f.lexeme ∷ y.0 ∷ []) rest.left);
+                is = subst (λ v. IsOutput context (c.consumed ++ f.lexeme ∷ y.0 ∷ []) v) (ok_pair n.2).0 (named f.lexeme y.0 c.spelled f.word y.1);
+              }
+          | inr p ↦ elim (chosen (is_mark marks.Comma (next x.1) || begins_clause x.1) _ _ _ p.1) [
+            | inl q ↦ by_own x.0 x.1 n.0 c (own_name x.0) refl (ap (λ v. own_or (here input) x.1 (name_or_any (own_name x.0) v)) (sym (settled x.1)) ∙ q.1) n.2
+            | inr q ↦ absurd (cc (q.1))
+          ]
         ]
-      ] where
-        by_own : (e : Expr) (middle : Input) → Consumed context expression input e middle → (n : Option (List ℕ)) → own_name e ≡ n → own_output input e middle n ≡ Ok (o, rest) → Took (IsOutput context) input o rest
-        by_own e middle c None absent found = absurd (cc)
-        by_own e middle c (Some name) there found = record {
-          consumed = c.consumed;
-          left = c.left ∙ ap (λ r. c.consumed ++ r.left) (ok_pair found).1;
-          is = subst (λ v. IsOutput context c.consumed v) (ok_pair found).0 (own c.spelled there);
-        }
 
   not_is : (v : Bool) → not v ≡ true → v ≡ false
   not_is true e = absurd (cc)
@@ -142,6 +147,7 @@ module _ (context : Context) (limit : ℕ) where
         record { consumed = t.consumed; left = t.left; is = outputs_listed t.is }
   ]
 
+module _ (context : Context) (limit : ℕ) where
   condition_found : (input : Input) (o : Option Expr) (rest : Input) → condition context limit input ≡ Ok (o, rest) → Took (IsCondition context) input o rest
   unfolding condition
   condition_found input o rest found = elim (chosen (is_keyword keywords.Where (next input)) _ _ _ found) [
@@ -226,6 +232,15 @@ source_found input s rest found =
             is = subst (λ v. IsSource (from ∷ x ∷ y.lexeme ∷ []) v) (ok_pair found).0 (alias_alone from x y.lexeme from_is named_is y.name_is);
           }
 
+settled_parameters : (table : Option (List ℕ)) (rest : Input) → ends_without_table (parameters_of (scope_of table)) rest ≡ false
+unfolding ends_without_table
+settled_parameters None rest = refl
+settled_parameters (Some name) rest = refl
+
+settled_data : (kind : List ℕ) (rest : Input) → ends_without_table (data_of (scopes.Of kind)) rest ≡ false
+unfolding ends_without_table
+settled_data kind rest = refl
+
 -- what is read as a parameter query is spelled so
 pub parameter_query_found : (limit : ℕ) (input : Input) (query : ParameterQuery) → parameter_query limit input ≡ Ok query → IsParameterQuery input.left query
 unfolding parameter_query
@@ -236,7 +251,7 @@ parameter_query_found limit input query found =
     let t = bind_ok (table_clause a.0.1) _ query a.2 in
     let b = table_found a.0.1 t.0.0 t.0.1 t.1 in
     let l = bind_ok (outputs (parameters_of (scope_of t.0.0)) limit s.0) _ query t.2 in
-    let o = outputs_found (parameters_of (scope_of t.0.0)) limit s.0 l.0.0 l.0.1 l.1 in
+    let o = outputs_found (parameters_of (scope_of t.0.0)) limit (settled_parameters t.0.0) s.0 l.0.0 l.0.1 l.1 in
     let same : ◌≡◌ {A = Listed × Input} a.0 l.0 = same_ok (sym a.1 ∙ outputs_any false (scope_of t.0.0) limit s.0 l.0 l.1) in
     let w = bind_ok (condition (parameters_of (scope_of t.0.0)) limit t.0.1) _ query l.2 in
     let c = condition_found (parameters_of (scope_of t.0.0)) limit t.0.1 w.0.0 w.0.1 w.1 in
@@ -268,7 +283,7 @@ data_query_found limit input query found =
     let b = source_found a.0.1 t.0.0 t.0.1 t.1 in
     let context : Context = data_of (scopes.Of t.0.0.kind) in
     let l = bind_ok (outputs context limit s.0) _ query t.2 in
-    let o = outputs_found context limit s.0 l.0.0 l.0.1 l.1 in
+    let o = outputs_found context limit (settled_data t.0.0.kind) s.0 l.0.0 l.0.1 l.1 in
     let same : ◌≡◌ {A = Listed × Input} a.0 l.0 = same_ok (sym a.1 ∙ outputs_any true (scopes.Of t.0.0.kind) limit s.0 l.0 l.1) in
     let w = bind_ok (condition context limit t.0.1) _ query l.2 in
     let c = condition_found context limit t.0.1 w.0.0 w.0.1 w.1 in

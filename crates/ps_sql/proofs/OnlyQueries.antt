@@ -15,9 +15,9 @@ use Rattle.ps_sql.specs.declared.contexts.Scope.TheVariants as scopes
 use Rattle.ps_sql.specs.declared.contexts.Context.{Context}
 use Rattle.ps_sql.specs.declared.contexts.Listed.{Listed}
 use Rattle.ps_sql.specs.declared.contexts.Source.{Source}
-use Rattle.ps_sql.specs.Inputs.{Input, first_word, next, is_mark, is_keyword, name_of, name_in, refusal, named_or, expect_keyword, expect_name}
+use Rattle.ps_sql.specs.Inputs.{Input, first_word, next, here, is_mark, is_keyword, name_of, name_in, refusal, named_or, expect_keyword, expect_name}
 use Rattle.ps_sql.specs.Grammar.{is_arithmetic, expr}
-use Rattle.ps_sql.specs.Queries.{begins_clause, own_output, output, item, items, outputs, nothing_listed, condition, finish, table_clause, scope_of, parameters_of, data_of, parameter_query, alias_by, alias, source, data_query}
+use Rattle.ps_sql.specs.Queries.{begins_clause, name_or_any, own_or, ends_without_table, output_name, output_of, output, item, items, outputs, nothing_listed, condition, finish, table_clause, scope_of, parameters_of, data_of, parameter_query, alias_by, alias, source, data_query}
 use Rattle.ps_sql.specs.SpelledQueries.{IsOutput, named, own, IsItem, star, output as output_item, AreItems, last, further, AreOutputs, no_outputs, outputs as outputs_listed, IsCondition, no_condition, filter, IsEnd, nothing, semicolon, IsTable, no_table, table, IsSource, itself, alias as alias_alone, alias_with_as, IsParameterQuery, IsDataQuery}
 use Rattle.ps_sql.proofs.LexemeLaws.{or_either}
 use Rattle.ps_sql.proofs.Scopes.{outputs_any}
@@ -115,18 +115,20 @@ name_reads x name rest e = ap (named_or (refusal (ahead (x ∷ []) rest)) (ahead
 
 module _ (context : Context) (limit : ℕ) where
   output_reads : (xs : List Lexeme) (o : Output) → IsOutput context xs o → length xs ≤ limit → (rest : Input) → ends_output (next rest) ≡ true → output context limit (ahead xs rest) ≡ Ok (o, rest)
-  unfolding output
+  unfolding output output_name
   output_reads xs o (named {xs = ys} {e = e} {name = name} behind x s as_is name_is) small rest end =
       let tail = ahead (behind ∷ x ∷ []) rest in
       let short = left_part ys (behind ∷ x ∷ []) limit small in
-      bind_reads (expr context limit limit (ahead (ys ++ behind ∷ x ∷ []) rest)) _ (e, tail) _
+      let input = ahead (ys ++ behind ∷ x ∷ []) rest in
+      ap (output_of context limit input)
       (ap (expr context limit limit) (ahead_twice ys (behind ∷ x ∷ []) rest) ∙ expr_reads context limit limit ys e s short short tail (ends_word behind.word _ as_is ends_as))
-      (test_true (is_keyword keywords.As (Some behind.word)) _ _ (keyword_there keywords.As keywords.As behind.word as_is)
-      ∙ bind_reads (expect_name (ahead (x ∷ []) rest)) _ (name, rest) _ (name_reads x name rest name_is) refl)
+      ∙ bind_reads (output_name context (here input) e tail) _ (name, rest) _
+      (test_true (is_keyword keywords.As (Some behind.word)) _ _ (keyword_there keywords.As keywords.As behind.word as_is) ∙ name_reads x name rest name_is) refl
   output_reads xs o (own {e = e} {name = name} s own_is) small rest end =
-      bind_reads (expr context limit limit (ahead xs rest)) _ (e, rest) _ (expr_reads context limit limit xs e s small small rest (output_ends (next rest) end))
-      (test_false (is_keyword keywords.As (next rest)) _ _ (no_as (next rest) end)
-      ∙ test_true (is_mark marks.Comma (next rest) || begins_clause rest) _ _ (clause_or rest end) ∙ ap (own_output (ahead xs rest) e rest) own_is)
+      ap (output_of context limit (ahead xs rest)) (expr_reads context limit limit xs e s small small rest (output_ends (next rest) end))
+      ∙ bind_reads (output_name context (here (ahead xs rest)) e rest) _ (name, rest) _
+      (test_false (is_keyword keywords.As (next rest)) _ _ (no_as (next rest) end) ∙ test_true (is_mark marks.Comma (next rest) || begins_clause rest) _ _ (clause_or rest end)
+      ∙ ap (λ own. own_or (here (ahead xs rest)) rest (name_or_any own (ends_without_table context rest))) own_is) refl
 
   -- how an item begins
   record ItemBegins (xs : List Lexeme) : Type 0 where

@@ -1,16 +1,14 @@
 -- The turns of the reading of outputs.
-use Rattle.std.proofs.Common.{◌≡◌, ℕ, zero, suc, ◌-◌, ◌<◌, Bool, true, false, cond, List, length, Option, Some, None, refl, ap, sym, ◌∙◌, subst, arith}
-use Rattle.std.specs.Prelude.{Result, Ok, Err, OnOk, IfOk, ◌||◌, if◌then◌else◌}
+use Rattle.std.proofs.Common.{◌≡◌, ℕ, zero, suc, ◌-◌, ◌<◌, true, false, cond, List, length, refl, ap, sym, ◌∙◌, subst, arith}
+use Rattle.std.specs.Prelude.{Result, Ok, Err, OnOk, IfOk, if◌then◌else◌}
 use Rattle.ps_sql.specs.declared.words.Mark.TheVariants as marks
 use Rattle.ps_sql.specs.declared.contexts.Context.{Context}
 use Rattle.ps_sql.specs.declared.contexts.Listed.{Listed}
 use Rattle.ps_sql.specs.declared.contexts.Body.{Body}
 use Rattle.ps_sql.specs.declared.contexts.Scope.TheVariants as scopes
 use Rattle.ps_sql.specs.declared.words.Keyword.TheVariants as keywords
-use Rattle.ps_queries.specs.declared.expressions.Expr.{Expr}
-use Rattle.ps_sql.specs.Grammar.{expr}
-use Rattle.ps_sql.specs.Inputs.{Input, ◌>>=◌, next, here, past, is_mark, is_keyword, refusal, expect_keyword, expect_name}
-use Rattle.ps_sql.specs.Queries.{own_name, begins_clause, own_output, own_or, output_name, output, item, items, outputs, condition, finish, ending, body, parameters_of, scope_of, table_clause, data_of, source, parameter_query, data_query}
+use Rattle.ps_sql.specs.Inputs.{Input, ◌>>=◌, next, past, is_mark, refusal, expect_keyword}
+use Rattle.ps_sql.specs.Queries.{item, items, outputs, condition, finish, ending, body, parameters_of, scope_of, table_clause, data_of, source, parameter_query, data_query}
 use Rattle.ps_sql.specs.SpelledQueries.{IsParameterQuery, IsDataQuery}
 use Rattle.ps_queries.specs.declared.queries.ParameterQuery.{ParameterQuery}
 use Rattle.ps_queries.specs.declared.queries.DataQuery.{DataQuery}
@@ -71,20 +69,6 @@ pub items_fail : (turns : ℕ) (context : Context) (limit : ℕ) (listed : Liste
     → meant ≡ items turns context limit listed input → 0 < turns → Fails fault (item context limit listed input) → Fails fault meant
 items_fail turns context limit listed input fault meant same some fails =
     subst (Fails fault) (sym (same ∙ items_turn turns context limit listed input some)) (fails_on fault (item context limit listed input) _ fails)
-
--- an output, by the reading of its name
-pub output_parts : (context : Context) (limit : ℕ) (input : Input)
-    → output context limit input ≡ (expr context limit limit input >>= λ x. output_name (here input) x.0 x.1 >>= λ name. Ok (record { name = name.0; expr = x.0 }, name.1))
-unfolding output output_name
-output_parts context limit input = same_steps (expr context limit limit input) _ _
-    (λ x. by_tests (is_keyword keywords.As (next x.1)) (is_mark marks.Comma (next x.1) || begins_clause x.1) x.0 x.1 (own_name x.0)) where
-      by_tests : (b c : Bool) (value : Expr) (rest : Input) (own : Option (List ℕ))
-          → cond b (expect_name (past 1 rest) >>= λ name. Ok (record { name = name.0; expr = value }, name.1)) (cond c (own_output input value rest own) (Err (refusal rest)))
-          ≡ (cond b (expect_name (past 1 rest)) (cond c (own_or (here input) rest own) (Err (refusal rest))) >>= λ name. Ok (record { name = name.0; expr = value }, name.1))
-      by_tests true c value rest own = refl
-      by_tests false true value rest None = refl
-      by_tests false true value rest (Some name) = refl
-      by_tests false false value rest own = refl
 
 -- a query's last three steps, as one
 body_then : {X : Type 0} (context : Context) (limit : ℕ) (start input : Input) (build : Body → X)

@@ -1,6 +1,6 @@
 -- What is read with a table known is read the same with none known.
 use Rattle.std.proofs.Common.{◌≡◌, ℕ, zero, suc, Bool, true, false, cond, List, [], ◌∷◌, ◌++◌, Option, Some, None, refl, ap, ◌∙◌}
-use Rattle.std.specs.Prelude.{Result, Ok, Err, ◌&&◌, not, bytes_eq, codes}
+use Rattle.std.specs.Prelude.{Result, Ok, Err, ◌&&◌, ◌||◌, not, bytes_eq, codes}
 use Rattle.ps_sql.specs.declared.words.Word.{Word}
 use Rattle.ps_sql.specs.declared.words.Word.TheVariants as words
 use Rattle.ps_sql.specs.declared.words.Keyword.{Keyword}
@@ -24,7 +24,7 @@ use Rattle.ps_sql.specs.declared.contexts.Step.{Step}
 use Rattle.ps_sql.specs.declared.contexts.Step.TheVariants as steps
 use Rattle.ps_sql.specs.Inputs.{Input, ◌>>=◌, next, second, third, fourth, here, past, is_mark, is_keyword, name_of, plain_name_of, same_mark, expect_mark, expect_keyword}
 use Rattle.ps_sql.specs.Grammar.{Reader, allows_column, allows_qualifier, column, qualified, qualified_by, bucket, request, request_or, token_user, token_or, dotted, quoted_name, function_of, more_arguments, arguments, called, call_by, named_value, plain_name, type_by, cast, keyword_value, bracketed, mark_value, prime_by, prime, operator_at, is_same, step_by, step, go_on, more, chain, negation, whole, expr}
-use Rattle.ps_sql.specs.Queries.{output, item, items, outputs, nothing_listed, begins_clause}
+use Rattle.ps_sql.specs.Queries.{own_name, name_or_any, own_or, ends_without_table, output_name, name_anywhere, output_of, output, item, items, outputs, nothing_listed, begins_clause}
 
 if_both : {A : Type 0} (b : Bool) (y z y' z' : Result A SqlFault) (x : A) → (y ≡ Ok x → y' ≡ Ok x) → (z ≡ Ok x → z' ≡ Ok x) → cond b y z ≡ Ok x → cond b y' z' ≡ Ok x
 if_both true y z y' z' x f g e = f e
@@ -34,6 +34,11 @@ bind_both : {A B : Type 0} (m m' : Result A SqlFault) (f f' : A → Result B Sql
     → (m >>= f) ≡ Ok y → (m' >>= f') ≡ Ok y
 bind_both (Ok x) m' f f' y g h e = ap (λ r. r >>= f') (g x refl) ∙ h x e
 bind_both (Err fault) m' f f' y g h e = absurd (cc)
+
+-- nothing is read behind a fault
+pub never_ok : {A B : Type 0} (m : Result A SqlFault) (fault : SqlFault) (y : B) → (m >>= λ x. Err fault) ≡ Ok y → ⊥
+never_ok (Ok x) fault y e = cc
+never_ok (Err other) fault y e = cc
 
 -- what one reader reads, the other reads
 Follows : Reader → Reader → Type 0
@@ -208,9 +213,24 @@ module _ (is_data : Bool) (scope : Scope) where
   expr_any limit zero input x e = e
   expr_any limit (suc depth) input x e = whole_any limit _ _ (expr_any limit depth) input x e
 
+  name_any : (start : ℕ) (value : Expr) (rest : Input) (x : List ℕ × Input) → output_name known start value rest ≡ Ok x → output_name any start value rest ≡ Ok x
+  unfolding output_name ends_without_table known any
+  name_any start value rest x e =
+      if_both (is_keyword keywords.As (next rest)) _ _ _ _ x (λ e. e) (if_both (is_mark marks.Comma (next rest) || begins_clause rest) _ _ _ _ x (by_name (own_name value) scope) (λ e. e)) e where
+        by_name : (own : Option (List ℕ)) (s : Scope) → own_or start rest (name_or_any own (ends_without_table (record { is_data = is_data; scope = s }) rest)) ≡ Ok x
+            → own_or start rest (name_or_any own (ends_without_table any rest)) ≡ Ok x
+        by_name (Some name) s e = e
+        by_name None scopes.Any e = e
+        by_name None scopes.NoTable e = absurd (cc)
+        by_name None (scopes.Of name) e = absurd (cc)
+
   output_any : (limit : ℕ) (input : Input) (x : Output × Input) → output known limit input ≡ Ok x → output any limit input ≡ Ok x
   unfolding Follows output
-  output_any limit input x e = bind_both _ _ _ _ x (expr_any limit limit input) (λ y e. e) e
+  output_any limit input x e = by_expr (expr known limit limit input) refl e where
+    by_expr : (m : Result (Expr × Input) SqlFault) → expr known limit limit input ≡ m → output_of known limit input m ≡ Ok x → output_of any limit input (expr any limit limit input) ≡ Ok x
+    by_expr (Ok y) is e = ap (output_of any limit input) (expr_any limit limit input y is)
+        ∙ bind_both (output_name known (here input) y.0 y.1) (output_name any (here input) y.0 y.1) _ _ x (name_any (here input) y.0 y.1) (λ n e. e) e
+    by_expr (Err fault) is e = absurd (never_ok (name_anywhere known limit input) fault x e)
 
   item_any : (limit : ℕ) (listed : Listed) (input : Input) (x : Listed × Input) → item known limit listed input ≡ Ok x → item any limit listed input ≡ Ok x
   unfolding item known any

@@ -28,25 +28,48 @@ own_name _ = None
 unfoldable pub begins_clause : Input → Bool
 begins_clause input = (is_keyword keywords.From (next input) || is_keyword keywords.Where (next input)) || (is_mark marks.Semicolon (next input) || not (is_some (next input)))
 
-abbrev pub own_output : Input → Expr → Input → Option (List ℕ) → Result (Output × Input) SqlFault
-own_output start value rest None = Err (faults.Unsupported (here start))
-own_output start value rest (Some name) = Ok (record { name = name; expr = value }, rest)
+abbrev pub is_unknown : Scope → Bool
+is_unknown scopes.Any = true
+is_unknown scopes.NoTable = false
+is_unknown (scopes.Of name) = false
 
--- an output without AS is judged where one may end
-unfoldable pub output : Context → ℕ → Input → Result (Output × Input) SqlFault
-output context limit input = do
-  x ← expr context limit limit input
-  if is_keyword keywords.As (next x.1) then (expect_name (past 1 x.1) >>= λ name. Ok (record { name = name.0; expr = x.0 }, name.1))
-      else (if is_mark marks.Comma (next x.1) || begins_clause x.1 then own_output input x.0 x.1 (own_name x.0) else Err (refusal x.1))
+-- the outputs of a parameter query end, and it is new that no table comes
+unfoldable pub ends_without_table : Context → Input → Bool
+ends_without_table context rest = (is_unknown context.scope && not context.is_data) && (begins_clause rest && not (is_keyword keywords.From (next rest)))
+
+abbrev pub name_or_any : Option (List ℕ) → Bool → Option (List ℕ)
+name_or_any (Some name) is_read_again = Some name
+name_or_any None true = Some []
+name_or_any None false = None
+
+-- The name of an output without AS. Where it is new that no table comes the outputs are read again, and any name will do until then: a
+-- column among them is refused before an output that has no name, since it stands before it.
+abbrev pub name_without_as : Context → Expr → Input → Option (List ℕ)
+name_without_as context value rest = name_or_any (own_name value) (ends_without_table context rest)
 
 abbrev pub own_or : ℕ → Input → Option (List ℕ) → Result (List ℕ × Input) SqlFault
 own_or start rest None = Err (faults.Unsupported start)
 own_or start rest (Some name) = Ok (name, rest)
 
--- the name of an output that begins at a place, from what stands behind its expression
-unfoldable pub output_name : ℕ → Expr → Input → Result (List ℕ × Input) SqlFault
-output_name start value rest = if is_keyword keywords.As (next rest) then expect_name (past 1 rest)
-    else (if is_mark marks.Comma (next rest) || begins_clause rest then own_or start rest (own_name value) else Err (refusal rest))
+-- The name of an output that begins at a place, from what stands behind its expression. One without AS is judged where an output may end.
+unfoldable pub output_name : Context → ℕ → Expr → Input → Result (List ℕ × Input) SqlFault
+output_name context start value rest = if is_keyword keywords.As (next rest) then expect_name (past 1 rest)
+    else (if is_mark marks.Comma (next rest) || begins_clause rest then own_or start rest (name_without_as context value rest) else Err (refusal rest))
+
+abbrev pub anywhere : Context → Context
+anywhere context = record { is_data = context.is_data; scope = scopes.Any }
+
+-- the name of an output, whatever its columns may be
+unfoldable pub name_anywhere : Context → ℕ → Input → Result (List ℕ × Input) SqlFault
+name_anywhere context limit input = expr (anywhere context) limit limit input >>= λ x. output_name context (here input) x.0 x.1
+
+-- an output that has no name is refused before a column inside of it
+abbrev pub output_of : Context → ℕ → Input → Result (Expr × Input) SqlFault → Result (Output × Input) SqlFault
+output_of context limit input (Ok x) = output_name context (here input) x.0 x.1 >>= λ name. Ok (record { name = name.0; expr = x.0 }, name.1)
+output_of context limit input (Err fault) = name_anywhere context limit input >>= λ name. Err fault
+
+unfoldable pub output : Context → ℕ → Input → Result (Output × Input) SqlFault
+output context limit input = output_of context limit input (expr context limit limit input)
 
 -- an output behind those that were read, or the one `*` of a data query
 unfoldable pub item : Context → ℕ → Listed → Input → Result (Listed × Input) SqlFault

@@ -6,7 +6,7 @@ ghost use Rattle.ps_sql.specs.SpelledQueries.{IsDataQuery, IsParameterQuery};
 ghost use Rattle.ps_sql.specs.Inputs.{next};
 ghost use Rattle.ps_sql.specs.Lexemes.{AreLexemes, Stops};
 ghost use Rattle.ps_sql.specs.Readings.{parameter_query_of, data_query_of};
-ghost use Rattle.ps_sql.specs.Queries.{alias, begins_clause, body, condition, data_of, data_query, ending, finish, item, items, nothing_listed, output, output_name, outputs, own_name, parameter_query, parameters_of, scope_of, source, table_clause};
+ghost use Rattle.ps_sql.specs.Queries.{alias, begins_clause, body, condition, data_of, data_query, ending, ends_without_table, finish, item, items, name_anywhere, nothing_listed, output, output_name, outputs, own_name, parameter_query, parameters_of, scope_of, source, table_clause};
 
 use crate::contexts::{Body, Context, Listed, Scope, Source};
 use crate::cursors::Cursor;
@@ -37,15 +37,29 @@ fn own_name_of(alloc: Global, value: &Expr) -> Result<Option<Text>, Memory>
     }
 }
 
-/// The name of an output that begins at `start`: what AS gives it, or its own.
+/// Whether the outputs of a parameter query end here, and it is new that no table comes.
+#[tactic(auto, unfolding(crate::specs::Queries::ends_without_table))]
+fn ends_without_table(context: &Context, cursor: &Cursor<'_>) -> bool
+    ensures { result ≡ ends_without_table context.now cursor.now }
+{
+    let is_unknown = match context.scope {
+        Scope::Any => true,
+        Scope::NoTable | Scope::Of(_) => false,
+    };
+    (is_unknown && !context.is_data)
+        && (is_clause_next(cursor) && !cursor.is_keyword(0, Keyword::From))
+}
+
+/// The name of an output that begins at `start`: what AS gives it, or its own, or any where the outputs are to be read again.
 #[tactic(auto, unfolding(crate::specs::Queries::output_name))]
 fn output_name(
     alloc: Global,
+    context: &Context,
     start: u32,
     value: &Expr,
     cursor: &mut Cursor<'_>,
 ) -> Result<Text, SqlFault>
-    ensures { ReadsOn result cursor.new (output_name start value.now cursor.old) }
+    ensures { ReadsOn result cursor.new (output_name context.now start value.now cursor.old) }
 {
     if cursor.is_keyword(0, Keyword::As) {
         cursor.skip(1);
@@ -54,14 +68,36 @@ fn output_name(
     if !(cursor.is_mark(0, Mark::Comma) || is_clause_next(cursor)) {
         return Err(cursor.refusal());
     }
-    match own_name_of(alloc, value)? {
-        Some(name) => Ok(name),
-        None => Err(SqlFault::Unsupported { at: start }),
+    if let Some(name) = own_name_of(alloc, value)? {
+        return Ok(name);
     }
+    if ends_without_table(context, cursor) {
+        return Ok(Text::from_string(String::new(alloc)));
+    }
+    Err(SqlFault::Unsupported { at: start })
 }
 
-/// An output, with its name.
-#[tactic(auto, using(crate::proofs::QueryLaws::output_parts))]
+/// The name of the output that comes next, whatever its columns may be.
+#[tactic(auto, unfolding(crate::specs::Queries::name_anywhere))]
+fn name_anywhere(
+    alloc: Global,
+    context: &Context,
+    limit: usize,
+    cursor: &mut Cursor<'_>,
+) -> Result<Text, SqlFault>
+    ensures { ReadsOn result cursor.new (name_anywhere context.now limit cursor.old) }
+{
+    let start = cursor.here();
+    let anywhere = Context {
+        is_data: context.is_data,
+        scope: Scope::Any,
+    };
+    let value = expr(alloc, &anywhere, limit, limit, cursor)?;
+    output_name(alloc, context, start, &value, cursor)
+}
+
+/// An output, with its name. One that has none is refused before a column inside of it.
+#[tactic(auto, unfolding(crate::specs::Queries::output))]
 fn output(
     alloc: Global,
     context: &Context,
@@ -71,9 +107,18 @@ fn output(
     ensures { ReadsOn result cursor.new (output context.now limit cursor.old) }
 {
     let start = cursor.here();
-    let value = expr(alloc, context, limit, limit, cursor)?;
-    let name = output_name(alloc, start, &value, cursor)?;
-    Ok(Output { name, expr: value })
+    let mut again = cursor.again();
+    match expr(alloc, context, limit, limit, cursor) {
+        Ok(value) => {
+            let name = output_name(alloc, context, start, &value, cursor)?;
+            Ok(Output { name, expr: value })
+        }
+        Err(SqlFault::Memory) => Err(SqlFault::Memory),
+        Err(fault) => {
+            name_anywhere(alloc, context, limit, &mut again)?;
+            Err(fault)
+        }
+    }
 }
 
 /// An output behind those that were read, or the one `*` of a data query.
