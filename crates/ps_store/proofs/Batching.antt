@@ -1,5 +1,5 @@
 -- What a write needs, and what it leaves.
-use Rattle.std.proofs.Common.{◌≡◌, ℕ, zero, suc, ◌+◌, ◌≤◌, ◌<◌, Option, Some, None, List, refl, sym, ap, ◌∙◌, subst, length, take, fold, arith, length-drop}
+use Rattle.std.proofs.Common.{◌≡◌, ℕ, zero, suc, ◌+◌, ◌≤◌, ◌<◌, Option, Some, None, List, [], ◌∷◌, ◌++◌, refl, sym, ap, ◌∙◌, subst, length, take, fold, arith, length-drop}
 use Rattle.std.specs.Prelude.{Ok, Err, IsSome}
 use Rattle.ps_bucket_log.specs.Logs.{IsRising}
 use Rattle.ps_store.specs.declared.events.Event.{Event}
@@ -150,3 +150,10 @@ module _ (fixed : Fixed) (old : Store) (history : List Event) (h : StoreStandsFo
         not_none : (n : ℕ) → (n ≡ 0 → ⊥) → 1 ≤ n
         not_none zero e = absurd (e refl)
         not_none (suc n) e = omega arith
+
+-- what is written stays so in a store that holds the same
+pub settled : (fixed : Fixed) (history : List Event) (limit : ℕ) (old new : Store) (wrote : Wrote) → IsSame old new → Writes fixed history limit old (Ok wrote) → Writes fixed history limit new (Ok wrote)
+settled fixed history limit old new wrote same writes =
+    let after : List Event = history ++ Write wrote.changes ∷ [] in
+    let h = writes.4 in
+    (writes.0, writes.1, writes.2, writes.3, stands_still fixed old new after h same.fixed (stands_same old new (ledger_of fixed.rules after) same h.stands))

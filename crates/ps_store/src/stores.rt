@@ -182,6 +182,13 @@ impl Store {
         make_places(alloc, &mut self.rows, &self.tail.changes, plan.made.len())
     }
 
+    // Finds places for the notes of the last batch, as far as memory is there. Nothing that is held changes.
+    fn settle(&mut self, alloc: Global)
+        ensures { IsSame self.old self.new }
+    {
+        let _full = self.index.reserve(alloc, 0);
+    }
+
     // Writes what is planned, in room that is there. Takes no memory.
     fn fill(&mut self, plan: Plan)
         requires room { HasRoom self.old.logs plan.entered.items }
@@ -238,7 +245,8 @@ impl Store {
     /// Writes the longest run of next unwritten changes, across transactions, that has at most `limit` changes, from 1 to
     /// 1,000,000, none of which would be refused in its turn. `NothingToWrite` where all fed changes are written; `TooWide`
     /// where the row of the next one has more entries than the limit; else `OpsFull` where it needs more ids than are left.
-    /// All memory is taken before anything is changed.
+    /// All memory that a write needs is taken before anything is changed. The places at which takes find parameter rows are made
+    /// behind it, as far as memory is there.
     pub fn write_batch(&mut self, alloc: Global, limit: u32) -> Result<Wrote, WriteFault>
         requires some { 1 ≤ limit }
         requires limit { limit ≤ 1000000 }
@@ -275,6 +283,7 @@ impl Store {
             last_op: plan.last(),
         };
         self.fill(plan);
+        self.settle(alloc);
         Ok(wrote)
     }
 

@@ -2,7 +2,7 @@ use Rattle.std.proofs.Common.{rules, ◌≡◌, ◌≤◌, [], refl, ◌∙◌, 
 use Rattle.ps_store.specs.declared.stores.Store.{Store}
 use Rattle.ps_store.specs.declared.stores.Wrote.{Wrote}
 use Rattle.ps_store.specs.Stores.{IsSame}
-use Rattle.ps_store.proofs.Batching.{there, refused, wants, counts_low, ops_are_low, fill_newer, fill_count, fill_rows, fill_rise, fill_rising, fill_counts, done}
+use Rattle.ps_store.proofs.Batching.{there, refused, wants, counts_low, ops_are_low, fill_newer, fill_count, fill_rows, fill_rise, fill_rising, fill_counts, done, settled}
 use Rattle.ps_store.proofs.stores.Store.write_batch.Goals as goal
 
 pub refused-requires : goal.refused-requires
@@ -75,5 +75,6 @@ fill-requires-clause-counts c =
 pub returns : goal.returns
 returns c = λ fixed history h.
     let wrote : Wrote = record { changes = c.in_ok-planned.planned.count; ops = c.len.result; last_op = c.last.result } in
-    done fixed c.args.self.now history h c.args.limit c.in_ok-planned.planned c.in_ok-planned.ensures c.grow.new.self c.grow.ensures.same c.fill.new.self c.fill.ensures
-    wrote (λ e. omega (arith, e)) refl (omega (arith, c.len.ensures)) c.last.ensures
+    settled fixed history c.args.limit c.fill.new.self c.settle.new.self wrote c.settle.ensures
+    (done fixed c.args.self.now history h c.args.limit c.in_ok-planned.planned c.in_ok-planned.ensures c.grow.new.self c.grow.ensures.same c.fill.new.self c.fill.ensures
+    wrote (λ e. omega (arith, e)) refl (omega (arith, c.len.ensures)) c.last.ensures)
