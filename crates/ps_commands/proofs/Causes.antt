@@ -1,6 +1,6 @@
 -- Why a command ends as it does.
-use Rattle.std.proofs.Common.{inl, inr, ◌≡◌, ℕ, ◌≤◌, true, false, List, [], ◌∷◌, Option, Some, None, Ok, Err, refl, sym, ap, subst, arith, codes, bytes_eq, Vec, Bool, ◌&&◌}
-use Rattle.std.specs.Prelude.{option_map, if◌then◌else◌}
+use Rattle.std.proofs.Common.{inl, inr, ◌≡◌, ℕ, ◌≤◌, List, [], Option, Some, Result, Ok, Err, refl, sym, subst, arith, Vec}
+use Rattle.std.proofs.lemmas.List.{append-nil}
 use Rattle.std.specs.declared.alloc.Global.{Global}
 use Rattle.ps_io.specs.Contents.{Contents, HasLength}
 use Rattle.ps_io.specs.Counts.{Rose}
@@ -11,8 +11,9 @@ use Rattle.ps_token.specs.declared.key_lists.Key.{Key}
 use Rattle.ps_files.specs.declared.faults.Fault.{Fault}
 use Rattle.ps_files.specs.declared.faults.Fault.TheVariants.{Usage, Rules, Change, PastLimit, TooManyBuckets, Claims, Keys, TooLong, CannotRead, CannotWrite, Script, Memory}
 use Rattle.ps_files.specs.HeldFiles.{file_limit, rules_limit, HoldsWithin}
-use Rattle.ps_files.specs.Making.{count_of}
-use Rattle.ps_commands.specs.Commands.{Names, Inputs, check, rows, compact, token, generate, generate_lines, command_of, ReadsRules, ReadsAsker, ReadsKeyFile, Role, for_rules, for_keys, for_claims, for_changes, limit_of, ReadsRulesAndClaims, Reaches, MeansRows, MeansCompact, Outside, Kept, Caused}
+use Rattle.ps_commands.specs.Commands.{Names, Inputs, check, rows, compact, token, generate, generate_lines, command_of, ReadsRules, ReadsAsker, ReadsKeyFile, Role, for_rules, for_keys, for_claims, for_changes, limit_of, ReadsRulesAndClaims, Reaches, Command, replay, Means, MeansRows, MeansCompact, Begins, Outside, Kept, Caused, reading, Finds}
+use Rattle.ps_commands.specs.Replaying.{Game, GivesAll, GivesSome}
+use Rattle.ps_script.specs.Lines.{lines_of}
 use Rattle.ps_rows.specs.declared.changes.Transaction.{Transaction}
 use Rattle.ps_files.specs.ChangeFiles.{transactions_of}
 use Rattle.ps_commands.specs.Dues.{Answers}
@@ -23,53 +24,6 @@ use Rattle.ps_commands.specs.Loading.{Prepares, FindsRows, RefusesRows}
 
 rose_later : (before mid now : ℕ) → before ≤ mid → Rose mid now → Rose before now
 rose_later before mid now le h = omega arith
-
-pub words_check : (word rules : List ℕ) → bytes_eq word (codes "check") ≡ true → command_of (word ∷ rules ∷ []) ≡ Some (check rules)
-words_check word rules h = rw h refl
-
-pub words_rows : (word rules changes claims : List ℕ) → bytes_eq word (codes "rows") ≡ true
-    → command_of (word ∷ rules ∷ changes ∷ claims ∷ []) ≡ Some (rows (record { rules = rules; changes = changes; claims = claims }))
-words_rows word rules changes claims h = rw h refl
-
-pub words_token : (word keys kid claims : List ℕ) → bytes_eq word (codes "rows") ≡ false → bytes_eq word (codes "token") ≡ true
-    → command_of (word ∷ keys ∷ kid ∷ claims ∷ []) ≡ Some (token (record { keys = keys; kid = kid; claims = claims }))
-words_token word keys kid claims other h = rw other (rw h refl)
-
-pub words_compact : (word rules changes : List ℕ) → bytes_eq word (codes "compact") ≡ true
-    → command_of (word ∷ rules ∷ changes ∷ []) ≡ Some (compact (record { rules = rules; changes = changes }))
-words_compact word rules changes h = rw h refl
-
-pub words_generate : (word a : List ℕ) (count : ℕ) → bytes_eq word (codes "check") ≡ false → bytes_eq word (codes "generate") ≡ true → Some count ≡ count_of a
-    → command_of (word ∷ a ∷ []) ≡ Some (generate count)
-words_generate word a count other h is = rw other (rw h (ap (option_map generate) (sym is)))
-
-pub words_generate_lines : (word a b : List ℕ) (count : ℕ) → bytes_eq word (codes "compact") ≡ false → bytes_eq word (codes "generate") ≡ true → bytes_eq b (codes "lines") ≡ true → Some count ≡ count_of a
-    → command_of (word ∷ a ∷ b ∷ []) ≡ Some (generate_lines count)
-words_generate_lines word a b count other h k is = rw other (rw (h, k) (ap (option_map generate_lines) (sym is)))
-
-pub not_two : (word a : List ℕ) → bytes_eq word (codes "check") ≡ false → bytes_eq word (codes "generate") ≡ false → command_of (word ∷ a ∷ []) ≡ None
-not_two word a other h = rw other (rw h refl)
-
-pub no_count_alone : (word a : List ℕ) → bytes_eq word (codes "check") ≡ false → None ≡ count_of a → command_of (word ∷ a ∷ []) ≡ None
-no_count_alone word a other is = rw other (by (bytes_eq word (codes "generate"))) where
-  by : (x : Bool) → (if x then option_map generate (count_of a) else None) ≡ None
-  by true = ap (option_map generate) (sym is)
-  by false = refl
-
-pub not_generate : (word a b : List ℕ) → bytes_eq word (codes "compact") ≡ false → bytes_eq word (codes "generate") ≡ false → command_of (word ∷ a ∷ b ∷ []) ≡ None
-not_generate word a b other h = rw other (rw h refl)
-
-pub not_lines : (word a b : List ℕ) → bytes_eq word (codes "compact") ≡ false → bytes_eq b (codes "lines") ≡ false → command_of (word ∷ a ∷ b ∷ []) ≡ None
-not_lines word a b other h = rw other (by (bytes_eq word (codes "generate"))) where
-  by : (x : Bool) → (if x && bytes_eq b (codes "lines") then option_map generate_lines (count_of a) else None) ≡ None
-  by true = rw h refl
-  by false = refl
-
-pub no_count : (word a b : List ℕ) → bytes_eq word (codes "compact") ≡ false → None ≡ count_of a → command_of (word ∷ a ∷ b ∷ []) ≡ None
-no_count word a b other is = rw other (by (bytes_eq word (codes "generate") && bytes_eq b (codes "lines"))) where
-  by : (x : Bool) → (if x then option_map generate_lines (count_of a) else None) ≡ None
-  by true = ap (option_map generate_lines) (sym is)
-  by false = refl
 
 -- ---- loading a file of a command
 
@@ -243,6 +197,21 @@ cause_of_reports o mid_held mid words names rules fault same risen kept is rules
 
 -- ---- what a command prints
 
+-- a script that gives all its texts gives some first ones
+begins_all : (game : Game) (text : List ℕ) → GivesAll game text → GivesSome game text
+begins_all game text gives = record { front = lines_of game.script; rest = []; lines_are = sym (append-nil (lines_of game.script)); after = gives.0; plays = gives.1 }
+
+-- what a command prints it may be about to print
+pub begins : (held : Option Contents) (command : Command) (text : List ℕ) → Means held command text → Begins held command text
+begins held (check name) text means = means
+begins held (rows names) text means = means
+begins held (replay names) text means = record { game = means.game; read = means.read; gives = begins_all means.game text means.gives }
+begins held (compact names) text means = means
+begins held (token names) text means = means
+begins held (generate count) text means = means
+begins held (generate_lines count) text means = means
+
+
 pub means_compact : (held mid_held : Option Contents) (mid now : ℕ) (names : Inputs) (rules : RuleSet) (text : Vec ℕ Global) → mid_held ≡ held
     → ReadsRules held names.rules rules
     → Loads mid_held names.changes file_limit mid now (FindsReports rules) (RefusesReports rules) (Ok text) → MeansCompact held names text.items
@@ -267,6 +236,27 @@ means_rows held mid_held mid now names rules asker text same read claims h = rec
   within = h.2.within;
   is = h.2.is;
 }
+
+-- ---- what was found, or why nothing was
+
+module _ (held mid_held : Option Contents) (start mid now : ℕ) (words : List (List ℕ)) where
+  pub reports_found : (names : Inputs) (rules : RuleSet) (result : Result (Vec ℕ Global) Fault) → mid_held ≡ held → start ≤ mid → command_of words ≡ Some (compact names) → ReadsRules held names.rules rules
+      → Loads mid_held names.changes file_limit mid now (FindsReports rules) (RefusesReports rules) result → Finds held start now words result
+  reports_found names rules (Ok text) same risen is read h = (compact names, is, means_compact held mid_held mid now names rules text same read h)
+  reports_found names rules (Err fault) same risen is read h = λ taken faults.
+      cause_of_reports (reading held start now taken faults) mid_held mid words names rules fault same risen refl is read h
+
+  pub rows_found : (names : Names) (rules : RuleSet) (asker : Asker) (result : Result (Vec ℕ Global) Fault) → mid_held ≡ held → start ≤ mid → command_of words ≡ Some (rows names) → ReadsRules held names.rules rules
+      → ReadsAsker held names.claims (asker_of asker)
+      → Loads mid_held names.changes file_limit mid now (FindsRows rules asker) (RefusesRows rules asker) result → Finds held start now words result
+  rows_found names rules asker (Ok text) same risen is read claims h = (rows names, is, means_rows held mid_held mid now names rules asker text same read claims h)
+  rows_found names rules asker (Err fault) same risen is read claims h = λ taken faults.
+      cause_of_rows (reading held start now taken faults) mid_held mid words names rules asker fault same risen refl is read claims h
+
+pub summary_found : (held : Option Contents) (before now : ℕ) (words : List (List ℕ)) (count : ℕ) (result : Result (Vec ℕ Global) Fault) → command_of words ≡ Some (generate count)
+    → Summarizes (generated count) result → Finds held before now words result
+summary_found held before now words count (Ok text) is h = (generate count, is, h)
+summary_found held before now words count (Err fault) is h = λ taken faults. made_refused (reading held before now taken faults) words count refl is fault h
 
 -- where an asker's rows are not answered, neither are they printed
 pub rows_refused : (rules : RuleSet) (asker : Asker) (bytes : List ℕ) (transactions : List Transaction) → transactions_of rules bytes ≡ Ok transactions

@@ -1,5 +1,5 @@
 -- Why `replay` ends as it does.
-use Rattle.std.proofs.Common.{inl, inr, ◌≡◌, ℕ, ◌≤◌, true, false, List, [], ◌∷◌, Option, Some, Result, Ok, Err, refl, sym, subst, codes, bytes_eq, Vec}
+use Rattle.std.proofs.Common.{inl, inr, ◌≡◌, ℕ, ◌≤◌, List, ◌∷◌, Option, Some, Result, Ok, Err, refl, sym, subst, Vec}
 use Rattle.std.specs.declared.alloc.Global.{Global}
 use Rattle.ps_io.specs.Contents.{Contents}
 use Rattle.ps_rows.specs.declared.changes.Transaction.{Transaction}
@@ -17,10 +17,6 @@ use Rattle.ps_files.specs.Loading.{Loads, IsContent, RefusesNothing}
 use Rattle.ps_files.specs.ReadingAll.{FindsTransactions, IsTransactionsFault}
 use Rattle.ps_commands.specs.Replaying.{Game, fixed_of, start_of, script_fault, PlaysOut, stopped_by}
 use Rattle.ps_commands.proofs.Causes.{cause_of}
-
-pub words_replay : (word rules changes script : List ℕ) → bytes_eq word (codes "rows") ≡ false → bytes_eq word (codes "token") ≡ false → bytes_eq word (codes "replay") ≡ true
-    → command_of (word ∷ rules ∷ changes ∷ script ∷ []) ≡ Some (replay (record { rules = rules; changes = changes; script = script }))
-words_replay word rules changes script other another h = rw other (rw another (rw h refl))
 
 -- ---- a script
 

@@ -1,5 +1,6 @@
 -- The commands `check`, `rows`, `replay`, `compact`, `token` and `generate`: their words, what their files mean, and the cause of each answer.
-use Rattle.std.specs.Prelude.{◌≡◌, ◌⊎◌, ℕ, ◌<◌, ◌≤◌, nat_le, ◌&&◌, List, [], ◌∷◌, ◌++◌, length, codes, bytes_eq, Option, Some, None, option_map, Result, Ok, Err, if◌then◌else◌}
+use Rattle.std.specs.Prelude.{◌≡◌, ◌⊎◌, ℕ, ◌<◌, ◌≤◌, nat_le, ◌&&◌, List, [], ◌∷◌, ◌++◌, length, codes, bytes_eq, Option, Some, None, option_map, Result, Ok, Err, if◌then◌else◌, Vec}
+use Rattle.std.specs.declared.alloc.Global.{Global}
 use Rattle.ps_io.specs.Contents.{Contents, HasLength, Gains, GainsFront}
 use Rattle.ps_io.specs.Counts.{Rose}
 use Rattle.ps_rows.specs.declared.changes.Transaction.{Transaction}
@@ -19,12 +20,14 @@ use Rattle.ps_files.specs.declared.faults.ScriptCause.{ScriptCause}
 use Rattle.ps_files.specs.ChangeFiles.{transactions_of, all_transactions_of}
 use Rattle.ps_files.specs.FaultTexts.{status_of}
 use Rattle.ps_files.specs.HeldFiles.{rules_limit, file_limit, HoldsWithin}
-use Rattle.ps_files.specs.Making.{count_of}
+use Rattle.ps_files.specs.Making.{count_of, made_limit}
 use Rattle.ps_store.specs.Laws.{last_position}
 use Rattle.ps_store.specs.Limits.{usual_limits}
 use Rattle.ps_files.specs.Checking.{check_text}
 use Rattle.ps_claims.specs.Claims.{asker_of_claims}
 use Rattle.ps_files.specs.Compacting.{compact_text}
+use Rattle.ps_commands.specs.declared.commands.Command.{Command as CommandSeen}
+use Rattle.ps_commands.specs.declared.commands.Command.TheVariants as coded
 use Rattle.ps_commands.specs.Dues.{due, own_buckets, rows_after}
 use Rattle.ps_commands.specs.Generating.{generated}
 use Rattle.ps_commands.specs.Replaying.{Game, GivesAll, GivesSome, GivesUntil}
@@ -83,6 +86,26 @@ command_of (w ∷ a ∷ b ∷ c ∷ []) =
     if bytes_eq w (codes "token") then Some (token (record { keys = a; kid = b; claims = c })) else
     if bytes_eq w (codes "replay") then Some (replay (record { rules = a; changes = b; script = c })) else None
 command_of (w ∷ a ∷ b ∷ c ∷ d ∷ more) = None
+
+-- what a command of the program's code is
+abbrev pub named : CommandSeen → Command
+named (coded.Check rules) = check rules.now
+named (coded.Rows rules changes claims) = rows (record { rules = rules.now; changes = changes.now; claims = claims.now })
+named (coded.Replay rules changes script) = replay (record { rules = rules.now; changes = changes.now; script = script.now })
+named (coded.Compact rules changes) = compact (record { rules = rules.now; changes = changes.now })
+named (coded.Token keys kid claims) = token (record { keys = keys.now; kid = kid.now; claims = claims.now })
+named (coded.Generate count) = generate count
+named (coded.GenerateLines count) = generate_lines count
+
+-- as many transactions as may be made
+abbrev pub IsMade : CommandSeen → Type 0
+IsMade (coded.Check rules) = Unit {0}
+IsMade (coded.Rows rules changes claims) = Unit {0}
+IsMade (coded.Replay rules changes script) = Unit {0}
+IsMade (coded.Compact rules changes) = Unit {0}
+IsMade (coded.Token keys kid claims) = Unit {0}
+IsMade (coded.Generate count) = count ≤ made_limit
+IsMade (coded.GenerateLines count) = count ≤ made_limit
 
 -- the words are a command
 abbrev pub IsCommand : List (List ℕ) → Type 0
@@ -446,6 +469,16 @@ Caused o words (CannotRead name) = Kept o × IsNext o.held words name.now × Ros
 Caused o words CannotWrite = PrintsFront o.held words o.taken_before o.taken_now × Rose o.write_before o.write_now
 Caused o words (Script line why) = RefusesScript o.held words line why o.taken_before o.taken_now
 Caused o words Memory = (Kept o × IsCommand words) ⊎ PrintsSome o.held words o.taken_before o.taken_now
+
+-- files alone were read: the output, whatever it has taken and however often it failed, is as it was
+abbrev pub reading : Option Contents → ℕ → ℕ → Option (List ℕ) → ℕ → Outside
+reading held before now taken faults =
+    record { held = held; read_before = before; read_now = now; taken_before = taken; taken_now = taken; write_before = faults; write_now = faults }
+
+-- what a command prints was found, or why there is nothing to print
+abbrev pub Finds : Option Contents → ℕ → ℕ → List (List ℕ) → Result (Vec ℕ Global) Fault → Type 0
+Finds held before now words (Ok text) = (command : Command) × (command_of words ≡ Some command) × Means held command text.items
+Finds held before now words (Err fault) = (taken : Option (List ℕ)) (faults : ℕ) → Caused (reading held before now taken faults) words fault
 
 abbrev pub Outcome : Outside → List (List ℕ) → Result (Unit {0}) Fault → Type 0
 Outcome o words (Ok _) = Prints o.held words o.taken_before o.taken_now

@@ -102,10 +102,7 @@ fn summarize_store<'a>(alloc: Global, store: &mut Store) -> Result<Vec<u8>, Faul
         → Summarizes (summary_after rules transactions) result }
 {
     let totals = store.totals();
-    let rows = match count_rows(alloc, store) {
-        Ok(rows) => rows,
-        Err(fault) => return Err(fault),
-    };
+    let rows = count_rows(alloc, store)?;
     let reports = compact_all(alloc, store)?;
     let (before, after) = add_up(reports.as_slice());
     Ok(print_line(alloc, &totals, rows, before, after)?)
@@ -121,10 +118,7 @@ fn summarize<'a>(
     ensures { Summarizes (summary_under rules made) result }
 {
     have_numbers(&rules);
-    let mut store = match write_transactions(alloc, rules, made) {
-        Ok(store) => store,
-        Err(fault) => return Err(fault),
-    };
+    let mut store = write_transactions(alloc, rules, made)?;
     summarize_store(alloc, &mut store)
 }
 
@@ -136,10 +130,7 @@ pub fn print_summary<'a>(alloc: Global, count: u32) -> Result<Vec<u8>, Fault<'a>
     ensures { Summarizes (generated count) result }
 {
     let text = make_rules(alloc)?;
-    let rules = match read_rules_file(alloc, text.as_slice()) {
-        Ok(rules) => rules,
-        Err(fault) => return Err(fault),
-    };
+    let rules = read_rules_file(alloc, text.as_slice())?;
     let made = make_input(alloc, count)?;
     summarize(alloc, rules, made)
 }

@@ -2,6 +2,7 @@
 #![tactic(auto)]
 
 mod answering;
+mod commands;
 mod generating;
 mod handing;
 mod loading;

@@ -33,10 +33,7 @@ fn prepare<'a>(
     ensures { Prepares rules asker changes.items result }
 {
     let store = write_file(alloc, rules, changes)?;
-    let rows = match due_rows(alloc, &store, asker) {
-        Ok(rows) => rows,
-        Err(fault) => return Err(fault),
-    };
+    let rows = due_rows(alloc, &store, asker)?;
     let text = print_rows(alloc, rows.as_slice())?;
     Ok(text)
 }

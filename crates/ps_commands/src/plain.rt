@@ -1,26 +1,113 @@
-ghost use Rattle.std.specs.Prelude.{◌≡◌, ◌≢◌, ◌≤◌, ◌⊎◌, ◌↔◌, ℕ, List, [], ◌∷◌, Option, Some, None, true, false, bytes_eq, codes};
+ghost use Rattle.std.specs.Prelude.{◌≡◌, ◌≢◌, ◌≤◌, ◌⊎◌, ◌↔◌, ℕ, List, Option, Some, None};
 ghost use Rattle.ps_io.specs.Contents.{Contents};
 ghost use Rattle.ps_io.specs.Counts.{Rose};
 ghost use Rattle.ps_files.specs.Making.{made_limit};
-ghost use Rattle.ps_commands.specs.Commands.{command_of, generate as generate_command, generate_lines as generate_lines_command, Outcome, Prints, PrintsFront, RefusesRules, RefusesMade, RefusesLines, RefusesKeys, RefusesClaims, RefusesScript, ExceedsLimit, IsNext, PrintsSome, IsExact};
+ghost use Rattle.ps_commands.specs.Commands.{command_of, check as check_command, rows as rows_command, compact as compact_command, token as token_command, generate_lines as generate_lines_command, Finds, Outcome, Prints, PrintsFront, RefusesRules, RefusesMade, RefusesLines, RefusesKeys, RefusesClaims, RefusesScript, ExceedsLimit, IsNext, PrintsSome, IsExact};
 ghost use Rattle.ps_commands.specs.Causes.{SaysCause};
 ghost use Rattle.ps_files.specs.declared.faults.LineFault.{LineFault as LineFaultData};
 ghost use Rattle.ps_files.specs.declared.faults.RulesCause.{RulesCause as RulesCauseData};
 ghost use Rattle.ps_files.specs.declared.faults.ScriptCause.{ScriptCause as ScriptCauseData};
 
+use crate::commands::{Command, read_words};
 use crate::generating::print_summary;
 use crate::loading::load_rows;
 use crate::replaying::replay_files;
-use ps_data::{Memory, Text};
+use ps_data::Text;
 use ps_files::{
-    Fault, load_asker, load_keys, load_reports, load_rules, made_count, print_check, print_made,
-    say, sign_line,
+    Fault, load_asker, load_keys, load_reports, load_rules, print_check, print_made, say, sign_line,
 };
 use ps_io::{Files, Sink};
 use ps_token::SignFault;
 use std::alloc::Global;
 
-// Does the command that the words are: docs/FORMATS.md, "Commands".
+// What the rules have.
+fn check<'a, F: Files>(alloc: Global, rules: &'a Text, files: &mut F) -> Result<Vec<u8>, Fault<'a>>
+    ensures { (words : List (List ℕ)) → command_of words ≡ Some (check_command rules.now)
+        → Finds (F.held files.old) (F.faults files.old) (F.faults files.new) words result }
+{
+    let rules = load_rules(alloc, files, rules)?;
+    Ok(print_check(alloc, &rules)?)
+}
+
+// One user's rows.
+fn rows<'a, F: Files>(
+    alloc: Global,
+    rules: &'a Text,
+    changes: &'a Text,
+    claims: &'a Text,
+    files: &mut F,
+) -> Result<Vec<u8>, Fault<'a>>
+    ensures { (words : List (List ℕ)) → command_of words ≡ Some (rows_command (record { rules = rules.now; changes = changes.now; claims = claims.now }))
+        → Finds (F.held files.old) (F.faults files.old) (F.faults files.new) words result }
+{
+    let rules = load_rules(alloc, files, rules)?;
+    let asker = load_asker(alloc, files, claims)?;
+    load_rows(alloc, files, changes, rules, asker)
+}
+
+// What the compaction of each bucket reports.
+fn compact<'a, F: Files>(
+    alloc: Global,
+    rules: &'a Text,
+    changes: &'a Text,
+    files: &mut F,
+) -> Result<Vec<u8>, Fault<'a>>
+    ensures { (words : List (List ℕ)) → command_of words ≡ Some (compact_command (record { rules = rules.now; changes = changes.now }))
+        → Finds (F.held files.old) (F.faults files.old) (F.faults files.new) words result }
+{
+    let rules = load_rules(alloc, files, rules)?;
+    load_reports(alloc, files, changes, rules)
+}
+
+// A signed token.
+fn token<'a, F: Files>(
+    alloc: Global,
+    keys: &'a Text,
+    kid: &Text,
+    claims: &'a Text,
+    files: &mut F,
+) -> Result<Vec<u8>, Fault<'a>>
+    ensures { (words : List (List ℕ)) → command_of words ≡ Some (token_command (record { keys = keys.now; kid = kid.now; claims = claims.now }))
+        → Finds (F.held files.old) (F.faults files.old) (F.faults files.new) words result }
+{
+    let keys = load_keys(alloc, files, keys)?;
+    let asker = load_asker(alloc, files, claims)?;
+    match sign_line(alloc, &keys, kid, &asker.payload) {
+        Ok(line) => Ok(line.into_string(alloc)?.into_bytes()),
+        Err(SignFault::UnknownKey) => Err(Fault::Keys),
+        Err(SignFault::Memory) => Err(Fault::Memory),
+    }
+}
+
+// Made change lines.
+fn generate_lines<'a>(alloc: Global, count: u32) -> Result<Vec<u8>, Fault<'a>>
+    requires { count ≤ made_limit }
+    ensures { (held : Option Contents) (before now : ℕ) (words : List (List ℕ)) → command_of words ≡ Some (generate_lines_command count)
+        → Finds held before now words result }
+{
+    Ok(print_made(alloc, count)?)
+}
+
+// Prints what a command found, all at once.
+fn print<'a, K: Sink>(found: Result<Vec<u8>, Fault<'a>>, out: &mut K) -> Result<(), Fault<'a>>
+    ensures { (held : Option Contents) (before now : ℕ) (words : List (List ℕ)) → Finds held before now words found.entry → Outcome (record {
+      held = held;
+      read_before = before;
+      read_now = now;
+      taken_before = K.taken out.old;
+      taken_now = K.taken out.new;
+      write_before = K.faults out.old;
+      write_now = K.faults out.new;
+    }) words result }
+{
+    let text = found?;
+    match out.write(text.as_slice()) {
+        Ok(()) => Ok(()),
+        Err(_) => Err(Fault::CannotWrite),
+    }
+}
+
+// Does the command that the words are. `replay` prints as it goes, any other prints all at once.
 fn command<'a, F: Files, K: Sink>(
     alloc: Global,
     words: &'a [Text],
@@ -37,294 +124,27 @@ fn command<'a, F: Files, K: Sink>(
       write_now = K.faults out.new;
     }) words.now result }
 {
-    match words {
-        [word, second] => of_two(alloc, word, second, files, out),
-        [word, second, third] => of_three(alloc, word, second, third, files, out),
-        [word, second, third, fourth] => of_four(alloc, word, second, third, fourth, files, out),
-        _ => Err(Fault::Usage),
-    }
-}
-
-// Does the command of two words.
-fn of_two<'a, F: Files, K: Sink>(
-    alloc: Global,
-    word: &Text,
-    second: &'a Text,
-    files: &mut F,
-    out: &mut K,
-) -> Result<(), Fault<'a>>
-    ensures { Outcome (record {
-      held = F.held files.old;
-      read_before = F.faults files.old;
-      read_now = F.faults files.new;
-      taken_before = K.taken out.old;
-      taken_now = K.taken out.new;
-      write_before = K.faults out.old;
-      write_now = K.faults out.new;
-    }) (word.now ∷ second.now ∷ []) result }
-{
-    if word.as_str() == "check" {
-        return check(alloc, second, files, out);
-    }
-    if word.as_str() != "generate" {
+    let Some(command) = read_words(words) else {
         return Err(Fault::Usage);
-    }
-    match made_count(second) {
-        Some(count) => generate(alloc, count, out),
-        None => Err(Fault::Usage),
-    }
-}
-
-// Does the command of three words.
-fn of_three<'a, F: Files, K: Sink>(
-    alloc: Global,
-    word: &Text,
-    second: &'a Text,
-    third: &'a Text,
-    files: &mut F,
-    out: &mut K,
-) -> Result<(), Fault<'a>>
-    ensures { Outcome (record {
-      held = F.held files.old;
-      read_before = F.faults files.old;
-      read_now = F.faults files.new;
-      taken_before = K.taken out.old;
-      taken_now = K.taken out.new;
-      write_before = K.faults out.old;
-      write_now = K.faults out.new;
-    }) (word.now ∷ second.now ∷ third.now ∷ []) result }
-{
-    if word.as_str() == "compact" {
-        return compact(alloc, second, third, files, out);
-    }
-    if word.as_str() != "generate" || third.as_str() != "lines" {
-        return Err(Fault::Usage);
-    }
-    match made_count(second) {
-        Some(count) => generate_lines(alloc, count, out),
-        None => Err(Fault::Usage),
-    }
-}
-
-// Does the command of four words.
-fn of_four<'a, F: Files, K: Sink>(
-    alloc: Global,
-    word: &Text,
-    second: &'a Text,
-    third: &'a Text,
-    fourth: &'a Text,
-    files: &mut F,
-    out: &mut K,
-) -> Result<(), Fault<'a>>
-    ensures { Outcome (record {
-      held = F.held files.old;
-      read_before = F.faults files.old;
-      read_now = F.faults files.new;
-      taken_before = K.taken out.old;
-      taken_now = K.taken out.new;
-      write_before = K.faults out.old;
-      write_now = K.faults out.new;
-    }) (word.now ∷ second.now ∷ third.now ∷ fourth.now ∷ []) result }
-{
-    if word.as_str() == "rows" {
-        return rows(alloc, second, third, fourth, files, out);
-    }
-    if word.as_str() == "token" {
-        return token(alloc, second, third, fourth, files, out);
-    }
-    if word.as_str() == "replay" {
-        return replay_files(alloc, second, third, fourth, files, out);
-    }
-    Err(Fault::Usage)
-}
-
-// Prints what rules have.
-fn check<'a, F: Files, K: Sink>(
-    alloc: Global,
-    rules: &'a Text,
-    files: &mut F,
-    out: &mut K,
-) -> Result<(), Fault<'a>>
-    ensures { (word : List ℕ) → bytes_eq word (codes "check") ≡ true → Outcome (record {
-      held = F.held files.old;
-      read_before = F.faults files.old;
-      read_now = F.faults files.new;
-      taken_before = K.taken out.old;
-      taken_now = K.taken out.new;
-      write_before = K.faults out.old;
-      write_now = K.faults out.new;
-    })
-        (word ∷ rules.now ∷ []) result }
-{
-    let rules = match load_rules(alloc, files, rules) {
-        Ok(rules) => rules,
-        Err(fault) => return Err(fault),
     };
-    let text = match print_check(alloc, &rules) {
-        Ok(text) => text,
-        Err(Memory) => return Err(Fault::Memory),
-    };
-    match out.write(text.as_slice()) {
-        Ok(()) => Ok(()),
-        Err(_) => Err(Fault::CannotWrite),
-    }
-}
-
-// Prints one user's rows.
-fn rows<'a, F: Files, K: Sink>(
-    alloc: Global,
-    rules: &'a Text,
-    changes: &'a Text,
-    claims: &'a Text,
-    files: &mut F,
-    out: &mut K,
-) -> Result<(), Fault<'a>>
-    ensures { (word : List ℕ) → bytes_eq word (codes "rows") ≡ true → Outcome (record {
-      held = F.held files.old;
-      read_before = F.faults files.old;
-      read_now = F.faults files.new;
-      taken_before = K.taken out.old;
-      taken_now = K.taken out.new;
-      write_before = K.faults out.old;
-      write_now = K.faults out.new;
-    })
-        (word ∷ rules.now ∷ changes.now ∷ claims.now ∷ []) result }
-{
-    let rules = match load_rules(alloc, files, rules) {
-        Ok(rules) => rules,
-        Err(fault) => return Err(fault),
-    };
-    let asker = match load_asker(alloc, files, claims) {
-        Ok(asker) => asker,
-        Err(fault) => return Err(fault),
-    };
-    let text = match load_rows(alloc, files, changes, rules, asker) {
-        Ok(text) => text,
-        Err(fault) => return Err(fault),
-    };
-    match out.write(text.as_slice()) {
-        Ok(()) => Ok(()),
-        Err(_) => Err(Fault::CannotWrite),
-    }
-}
-
-// Prints what the compaction of each bucket reports.
-fn compact<'a, F: Files, K: Sink>(
-    alloc: Global,
-    rules: &'a Text,
-    changes: &'a Text,
-    files: &mut F,
-    out: &mut K,
-) -> Result<(), Fault<'a>>
-    ensures { (word : List ℕ) → bytes_eq word (codes "compact") ≡ true → Outcome (record {
-      held = F.held files.old;
-      read_before = F.faults files.old;
-      read_now = F.faults files.new;
-      taken_before = K.taken out.old;
-      taken_now = K.taken out.new;
-      write_before = K.faults out.old;
-      write_now = K.faults out.new;
-    })
-        (word ∷ rules.now ∷ changes.now ∷ []) result }
-{
-    let rules = match load_rules(alloc, files, rules) {
-        Ok(rules) => rules,
-        Err(fault) => return Err(fault),
-    };
-    let text = match load_reports(alloc, files, changes, rules) {
-        Ok(text) => text,
-        Err(fault) => return Err(fault),
-    };
-    match out.write(text.as_slice()) {
-        Ok(()) => Ok(()),
-        Err(_) => Err(Fault::CannotWrite),
-    }
-}
-
-// Prints the summary of made transactions.
-fn generate<'a, K: Sink>(alloc: Global, count: u32, out: &mut K) -> Result<(), Fault<'a>>
-    requires { count ≤ made_limit }
-    ensures { (held : Option Contents) (read : ℕ) (words : List (List ℕ)) → command_of words ≡ Some (generate_command count) → Outcome (record {
-      held = held;
-      read_before = read;
-      read_now = read;
-      taken_before = K.taken out.old;
-      taken_now = K.taken out.new;
-      write_before = K.faults out.old;
-      write_now = K.faults out.new;
-    })
-        words result }
-{
-    let text = match print_summary(alloc, count) {
-        Ok(text) => text,
-        Err(fault) => return Err(fault),
-    };
-    match out.write(text.as_slice()) {
-        Ok(()) => Ok(()),
-        Err(_) => Err(Fault::CannotWrite),
-    }
-}
-
-// Prints made change lines.
-fn generate_lines<'a, K: Sink>(alloc: Global, count: u32, out: &mut K) -> Result<(), Fault<'a>>
-    requires { count ≤ made_limit }
-    ensures { (held : Option Contents) (read : ℕ) (words : List (List ℕ)) → command_of words ≡ Some (generate_lines_command count) → Outcome (record {
-      held = held;
-      read_before = read;
-      read_now = read;
-      taken_before = K.taken out.old;
-      taken_now = K.taken out.new;
-      write_before = K.faults out.old;
-      write_now = K.faults out.new;
-    })
-        words result }
-{
-    let text = match print_made(alloc, count) {
-        Ok(text) => text,
-        Err(Memory) => return Err(Fault::Memory),
-    };
-    match out.write(text.as_slice()) {
-        Ok(()) => Ok(()),
-        Err(_) => Err(Fault::CannotWrite),
-    }
-}
-
-// Prints a signed token.
-fn token<'a, F: Files, K: Sink>(
-    alloc: Global,
-    keys: &'a Text,
-    kid: &Text,
-    claims: &'a Text,
-    files: &mut F,
-    out: &mut K,
-) -> Result<(), Fault<'a>>
-    ensures { (word : List ℕ) → bytes_eq word (codes "rows") ≡ false → bytes_eq word (codes "token") ≡ true → Outcome (record {
-      held = F.held files.old;
-      read_before = F.faults files.old;
-      read_now = F.faults files.new;
-      taken_before = K.taken out.old;
-      taken_now = K.taken out.new;
-      write_before = K.faults out.old;
-      write_now = K.faults out.new;
-    })
-        (word ∷ keys.now ∷ kid.now ∷ claims.now ∷ []) result }
-{
-    let keys = match load_keys(alloc, files, keys) {
-        Ok(keys) => keys,
-        Err(fault) => return Err(fault),
-    };
-    let asker = match load_asker(alloc, files, claims) {
-        Ok(asker) => asker,
-        Err(fault) => return Err(fault),
-    };
-    let line = match sign_line(alloc, &keys, kid, &asker.payload) {
-        Ok(line) => line,
-        Err(SignFault::UnknownKey) => return Err(Fault::Keys),
-        Err(SignFault::Memory) => return Err(Fault::Memory),
-    };
-    match out.write(line.bytes()) {
-        Ok(()) => Ok(()),
-        Err(_) => Err(Fault::CannotWrite),
+    match command {
+        Command::Check { rules } => print(check(alloc, rules, files), out),
+        Command::Rows {
+            rules,
+            changes,
+            claims,
+        } => print(rows(alloc, rules, changes, claims, files), out),
+        Command::Replay {
+            rules,
+            changes,
+            script,
+        } => replay_files(alloc, rules, changes, script, files, out),
+        Command::Compact { rules, changes } => print(compact(alloc, rules, changes, files), out),
+        Command::Token { keys, kid, claims } => {
+            print(token(alloc, keys, kid, claims, files), out)
+        }
+        Command::Generate { count } => print(print_summary(alloc, count), out),
+        Command::GenerateLines { count } => print(generate_lines(alloc, count), out),
     }
 }
 

@@ -24,10 +24,7 @@ fn line_effect(alloc: Global, world: &mut World, line: &[u8]) -> Result<Effect, 
     requires { (fixed : FixedSeen) × (play : Play) × WorldStandsFor fixed world.old play × AreLed fixed play }
     ensures { (fixed : FixedSeen) (play : Play) → WorldStandsFor fixed world.old play → StepsLine fixed play line.now world.new result }
 {
-    let event = match read_event(alloc, line) {
-        Ok(event) => event,
-        Err(fault) => return Err(fault),
-    };
+    let event = read_event(alloc, line)?;
     let stepped = world.step(alloc, &event);
     drop(event);
     stepped
@@ -39,16 +36,10 @@ fn line_text(alloc: Global, world: &mut World, line: &[u8]) -> Result<Vec<u8>, S
     ensures { (fixed : FixedSeen) (play : Play) → WorldStandsFor fixed world.old play → AreLed fixed play
         → SpellsLine fixed play line.now world.new (items_of result) }
 {
-    let effect = match line_effect(alloc, world, line) {
-        Ok(effect) => effect,
-        Err(fault) => return Err(fault),
-    };
+    let effect = line_effect(alloc, world, line)?;
     let spelled = effect_text(alloc, &effect);
     drop(effect);
-    match spelled {
-        Ok(text) => Ok(text),
-        Err(Memory) => Err(ScriptFault::Memory),
-    }
+    Ok(spelled?)
 }
 
 // Why a line ends the script.
@@ -144,10 +135,7 @@ fn play_lines<K: Sink>(
         if is_skipped(line) {
             continue;
         }
-        match play_line(alloc, world, line, number, out) {
-            Ok(()) => (),
-            Err(fault) => return Err(fault),
-        }
+        play_line(alloc, world, line, number, out)?;
     }
     Ok(())
 }

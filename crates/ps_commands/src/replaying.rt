@@ -1,8 +1,8 @@
 //! The command `replay`.
 
-ghost use Rattle.std.specs.Prelude.{◌≡◌, ◌<◌, ◌^◌, ℕ, List, [], ◌∷◌, true, false, bytes_eq, codes, length};
+ghost use Rattle.std.specs.Prelude.{◌≡◌, ◌<◌, ◌^◌, ℕ, List, Some, length};
 ghost use Rattle.ps_core.specs.Scripts.{AreLow};
-ghost use Rattle.ps_commands.specs.Commands.{Outcome};
+ghost use Rattle.ps_commands.specs.Commands.{command_of, replay as replay_command, Outcome};
 ghost use Rattle.ps_commands.specs.Replaying.{PlaysOut, stopped_by};
 
 use crate::playing::replay;
@@ -71,7 +71,7 @@ pub fn replay_files<'a, F: Files, K: Sink>(
     files: &mut F,
     out: &mut K,
 ) -> Result<(), Fault<'a>>
-    ensures { (word : List ℕ) → bytes_eq word (codes "rows") ≡ false → bytes_eq word (codes "token") ≡ false → bytes_eq word (codes "replay") ≡ true → Outcome (record {
+    ensures { (words : List (List ℕ)) → command_of words ≡ Some (replay_command (record { rules = rules.now; changes = changes.now; script = script.now })) → Outcome (record {
       held = F.held files.old;
       read_before = F.faults files.old;
       read_now = F.faults files.new;
@@ -79,20 +79,10 @@ pub fn replay_files<'a, F: Files, K: Sink>(
       taken_now = K.taken out.new;
       write_before = K.faults out.old;
       write_now = K.faults out.new;
-    })
-        (word ∷ rules.now ∷ changes.now ∷ script.now ∷ []) result }
+    }) words result }
 {
-    let rules = match load_rules(alloc, files, rules) {
-        Ok(rules) => rules,
-        Err(fault) => return Err(fault),
-    };
-    let transactions = match load_transactions(alloc, files, changes) {
-        Ok(transactions) => transactions,
-        Err(fault) => return Err(fault),
-    };
-    let script = match load(alloc, files, script, FILE_LIMIT) {
-        Ok(script) => script,
-        Err(fault) => return Err(fault),
-    };
+    let rules = load_rules(alloc, files, rules)?;
+    let transactions = load_transactions(alloc, files, changes)?;
+    let script = load(alloc, files, script, FILE_LIMIT)?;
     play(alloc, rules, transactions, script.as_slice(), out)
 }

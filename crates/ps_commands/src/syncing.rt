@@ -62,14 +62,8 @@ fn rows_of(
         → IsLedIn fixed history (asker_of session.old.asker) (state_of session.old) (state client.old) → Syncs fixed history (asker_of session.old.asker) result }
 {
     places_are_fronts();
-    match take(alloc, store, session, client) {
-        Ok(()) => (),
-        Err(fault) => return Err(fault),
-    }
-    match applied_rows(alloc, store, session, client) {
-        Ok(rows) => Ok(rows),
-        Err(Memory) => Err(TakeFault::Memory),
-    }
+    take(alloc, store, session, client)?;
+    Ok(applied_rows(alloc, store, session, client)?)
 }
 
 /// The rows that a client shows that holds nothing and takes one whole checkpoint of a store, line by line, each written to
@@ -82,9 +76,6 @@ pub fn synced_rows(alloc: Global, store: &Store, asker: Asker) -> Result<Items<S
 {
     courses_are_lawful();
     let mut client = begin_client(alloc);
-    let mut session = match open_session(alloc, &mut client, asker) {
-        Ok(session) => session,
-        Err(Memory) => return Err(TakeFault::Memory),
-    };
+    let mut session = open_session(alloc, &mut client, asker)?;
     rows_of(alloc, store, &mut session, &mut client)
 }

@@ -44,10 +44,7 @@ pub fn write_changes<'a>(alloc: Global, rules: Rules, changes: &[u8]) -> Result<
         if is_blank(line) {
             continue;
         }
-        match write_line(alloc, &mut reader, &mut store, line, number) {
-            Ok(()) => (),
-            Err(fault) => return Err(fault),
-        }
+        write_line(alloc, &mut reader, &mut store, line, number)?;
     }
     Ok(store)
 }
@@ -65,10 +62,7 @@ fn write_line<'a>(
         → TakesLine rules done (accepted rules.definitions done number line.now) store.new result }
 {
     let last = store.head();
-    let transaction = match read_rising(alloc, reader, line, number, last.0) {
-        Ok(transaction) => transaction,
-        Err(fault) => return Err(fault),
-    };
+    let transaction = read_rising(alloc, reader, line, number, last.0)?;
     write_transaction(alloc, store, transaction)
 }
 
@@ -87,10 +81,8 @@ pub fn write_transaction<'a>(
     ledgers_tell_histories();
     let changes = transaction.changes.len();
     feed(store, transaction)?;
-    match write_fed(alloc, store, changes) {
-        Ok(()) => commit(store),
-        Err(fault) => return Err(fault),
-    }
+    write_fed(alloc, store, changes)?;
+    commit(store);
     Ok(())
 }
 
@@ -118,10 +110,7 @@ fn write_fed<'a>(alloc: Global, store: &mut Store, changes: usize) -> Result<(),
 {
     let mut left = changes;
     'batches: while 0 < left {
-        let written = match write_some(alloc, store) {
-            Ok(written) => written,
-            Err(fault) => return Err(fault),
-        };
+        let written = write_some(alloc, store)?;
         left -= written as usize;
     }
     Ok(())
@@ -209,10 +198,7 @@ pub fn write_transactions<'a>(
     have_numbers(&rules);
     let mut store = Store::new(alloc, rules, Limits::usual())?;
     'made: for transaction in made.into_vec() {
-        match write_transaction(alloc, &mut store, transaction) {
-            Ok(()) => (),
-            Err(fault) => return Err(fault),
-        }
+        write_transaction(alloc, &mut store, transaction)?;
     }
     Ok(store)
 }

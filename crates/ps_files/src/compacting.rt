@@ -100,14 +100,8 @@ fn report<'a>(alloc: Global, rules: Rules, changes: &[u8]) -> Result<Vec<u8>, Fa
     requires { length changes.now < 2 ^ 63 }
     ensures { Reports rules changes.now result }
 {
-    let mut store = match write_changes(alloc, rules, changes) {
-        Ok(store) => store,
-        Err(fault) => return Err(fault),
-    };
-    match print_compacted(alloc, &mut store) {
-        Ok(text) => Ok(text),
-        Err(Memory) => Err(Fault::Memory),
-    }
+    let mut store = write_changes(alloc, rules, changes)?;
+    Ok(print_compacted(alloc, &mut store)?)
 }
 
 /// Loads the printed reports of the compaction of every bucket that a change file was written into.

@@ -72,10 +72,7 @@ pub fn read_transactions<'a>(alloc: Global, changes: &[u8]) -> Result<Vec<Transa
         if is_blank(line) {
             continue;
         }
-        let transaction = match read_numbered(alloc, line, number) {
-            Ok(transaction) => transaction,
-            Err(fault) => return Err(fault),
-        };
+        let transaction = read_numbered(alloc, line, number)?;
         transactions.push(transaction)?;
     }
     Ok(transactions)

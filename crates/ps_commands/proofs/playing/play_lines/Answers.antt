@@ -1,4 +1,5 @@
 use Rattle.std.proofs.Common.{sym, ◌∙◌, arith}
+use Rattle.std.proofs.lemmas.Result.{err_from_is_err_and}
 use Rattle.ps_commands.proofs.ScriptLines.{begun, skipped, played, ends, stands_now, all_played, fewer}
 use Rattle.ps_commands.proofs.playing.play_lines.Goals as goal
 
@@ -33,16 +34,17 @@ lines-preserved g c =
     let so_far = rw c.in-Some.is at c.lines.invariant in (
       played c.args.script.now c.lines.number c.in-Some.bytes c.split_line.result.0.now c.split_line.result.1 c.args.world.now c.lines.world (g.K.Sink.taken c.args.out.now) (g.K.Sink.taken c.lines.out)
           so_far.0 c.split_line.ensures c.play_line.new.world (g.K.Sink.taken c.play_line.new.out) (g.K.Sink.faults c.lines.out) (g.K.Sink.faults c.play_line.new.out)
-          (sym c.is_skipped.ensures ∙ c.if-is_skipped.false) c.in-Ok.ensures.prints,
+          (sym c.is_skipped.ensures ∙ c.if-is_skipped.false) c.in_ok-play_line.ensures.prints,
       omega (arith, so_far.1, c.play_line.ensures.faults),
     )
 
-pub returns-in-Err : goal.returns-in-Err
-returns-in-Err g c =
-    let so_far = rw c.in-Some.is at c.lines.invariant in
+pub returns-in_err-play_line : goal.returns-in_err-play_line
+returns-in_err-play_line g c =
+    let p = err_from_is_err_and c.from_residual.result c.from_residual.ensures.1 in
+    rw (p.1, p.2) (let so_far = rw c.in-Some.is at c.lines.invariant in
     ends c.args.script.now c.lines.number c.in-Some.bytes c.split_line.result.0.now c.split_line.result.1 c.args.world.now c.lines.world (g.K.Sink.taken c.args.out.now) (g.K.Sink.taken c.lines.out)
     so_far.0 c.split_line.ensures c.play_line.new.world (g.K.Sink.taken c.play_line.new.out) (g.K.Sink.faults c.lines.out) (g.K.Sink.faults c.play_line.new.out)
-    (sym c.is_skipped.ensures ∙ c.if-is_skipped.false) (g.K.Sink.faults c.args.out.now) (λ fixed play front. omega (arith, so_far.1, front.rose)) c.in-Err.fault c.in-Err.ensures.prints
+    (sym c.is_skipped.ensures ∙ c.if-is_skipped.false) (g.K.Sink.faults c.args.out.now) (λ fixed play front. omega (arith, so_far.1, front.rose)) c.in_err-play_line.field-0.0 c.in_err-play_line.ensures.prints)
 
 pub returns : goal.returns
 returns g c =

@@ -1,5 +1,6 @@
 use Rattle.std.proofs.Common.{rules, ◌≡◌, [], List, sym, ◌∙◌, subst}
 use Rattle.std.proofs.lemmas.List.{nil_from_length}
+use Rattle.std.proofs.lemmas.Result.{err_from_is_err_and}
 use Rattle.ps_rows.specs.declared.changes.Transaction.{Transaction}
 use Rattle.ps_store.specs.Stores.{StoreStandsFor}
 use Rattle.ps_files.proofs.Writing.{IsWriting, writing_starts, writing_more, writing_stops, writing_ends, next_past, next_low}
@@ -29,15 +30,16 @@ made-preserved c =
     let left = c.made.transaction-iterator.rest.items in
     let rest = c.next.new.self.rest.items in
     writing_more c.args.rules c.args.made left c.in-Some.transaction rest c.made.store w c.in-Some.ensures.steps.0 c.write_transaction.new.store
-    (c.in-Ok.ensures c.args.rules w.done w.committed (next_past c.args.rules c.args.made left c.in-Some.transaction rest c.made.store w c.in-Some.ensures.steps.0))
+    (c.in_ok-write_transaction.ensures c.args.rules w.done w.committed (next_past c.args.rules c.args.made left c.in-Some.transaction rest c.made.store w c.in-Some.ensures.steps.0))
 
-pub returns-in-Err : goal.returns-in-Err
-returns-in-Err c =
-    let w = c.made.invariant in
+pub returns-in_err-write_transaction : goal.returns-in_err-write_transaction
+returns-in_err-write_transaction c =
+    let p = err_from_is_err_and c.from_residual-in_err-write_transaction.result c.from_residual-in_err-write_transaction.ensures.1 in
+    rw (p.1, p.2) (let w = c.made.invariant in
     let left = c.made.transaction-iterator.rest.items in
     let rest = c.next.new.self.rest.items in
-    writing_stops c.args.rules c.args.made left c.in-Some.transaction rest c.made.store w c.in-Some.ensures.steps.0 c.write_transaction.new.store c.in-Err.fault
-    (c.in-Err.ensures c.args.rules w.done w.committed (next_past c.args.rules c.args.made left c.in-Some.transaction rest c.made.store w c.in-Some.ensures.steps.0))
+    writing_stops c.args.rules c.args.made left c.in-Some.transaction rest c.made.store w c.in-Some.ensures.steps.0 c.write_transaction.new.store c.in_err-write_transaction.field-0.0
+    (c.in_err-write_transaction.ensures c.args.rules w.done w.committed (next_past c.args.rules c.args.made left c.in-Some.transaction rest c.made.store w c.in-Some.ensures.steps.0)))
 
 pub returns : goal.returns
 returns c =

@@ -1,4 +1,5 @@
 use Rattle.std.proofs.Common.{sym, ◌∙◌}
+use Rattle.std.proofs.lemmas.Result.{err_from_is_err_and}
 use Rattle.ps_files.proofs.AllLines.{begun, read_more, refuses_all, all_read}
 use Rattle.ps_files.proofs.reading_all.read_transactions.Goals as goal
 
@@ -9,14 +10,15 @@ pub lines-preserved : goal.lines-preserved
 lines-preserved c =
     let so_far = rw c.in-Some.is at c.lines.invariant in
     rw c.in_ok-push.ensures.items
-    (read_more c.args.changes.now c.lines.number c.in-Some.bytes c.split_line.result.0.now c.split_line.result.1 c.lines.transactions.items so_far c.split_line.ensures c.in-Ok.transaction
-    (sym c.is_blank.ensures ∙ c.if-is_blank.false) c.in-Ok.ensures.read c.in-Ok.ensures.position)
+    (read_more c.args.changes.now c.lines.number c.in-Some.bytes c.split_line.result.0.now c.split_line.result.1 c.lines.transactions.items so_far c.split_line.ensures c.in_ok-transaction.transaction
+    (sym c.is_blank.ensures ∙ c.if-is_blank.false) c.in_ok-transaction.ensures.read c.in_ok-transaction.ensures.position)
 
-pub returns-in-Err : goal.returns-in-Err
-returns-in-Err c =
-    let so_far = rw c.in-Some.is at c.lines.invariant in
-    refuses_all c.args.changes.now c.lines.number c.in-Some.bytes c.split_line.result.0.now c.split_line.result.1 c.lines.transactions.items so_far c.split_line.ensures c.in-Err.fault
-    (sym c.is_blank.ensures ∙ c.if-is_blank.false) c.in-Err.ensures.read
+pub returns-in_err-transaction : goal.returns-in_err-transaction
+returns-in_err-transaction c =
+    let p = err_from_is_err_and c.from_residual.result c.from_residual.ensures.1 in
+    rw (p.1, p.2) (let so_far = rw c.in-Some.is at c.lines.invariant in
+    refuses_all c.args.changes.now c.lines.number c.in-Some.bytes c.split_line.result.0.now c.split_line.result.1 c.lines.transactions.items so_far c.split_line.ensures c.in_err-transaction.field-0.0
+    (sym c.is_blank.ensures ∙ c.if-is_blank.false) c.in_err-transaction.ensures.read)
 
 pub returns : goal.returns
 returns c = all_read c.args.changes.now c.lines.number c.lines.transactions (rw c.in_default.is at c.lines.invariant)

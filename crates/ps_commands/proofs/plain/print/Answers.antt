@@ -1,0 +1,34 @@
+use Rattle.std.proofs.Common.{subst}
+use Rattle.std.proofs.lemmas.Result.{err_from_is_err_and}
+use Rattle.ps_io.specs.Contents.{Gains, GainsFront}
+use Rattle.ps_commands.proofs.Causes.{begins}
+use Rattle.ps_commands.proofs.plain.print.Goals as goal
+
+pub returns-in_err-text : goal.returns-in_err-text
+returns-in_err-text g c =
+    let p = err_from_is_err_and c.from_residual.result c.from_residual.ensures.1 in
+    rw (p.1, p.2) (λ held before now words finds. (rw c.in_err-text.was at finds) (g.K.Sink.taken c.args.out.now) (g.K.Sink.faults c.args.out.now))
+
+pub returns-in-Ok : goal.returns-in-Ok
+returns-in-Ok g c = λ held before now words finds.
+    let found = rw c.in_ok-text.was at finds in
+    record {
+      command = found.0;
+      is = found.1;
+      text = c.in_ok-text.text.items;
+      means = found.2;
+      printed = subst (λ bytes. Gains (g.K.Sink.taken c.args.out.now) (g.K.Sink.taken c.write.new.self) bytes) c.as_slice.ensures.value c.in-Ok.ensures.ok;
+    }
+
+pub returns : goal.returns
+returns g c = λ held before now words finds.
+    let found = rw c.in_ok-text.was at finds in (
+      record {
+        command = found.0;
+        is = found.1;
+        text = c.in_ok-text.text.items;
+        means = begins held found.0 c.in_ok-text.text.items found.2;
+        printed = subst (λ bytes. GainsFront (g.K.Sink.taken c.args.out.now) (g.K.Sink.taken c.write.new.self) bytes) c.as_slice.ensures.value c.in-Err.ensures.err;
+      },
+      c.in-Err.ensures.failed,
+    )
