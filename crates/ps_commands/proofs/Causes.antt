@@ -48,7 +48,7 @@ module _ (o : Outside) (mid_held : Option Contents) (mid : ℕ) (words : List (L
   cause_of Finds Refuses why Memory h = inl (kept, (reached.command, reached.is))
 
 module _ (o : Outside) (words : List (List ℕ)) (name : List ℕ) (kept : Kept o) where
-  pub rules_refused : Reaches o.held words for_rules name → (fault : Fault) (bytes : List ℕ) → HoldsWithin o.held name rules_limit bytes → IsRulesFault fault bytes → Caused o words fault
+  rules_refused : Reaches o.held words for_rules name → (fault : Fault) (bytes : List ℕ) → HoldsWithin o.held name rules_limit bytes → IsRulesFault fault bytes → Caused o words fault
   rules_refused reached Usage bytes file h = absurd h
   rules_refused reached (Rules line column why) bytes file h = (kept, inl (record { name = name; reached = reached; bytes = bytes; file = file; refused = h }))
   rules_refused reached (Change line why) bytes file h = absurd h
@@ -62,7 +62,7 @@ module _ (o : Outside) (words : List (List ℕ)) (name : List ℕ) (kept : Kept 
   rules_refused reached (Script place cause) bytes file h = absurd h
   rules_refused reached Memory bytes file h = absurd h
 
-  pub claims_refused : Reaches o.held words for_claims name → (fault : Fault) (bytes : List ℕ) → HoldsWithin o.held name file_limit bytes → IsClaimsFault fault bytes → Caused o words fault
+  claims_refused : Reaches o.held words for_claims name → (fault : Fault) (bytes : List ℕ) → HoldsWithin o.held name file_limit bytes → IsClaimsFault fault bytes → Caused o words fault
   claims_refused reached Usage bytes file h = absurd h
   claims_refused reached (Rules line column why) bytes file h = absurd h
   claims_refused reached (Change line why) bytes file h = absurd h
@@ -76,7 +76,7 @@ module _ (o : Outside) (words : List (List ℕ)) (name : List ℕ) (kept : Kept 
   claims_refused reached (Script place cause) bytes file h = absurd h
   claims_refused reached Memory bytes file h = absurd h
 
-  pub keys_refused : Reaches o.held words for_keys name → (fault : Fault) (bytes : List ℕ) → HoldsWithin o.held name file_limit bytes → IsKeysFault fault bytes → Caused o words fault
+  keys_refused : Reaches o.held words for_keys name → (fault : Fault) (bytes : List ℕ) → HoldsWithin o.held name file_limit bytes → IsKeysFault fault bytes → Caused o words fault
   keys_refused reached Usage bytes file h = absurd h
   keys_refused reached (Rules line column why) bytes file h = absurd h
   keys_refused reached (Change line why) bytes file h = absurd h
@@ -95,7 +95,7 @@ module _ (o : Outside) (words : List (List ℕ)) (names : Names) (kept : Kept o)
   abbrev files_before : ReadsRulesAndClaims o.held names
   files_before = record { rules = rules; asker = asker_of asker; rules_read = rules_read; claims_read = claims_read }
 
-  pub changes_refused : (fault : Fault) (bytes : List ℕ) → HoldsWithin o.held names.changes file_limit bytes → RefusesRows rules asker fault bytes → Caused o words fault
+  changes_refused : (fault : Fault) (bytes : List ℕ) → HoldsWithin o.held names.changes file_limit bytes → RefusesRows rules asker fault bytes → Caused o words fault
   changes_refused Usage bytes file h = absurd h
   changes_refused (Rules line column why) bytes file h = absurd h
   changes_refused (Change line why) bytes file h = (kept, inl (record { names = names; is = is; before = files_before; bytes = bytes; file = file; refused = h }))
@@ -121,7 +121,7 @@ module _ (o : Outside) (words : List (List ℕ)) (names : Names) (kept : Kept o)
   changes_refused Memory bytes file h = absurd h
 
 module _ (o : Outside) (words : List (List ℕ)) (names : Inputs) (kept : Kept o) (is : command_of words ≡ Some (compact names)) (rules : RuleSet) (rules_read : ReadsRules o.held names.rules rules) where
-  pub reports_refused : (fault : Fault) (bytes : List ℕ) → HoldsWithin o.held names.changes file_limit bytes → RefusesReports rules fault bytes → Caused o words fault
+  reports_refused : (fault : Fault) (bytes : List ℕ) → HoldsWithin o.held names.changes file_limit bytes → RefusesReports rules fault bytes → Caused o words fault
   reports_refused Usage bytes file h = absurd h
   reports_refused (Rules line column why) bytes file h = absurd h
   reports_refused (Change line why) bytes file h = (kept, inr (inl (record { names = names; is = is; rules = rules; rules_read = rules_read; bytes = bytes; file = file; refused = h })))
@@ -136,7 +136,7 @@ module _ (o : Outside) (words : List (List ℕ)) (names : Inputs) (kept : Kept o
   reports_refused Memory bytes file h = absurd h
 
 -- what is made and has no summary
-pub made_refused : (o : Outside) (words : List (List ℕ)) (count : ℕ) → Kept o → command_of words ≡ Some (generate count) → (fault : Fault) → Summarizes (generated count) (Err fault) → Caused o words fault
+made_refused : (o : Outside) (words : List (List ℕ)) (count : ℕ) → Kept o → command_of words ≡ Some (generate count) → (fault : Fault) → Summarizes (generated count) (Err fault) → Caused o words fault
 made_refused o words count kept is Usage h = absurd h
 made_refused o words count kept is (Rules line column why) h = (kept, inr (record { count = count; is = is; refused = h }))
 made_refused o words count kept is (Change line why) h = absurd h
@@ -179,7 +179,7 @@ pub cause_of_asker : (o : Outside) (mid_held : Option Contents) (mid : ℕ) (wor
 cause_of_asker o mid_held mid words name fault same risen kept reached h =
     cause_of o mid_held mid words for_claims name same risen kept reached FindsAsker IsClaimsFault (claims_refused o words name kept reached) fault h
 
-pub cause_of_rows : (o : Outside) (mid_held : Option Contents) (mid : ℕ) (words : List (List ℕ)) (names : Names) (rules : RuleSet) (asker : Asker) (fault : Fault) → mid_held ≡ o.held → o.read_before ≤ mid → Kept o
+cause_of_rows : (o : Outside) (mid_held : Option Contents) (mid : ℕ) (words : List (List ℕ)) (names : Names) (rules : RuleSet) (asker : Asker) (fault : Fault) → mid_held ≡ o.held → o.read_before ≤ mid → Kept o
     → command_of words ≡ Some (rows names) → ReadsRules o.held names.rules rules → ReadsAsker o.held names.claims (asker_of asker)
     → Loads {X = Vec ℕ Global} mid_held names.changes file_limit mid o.read_now (FindsRows rules asker) (RefusesRows rules asker) (Err fault) → Caused o words fault
 cause_of_rows o mid_held mid words names rules asker fault same risen kept is rules_read claims_read h =
@@ -188,7 +188,7 @@ cause_of_rows o mid_held mid words names rules asker fault same risen kept is ru
     cause_of o mid_held mid words for_changes names.changes same risen kept reached (FindsRows rules asker) (RefusesRows rules asker)
     (changes_refused o words names kept is rules asker rules_read claims_read) fault h
 
-pub cause_of_reports : (o : Outside) (mid_held : Option Contents) (mid : ℕ) (words : List (List ℕ)) (names : Inputs) (rules : RuleSet) (fault : Fault) → mid_held ≡ o.held → o.read_before ≤ mid → Kept o
+cause_of_reports : (o : Outside) (mid_held : Option Contents) (mid : ℕ) (words : List (List ℕ)) (names : Inputs) (rules : RuleSet) (fault : Fault) → mid_held ≡ o.held → o.read_before ≤ mid → Kept o
     → command_of words ≡ Some (compact names) → ReadsRules o.held names.rules rules
     → Loads {X = Vec ℕ Global} mid_held names.changes file_limit mid o.read_now (FindsReports rules) (RefusesReports rules) (Err fault) → Caused o words fault
 cause_of_reports o mid_held mid words names rules fault same risen kept is rules_read h =
@@ -211,8 +211,7 @@ begins held (token names) text means = means
 begins held (generate count) text means = means
 begins held (generate_lines count) text means = means
 
-
-pub means_compact : (held mid_held : Option Contents) (mid now : ℕ) (names : Inputs) (rules : RuleSet) (text : Vec ℕ Global) → mid_held ≡ held
+means_compact : (held mid_held : Option Contents) (mid now : ℕ) (names : Inputs) (rules : RuleSet) (text : Vec ℕ Global) → mid_held ≡ held
     → ReadsRules held names.rules rules
     → Loads mid_held names.changes file_limit mid now (FindsReports rules) (RefusesReports rules) (Ok text) → MeansCompact held names text.items
 means_compact held mid_held mid now names rules text same read h = record {
@@ -223,7 +222,7 @@ means_compact held mid_held mid now names rules text same read h = record {
   is = h.2.is;
 }
 
-pub means_rows : (held mid_held : Option Contents) (mid now : ℕ) (names : Names) (rules : RuleSet) (asker : Asker) (text : Vec ℕ Global) → mid_held ≡ held
+means_rows : (held mid_held : Option Contents) (mid now : ℕ) (names : Names) (rules : RuleSet) (asker : Asker) (text : Vec ℕ Global) → mid_held ≡ held
     → ReadsRules held names.rules rules → ReadsAsker held names.claims (asker_of asker)
     → Loads mid_held names.changes file_limit mid now (FindsRows rules asker) (RefusesRows rules asker) (Ok text) → MeansRows held names text.items
 means_rows held mid_held mid now names rules asker text same read claims h = record {

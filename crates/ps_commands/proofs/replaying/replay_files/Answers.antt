@@ -1,7 +1,7 @@
 use Rattle.std.proofs.Common.{◌≤◌, ◌∙◌, Option, refl, arith, ℕ}
 use Rattle.std.proofs.lemmas.Result.{err_from_is_err_and}
 use Rattle.ps_io.specs.Contents.{Contents}
-use Rattle.ps_commands.specs.Commands.{Scripting, replay, Outside}
+use Rattle.ps_commands.specs.Commands.{Scripting, replay, Outside, reading}
 use Rattle.ps_commands.specs.Replaying.{Game}
 use Rattle.ps_commands.proofs.Causes.{rules_read, cause_of_rules}
 use Rattle.ps_commands.proofs.Replays.{cause_of_fed, cause_of_script, transactions_read, script_read, played}
@@ -14,7 +14,7 @@ returns-in_err-rules g c =
     let names : Scripting = record { rules = c.args.rules.now; changes = c.args.changes.now; script = c.args.script.now } in
     let held : Option Contents = g.F.Files.held c.args.files.now in
     let start : ℕ = g.F.Files.faults c.args.files.now in
-    let o : Outside = record { held = held; read_before = start; read_now = g.F.Files.faults c.load_rules.new.files; taken_before = g.K.Sink.taken c.args.out.now; taken_now = g.K.Sink.taken c.args.out.now; write_before = g.K.Sink.faults c.args.out.now; write_now = g.K.Sink.faults c.args.out.now } in
+    let o : Outside = reading held start (g.F.Files.faults c.load_rules.new.files) (g.K.Sink.taken c.args.out.now) (g.K.Sink.faults c.args.out.now) in
     cause_of_rules o words c.args.rules.now c.in_err-rules.field-0.0 refl (record { command = replay names; is = is; comes = refl }) c.in_err-rules.ensures.loads)
 
 pub returns-in_err-transactions : goal.returns-in_err-transactions
@@ -24,7 +24,7 @@ returns-in_err-transactions g c =
     let names : Scripting = record { rules = c.args.rules.now; changes = c.args.changes.now; script = c.args.script.now } in
     let held : Option Contents = g.F.Files.held c.args.files.now in
     let start : ℕ = g.F.Files.faults c.args.files.now in
-    let o : Outside = record { held = held; read_before = start; read_now = g.F.Files.faults c.load_transactions.new.files; taken_before = g.K.Sink.taken c.args.out.now; taken_now = g.K.Sink.taken c.args.out.now; write_before = g.K.Sink.faults c.args.out.now; write_now = g.K.Sink.faults c.args.out.now } in
+    let o : Outside = reading held start (g.F.Files.faults c.load_transactions.new.files) (g.K.Sink.taken c.args.out.now) (g.K.Sink.faults c.args.out.now) in
     let held_1 : Option Contents = g.F.Files.held c.load_rules.new.files in
     let read_1 : ℕ = g.F.Files.faults c.load_rules.new.files in
     let rules = rules_read held c.args.rules.now start read_1 c.in_ok-rules.rules c.in_ok-rules.ensures.loads in
@@ -37,7 +37,7 @@ returns-in_err-script g c =
     let names : Scripting = record { rules = c.args.rules.now; changes = c.args.changes.now; script = c.args.script.now } in
     let held : Option Contents = g.F.Files.held c.args.files.now in
     let start : ℕ = g.F.Files.faults c.args.files.now in
-    let o : Outside = record { held = held; read_before = start; read_now = g.F.Files.faults c.load.new.files; taken_before = g.K.Sink.taken c.args.out.now; taken_now = g.K.Sink.taken c.args.out.now; write_before = g.K.Sink.faults c.args.out.now; write_now = g.K.Sink.faults c.args.out.now } in
+    let o : Outside = reading held start (g.F.Files.faults c.load.new.files) (g.K.Sink.taken c.args.out.now) (g.K.Sink.faults c.args.out.now) in
     let held_1 : Option Contents = g.F.Files.held c.load_rules.new.files in
     let read_1 : ℕ = g.F.Files.faults c.load_rules.new.files in
     let rules = rules_read held c.args.rules.now start read_1 c.in_ok-rules.rules c.in_ok-rules.ensures.loads in
