@@ -1,9 +1,10 @@
 -- A client of a play, and what an event of it leaves.
-use Rattle.std.proofs.Common.{◌≡◌, ℕ, true, false, Option, Some, None, List, [], ◌∷◌, ◌++◌, refl, sym, subst}
-use Rattle.std.specs.Prelude.{if◌then◌else◌, bytes_eq}
+use Rattle.std.proofs.Common.{◌≡◌, ℕ, true, false, Option, Some, None, Ok, Err, List, [], ◌∷◌, ◌++◌, refl, sym, subst}
+use Rattle.std.specs.Prelude.{if◌then◌else◌, bytes_eq, IfOk, Result}
 use Rattle.std.proofs.lemmas.Bool.{cond-true, cond-false}
 use Rattle.std.proofs.lemmas.List.{append-nil}
 use Rattle.std.proofs.lemmas.Slice.Eq.{bytes_eq-Decides}
+use Rattle.ps_data.specs.declared.shortage.Memory.{Memory}
 use Rattle.ps_sql_eval.specs.declared.askers.Asker.{Asker}
 use Rattle.ps_script.specs.declared.events.ScriptEvent.{ScriptEvent}
 use Rattle.ps_store.specs.declared.events.Event.{Event}
@@ -17,11 +18,11 @@ use Rattle.ps_core.specs.declared.effects.Effect.{Effect}
 use Rattle.ps_core.specs.Plays.{Play, happens, says, with_reader}
 use Rattle.ps_core.specs.Plays as plays
 use Rattle.ps_core.specs.ReaderEvents.{becomes}
-use Rattle.ps_core.specs.PlaySteps.{Comes}
+use Rattle.ps_core.specs.PlaySteps.{Comes, refusal}
 use Rattle.ps_core.specs.declared.readers.Reader.{Reader}
 use Rattle.ps_core.specs.declared.readers.Stream.{Stream}
 use Rattle.ps_core.specs.Texts.{IsPrintable}
-use Rattle.ps_core.specs.Parts.{CameTo}
+use Rattle.ps_core.specs.Parts.{Acts, CameTo, faulted}
 use Rattle.ps_core.specs.Worlds.{LinkStandsFor, ReaderStandsFor, StreamStandsFor}
 
 pub itself : (name : List ℕ) → bytes_eq name name ≡ true
@@ -104,3 +105,11 @@ streams_so fixed history asker own stream (Streaming at session waiting) some st
   link_is = refl;
   stands = subst (λ (o : Option Stream). LinkStandsFor fixed history asker o (Streaming at session waiting)) some stands;
 }
+
+-- ---- want of memory
+
+-- where the event may come, want of memory is an answer
+pub acted_or : {P : Effect → Type 0} (fixed : Fixed) (play : Play) (event : ScriptEvent) (name : List ℕ) (store : Store) (own : Reader) (done : Result Effect Memory)
+    → refusal play event ≡ None → IfOk done P → ((effect : Effect) → P effect → CameTo fixed play event name store own effect) → Acts fixed play event name store own (faulted done)
+acted_or fixed play event name store own (Ok effect) may came gives = gives effect came
+acted_or fixed play event name store own (Err want) may came gives = may

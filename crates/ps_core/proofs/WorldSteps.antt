@@ -198,7 +198,7 @@ acted stay fixed old new play event name own (Err WrongPhase) it failed left put
           subst (λ (o : Option Reader). OneStandsFor fixed play.history o (play.readers other)) (sym (put other ∙ cond-false (bytes_eq name other) (Some own) (reader_at old.readers other) apart))
           (it.readers other)
     ]
-acted stay fixed old new play event name own (Err Memory) it failed left put acts = tt
+acted stay fixed old new play event name own (Err Memory) it failed left put acts = acts
 
 -- ---- a client begins
 
@@ -211,15 +211,22 @@ second_client fixed world play name asker it some = ap (λ (b : Bool). if b then
     there (Some own) None some stands = absurd stands
     there (Some own) (Some reader) some stands = refl
 
+pub may_begin : (fixed : Fixed) (world : World) (play : Play) (name : List ℕ) (asker : Asker) → WorldStandsFor fixed world play → is_some (reader_at world.readers name) ≡ false
+    → refusal play (scripts.Client name asker) ≡ None
+may_begin fixed world play name asker it none = ap (λ (b : Bool). if b then Some WrongPhase else None) (not_there (reader_at world.readers name) (play.readers name) none (it.readers name))
+  where
+    not_there : (own : Option Reader) (reader : Option plays.Reader) → is_some own ≡ false → OneStandsFor fixed play.history own reader → is_some reader ≡ false
+    not_there None None none stands = refl
+    not_there None (Some reader) none stands = absurd stands
+    not_there (Some own) reader none stands = cc
+
 pub began : PlacesStay → (fixed : Fixed) (old new : World) (play : Play) (name : List ℕ) (asker : Asker) (effect : Effect) → WorldStandsFor fixed old play → new.store ≡ old.store
     → new.failed ≡ old.failed → new.left.items ≡ old.left.items → is_some (reader_at old.readers name) ≡ false → HasBegun old.readers name asker new.readers effect
     → Went fixed play (scripts.Client name asker) new effect
 began stay fixed old new play name asker effect it store failed left none has =
     let outcome : Outcome = becomes (effects.Client name) name (first_reader asker) play in
-    let free : refusal play (scripts.Client name asker) ≡ None =
-    ap (λ (b : Bool). if b then Some WrongPhase else None) (not_there (reader_at old.readers name) (play.readers name) none (it.readers name)) in
     let came : Came fixed play (scripts.Client name asker) new.store effect outcome = record {
-      comes = record { may = free; gives = refl };
+      comes = record { may = may_begin fixed old play name asker it none; gives = refl };
       effect_is = has.effect_is;
       printable = subst IsPrintable has.effect_is tt;
       more = [];
@@ -230,11 +237,6 @@ began stay fixed old new play name asker effect it store failed left none has =
     (other_reader fixed old new play (scripts.Client name asker) effect outcome it came stay name has.reader (first_reader asker) has.put
     (cond-true (bytes_eq name name) (Some (first_reader asker)) (play.readers name) (itself name))
     (λ other apart. cond-false (bytes_eq name other) (Some (first_reader asker)) (play.readers other) apart) (has.first fixed play.history))
-  where
-    not_there : (own : Option Reader) (reader : Option plays.Reader) → is_some own ≡ false → OneStandsFor fixed play.history own reader → is_some reader ≡ false
-    not_there None None none stands = refl
-    not_there None (Some reader) none stands = absurd stands
-    not_there (Some own) reader none stands = cc
 
 pub has_begun : (old new : Readers) (name key said : List ℕ) (asker : Asker) (reader : Reader) → key ≡ name → said ≡ name
     → ((other : List ℕ) → get (slice_cmp nat_cmp) new other ≡ cond (is_at (slice_cmp nat_cmp key) other) (Some reader) (get (slice_cmp nat_cmp) old other))

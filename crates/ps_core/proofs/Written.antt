@@ -70,6 +70,9 @@ pub tabled : (table : List ℕ) (o : Option plays.Reader) → table ≢ [] → u
 tabled [] o some = absurd (some refl)
 tabled (b ∷ bs) o some = refl
 
+pub may_write : (play : Play) (name : List ℕ) (reader : plays.Reader) (change : Change) → play.readers name ≡ Some reader → change.table ≢ [] → untabled change.table (play.readers name) ≡ None
+may_write play name reader change named some = tabled change.table (play.readers name) some ∙ known play name reader named
+
 pub wrote_locally : (fixed : Fixed) (play : Play) (name said : List ℕ) (store : Store) (old new : Reader) (change own : Change) → IsAt fixed play name store old → change.table ≢ [] → said ≡ name → own ≡ change
     → new.asker ≡ old.asker → new.stream ≡ old.stream → state new.client ≡ keeping (written own (state old.client).kept) (state old.client)
     → CameTo fixed play (scripts.Local name change) name store new (effects.Local said)
@@ -77,7 +80,7 @@ wrote_locally fixed play name said store old new change own it some said_is own_
     let client : state new.client ≡ keeping (written change (state old.client).kept) (state old.client) =
     client_is ∙ ap (λ (c : Change). keeping (written c (state old.client).kept) (state old.client)) own_is in
     became fixed play (scripts.Local name change) name store new (effects.Local name) (effects.Local said) (ap effects.Local (sym said_is)) tt (with_kept (written change it.reader.client.kept) it.reader)
-    (record { may = tabled change.table (play.readers name) some ∙ known play name it.reader it.named; gives = (it.reader, it.named, refl) })
+    (record { may = may_write play name it.reader change it.named some; gives = (it.reader, it.named, refl) })
     it.serves.stands (kept_stands fixed play.history old new it.reader (written change) it.stands asker stream client)
 
 -- ---- uploads
@@ -190,7 +193,7 @@ module _ (fixed : Fixed) (play : Play) (name : List ℕ) (store : Store) (old : 
   user_is : old.asker.user ≡ it.reader.asker.user
   user_is = ap (λ a. a.user) it.stands.asker_is
 
-  may_number : unknown_or_nameless (play.readers name) ≡ None
+  pub may_number : unknown_or_nameless (play.readers name) ≡ None
   may_number = ap unknown_or_nameless it.named ∙ ap nameless client_is
 
   numbers_as : (outcome : Outcome) → outcome ≡ numbers_for client fixed.limits (ledger fixed play) name play it.reader → NumbersAs fixed it.reader.asker.client name play it.reader outcome

@@ -1,5 +1,5 @@
 -- What the parts of a world do: to its store, and to one of its clients.
-use Rattle.std.specs.Prelude.{◌≡◌, ◌≢◌, ℕ, ◌++◌, false, List, [], Some, Result, Ok, Err, bytes_eq}
+use Rattle.std.specs.Prelude.{◌≡◌, ◌≢◌, ℕ, ◌++◌, false, List, [], Some, None, Result, Ok, Err, bytes_eq}
 use Rattle.ps_data.specs.declared.shortage.Memory as values
 use Rattle.ps_definitions.specs.RuleSets.{AreRules}
 use Rattle.ps_rows.specs.declared.changes.Transaction.{Transaction}
@@ -98,13 +98,13 @@ pub record CameTo (fixed : Fixed) (play : Play) (event : ScriptEvent) (name : Li
   pub named : outcome.play.readers name ≡ Some reader
   pub reader_stands : ReaderStandsFor fixed outcome.play.history own reader
 
--- what the client of a name answers to an event
+-- what the client of a name answers to an event; memory is wanting only for one that may come
 abbrev pub Acts : Fixed → Play → ScriptEvent → List ℕ → Store → Reader → Result Effect ScriptFault → Type 0
 Acts fixed play event name store own (Ok effect) = CameTo fixed play event name store own effect
 Acts fixed play event name store own (Err BadEvent) = ⊥
 Acts fixed play event name store own (Err UnknownClient) = ⊥
 Acts fixed play event name store own (Err WrongPhase) = (refusal play event ≡ Some WrongPhase) × IsAt fixed play name store own
-Acts fixed play event name store own (Err Memory) = Unit {0}
+Acts fixed play event name store own (Err Memory) = refusal play event ≡ None
 
 abbrev pub faulted : Result Effect values.Memory → Result Effect ScriptFault
 faulted (Ok effect) = Ok effect

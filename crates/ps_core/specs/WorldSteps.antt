@@ -1,5 +1,5 @@
 -- What a world answers to an event.
-use Rattle.std.specs.Prelude.{◌≡◌, true, Some, Result, Ok, Err}
+use Rattle.std.specs.Prelude.{◌≡◌, true, Some, None, Result, Ok, Err}
 use Rattle.ps_store.specs.declared.fixed.Fixed.{Fixed}
 use Rattle.ps_script.specs.declared.events.ScriptEvent.{ScriptEvent}
 use Rattle.ps_script.specs.declared.faults.ScriptFault.{ScriptFault}
@@ -30,18 +30,19 @@ pub record Refused (fixed : Fixed) (play : Play) (event : ScriptEvent) (new : Wo
   pub refusal_is : refusal play event ≡ Some fault
   pub stands : WorldStandsFor fixed new play
 
--- what a step does, but for what it says of want of memory and of how clients are led
+-- what a step does, but for the world that want of memory leaves, and for how clients are led; memory is wanting only for an event that
+-- may come
 abbrev pub Goes : Fixed → Play → ScriptEvent → World → Result Effect ScriptFault → Type 0
 Goes fixed play event new (Ok effect) = Went fixed play event new effect
 Goes fixed play event new (Err BadEvent) = Refused fixed play event new BadEvent
 Goes fixed play event new (Err UnknownClient) = Refused fixed play event new UnknownClient
 Goes fixed play event new (Err WrongPhase) = Refused fixed play event new WrongPhase
-Goes fixed play event new (Err Memory) = Unit {0}
+Goes fixed play event new (Err Memory) = refusal play event ≡ None
 
--- after want of memory the world has failed
+-- after want of memory the world has failed; no event that may not come is answered so
 abbrev pub Steps : Fixed → Play → ScriptEvent → World → Result Effect ScriptFault → Type 0
 Steps fixed play event new (Ok effect) = Gave fixed play event new effect
 Steps fixed play event new (Err BadEvent) = Refused fixed play event new BadEvent
 Steps fixed play event new (Err UnknownClient) = Refused fixed play event new UnknownClient
 Steps fixed play event new (Err WrongPhase) = Refused fixed play event new WrongPhase
-Steps fixed play event new (Err Memory) = new.failed ≡ true
+Steps fixed play event new (Err Memory) = (new.failed ≡ true) × (refusal play event ≡ None)

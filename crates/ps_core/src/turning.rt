@@ -63,10 +63,7 @@ fn take(alloc: Global, store: &Store, stream: &mut Stream) -> Result<Effect, Tak
     calls_make_turns();
     courses_are_lawful();
     places_are_fronts();
-    let taken = match store.take(alloc, stream.session.asker()) {
-        Ok(taken) => taken,
-        Err(fault) => return Err(fault),
-    };
+    let taken = store.take(alloc, stream.session.asker())?;
     let line = stream.session.took(alloc, taken)?;
     let effect = send(alloc, &mut stream.waiting, line, None)?;
     Ok(effect)

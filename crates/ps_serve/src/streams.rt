@@ -105,14 +105,8 @@ fn take(alloc: Global, store: &Store, session: &mut Session) -> Result<Option<Li
 {
     calls_make_turns();
     places_are_fronts();
-    let taken = match store.take(alloc, session.asker()) {
-        Ok(taken) => taken,
-        Err(fault) => return Err(fault),
-    };
-    match session.took(alloc, taken) {
-        Ok(line) => Ok(line),
-        Err(_) => Err(TakeFault::Memory),
-    }
+    let taken = store.take(alloc, session.asker())?;
+    Ok(session.took(alloc, taken)?)
 }
 
 // Takes a checkpoint that is not the stream's first, where the token is not expired.

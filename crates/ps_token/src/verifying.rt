@@ -1,7 +1,8 @@
-ghost use Rattle.std.specs.Prelude.{◌≡◌, IfOk, Ok};
+ghost use Rattle.std.specs.Prelude.{◌≡◌, IfOk, None, Ok, Err};
 ghost use Rattle.serde_json.specs.View.{view};
-ghost use Rattle.ps_token.specs.Parts.{signed_of};
+ghost use Rattle.ps_token.specs.Parts.{parts_of as parts_of_token, signed_of};
 ghost use Rattle.ps_token.specs.Types.{Claims as ClaimsData};
+ghost use Rattle.ps_token.specs.declared.faults.TokenFault.TheVariants as faults;
 ghost use Rattle.ps_token.specs.Accepted.{IsAccepted};
 ghost use Rattle.ps_token.specs.Members.{Verifies};
 ghost use Rattle.ps_token.specs.Seen.{seen};
@@ -24,6 +25,8 @@ pub fn verify(alloc: Global, keys: &Keys, token: &[u8], now: u64) -> Result<Clai
     ensures only { (claims : ClaimsData) → IsAccepted keys.now token.now now claims → Verifies result (Ok claims) }
     // Which refusal is the first.
     ensures exact { Verifies result (accepts keys.now token.now now) }
+    // What is not of three parts is refused whatever memory there is.
+    ensures parts { parts_of_token token.now ≡ None → result ≡ Err faults.Malformed }
 {
     keys.kids_are_distinct();
     verify_token(alloc, keys, token, now)
@@ -31,7 +34,8 @@ pub fn verify(alloc: Global, keys: &Keys, token: &[u8], now: u64) -> Result<Clai
 
 #[tactic(auto, unfolding(crate::specs::Tokens::accepts))]
 fn verify_token(alloc: Global, keys: &Keys, token: &[u8], now: u64) -> Result<Claims, TokenFault>
-    ensures { Verifies result (accepts keys.now token.now now) }
+    ensures exact { Verifies result (accepts keys.now token.now now) }
+    ensures parts { parts_of_token token.now ≡ None → result ≡ Err faults.Malformed }
 {
     match parts_of(token) {
         Some(parts) => verify_parts(alloc, keys, parts, now),

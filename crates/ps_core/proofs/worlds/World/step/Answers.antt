@@ -1,3 +1,4 @@
+use Rattle.std.proofs.Common.{Err, refl, ap, ◌∙◌}
 use Rattle.ps_core.proofs.WorldSteps.{gave, standing, still_world}
 use Rattle.ps_core.proofs.worlds.World.step.Goals as goal
 
@@ -11,3 +12,6 @@ returns-in-Ok-clause-world c =
 
 pub returns-in-Ok-clause-plays : goal.returns-in-Ok-clause-plays
 returns-in-Ok-clause-plays c = λ fixed play it. gave c.plays_stay_led.ensures fixed c.args.self.now _ play c.args.event.now c.in-Ok.effect it (c.in-Ok.ensures fixed play it)
+
+pub returns-in-Err-Memory-clause-plays : goal.returns-in-Err-Memory-clause-plays
+returns-in-Err-Memory-clause-plays c = λ fixed play it. (refl, rw (c.in-Err-Memory.is ∙ ap Err c.in-Err-Memory.field-0-is) at (c.happen.ensures fixed play it))
