@@ -2,6 +2,8 @@
 #include <errno.h>
 #include <stdio.h>
 #include <stdlib.h>
+#include <sys/syscall.h>
+#include <unistd.h>
 
 extern void *__libc_malloc(size_t);
 extern void *__libc_realloc(void *, size_t);
@@ -15,9 +17,11 @@ __attribute__((constructor)) static void begin(void) {
     counts = 1;
 }
 
-__attribute__((destructor)) static void end(void) {
+/* The program ends by this, so that no destructor runs. */
+__attribute__((noreturn)) void _exit(int status) {
     counts = 0;
-    fprintf(stderr, "allocations %ld\n", count);
+    dprintf(2, "allocations %ld\n", count);
+    for (;;) syscall(SYS_exit_group, status);
 }
 
 static int refuses(void) {
