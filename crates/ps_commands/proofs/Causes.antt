@@ -18,7 +18,6 @@ use Rattle.ps_rows.specs.declared.changes.Transaction.{Transaction}
 use Rattle.ps_files.specs.ChangeFiles.{transactions_of}
 use Rattle.ps_commands.specs.Dues.{Answers}
 use Rattle.ps_files.specs.Compacting.{FindsReports, RefusesReports}
-use Rattle.ps_commands.specs.Generating.{generated, Summarizes}
 use Rattle.ps_files.specs.Loading.{Loads, FindsRules, IsRulesFault, FindsKeys, IsKeysFault, FindsAsker, IsClaimsFault}
 use Rattle.ps_commands.specs.Loading.{Prepares, FindsRows, RefusesRows}
 
@@ -50,7 +49,7 @@ module _ (o : Outside) (mid_held : Option Contents) (mid : ℕ) (words : List (L
 module _ (o : Outside) (words : List (List ℕ)) (name : List ℕ) (kept : Kept o) where
   rules_refused : Reaches o.held words for_rules name → (fault : Fault) (bytes : List ℕ) → HoldsWithin o.held name rules_limit bytes → IsRulesFault fault bytes → Caused o words fault
   rules_refused reached Usage bytes file h = absurd h
-  rules_refused reached (Rules line column why) bytes file h = (kept, inl (record { name = name; reached = reached; bytes = bytes; file = file; refused = h }))
+  rules_refused reached (Rules line column why) bytes file h = (kept, record { name = name; reached = reached; bytes = bytes; file = file; refused = h })
   rules_refused reached (Change line why) bytes file h = absurd h
   rules_refused reached (PastLimit limit) bytes file h = absurd h
   rules_refused reached (TooManyBuckets count) bytes file h = absurd h
@@ -99,10 +98,10 @@ module _ (o : Outside) (words : List (List ℕ)) (names : Names) (kept : Kept o)
   changes_refused Usage bytes file h = absurd h
   changes_refused (Rules line column why) bytes file h = absurd h
   changes_refused (Change line why) bytes file h = (kept, inl (record { names = names; is = is; before = files_before; bytes = bytes; file = file; refused = h }))
-  changes_refused (PastLimit limit) bytes file h = (kept, inl (inl (record { names = names; is = is; before = files_before; bytes = bytes; file = file; refused = h })))
+  changes_refused (PastLimit limit) bytes file h = (kept, inl (record { names = names; is = is; before = files_before; bytes = bytes; file = file; refused = h }))
   changes_refused (TooManyBuckets count) bytes file h = (
     kept,
-    inl (record {
+    record {
       names = names;
       is = is;
       before = files_before;
@@ -110,7 +109,7 @@ module _ (o : Outside) (words : List (List ℕ)) (names : Names) (kept : Kept o)
       changes_read = record { bytes = bytes; file = file; read = h.read };
       count_is = h.count_is;
       more = h.more;
-    }),
+    },
   )
   changes_refused Claims bytes file h = absurd h
   changes_refused Keys bytes file h = absurd h
@@ -125,7 +124,7 @@ module _ (o : Outside) (words : List (List ℕ)) (names : Inputs) (kept : Kept o
   reports_refused Usage bytes file h = absurd h
   reports_refused (Rules line column why) bytes file h = absurd h
   reports_refused (Change line why) bytes file h = (kept, inr (inl (record { names = names; is = is; rules = rules; rules_read = rules_read; bytes = bytes; file = file; refused = h })))
-  reports_refused (PastLimit limit) bytes file h = (kept, inl (inr (inl (record { names = names; is = is; rules = rules; rules_read = rules_read; bytes = bytes; file = file; refused = h }))))
+  reports_refused (PastLimit limit) bytes file h = (kept, inr (inl (record { names = names; is = is; rules = rules; rules_read = rules_read; bytes = bytes; file = file; refused = h })))
   reports_refused (TooManyBuckets count) bytes file h = absurd h
   reports_refused Claims bytes file h = absurd h
   reports_refused Keys bytes file h = absurd h
@@ -134,21 +133,6 @@ module _ (o : Outside) (words : List (List ℕ)) (names : Inputs) (kept : Kept o
   reports_refused CannotWrite bytes file h = absurd h
   reports_refused (Script place cause) bytes file h = absurd h
   reports_refused Memory bytes file h = absurd h
-
--- what is made and has no summary
-made_refused : (o : Outside) (words : List (List ℕ)) (count : ℕ) → Kept o → command_of words ≡ Some (generate count) → (fault : Fault) → Summarizes (generated count) (Err fault) → Caused o words fault
-made_refused o words count kept is Usage h = absurd h
-made_refused o words count kept is (Rules line column why) h = (kept, inr (record { count = count; is = is; refused = h }))
-made_refused o words count kept is (Change line why) h = absurd h
-made_refused o words count kept is (PastLimit limit) h = (kept, inr (record { count = count; is = is; refused = h }))
-made_refused o words count kept is (TooManyBuckets buckets) h = (kept, inr (record { count = count; is = is; refused = h }))
-made_refused o words count kept is Claims h = absurd h
-made_refused o words count kept is Keys h = absurd h
-made_refused o words count kept is (TooLong seen) h = absurd h
-made_refused o words count kept is (CannotRead other) h = absurd h
-made_refused o words count kept is CannotWrite h = absurd h
-made_refused o words count kept is (Script place cause) h = absurd h
-made_refused o words count kept is Memory h = inl (kept, (generate count, is))
 
 -- ---- what was loaded
 
@@ -251,11 +235,6 @@ module _ (held mid_held : Option Contents) (start mid now : ℕ) (words : List (
   rows_found names rules asker (Ok text) same risen is read claims h = (rows names, is, means_rows held mid_held mid now names rules asker text same read claims h)
   rows_found names rules asker (Err fault) same risen is read claims h = λ taken faults.
       cause_of_rows (reading held start now taken faults) mid_held mid words names rules asker fault same risen refl is read claims h
-
-pub summary_found : (held : Option Contents) (before now : ℕ) (words : List (List ℕ)) (count : ℕ) (result : Result (Vec ℕ Global) Fault) → command_of words ≡ Some (generate count)
-    → Summarizes (generated count) result → Finds held before now words result
-summary_found held before now words count (Ok text) is h = (generate count, is, h)
-summary_found held before now words count (Err fault) is h = λ taken faults. made_refused (reading held before now taken faults) words count refl is fault h
 
 -- where an asker's rows are not answered, neither are they printed
 pub rows_refused : (rules : RuleSet) (asker : Asker) (bytes : List ℕ) (transactions : List Transaction) → transactions_of rules bytes ≡ Ok transactions

@@ -13,7 +13,6 @@ use Rattle.ps_token.specs.KeyLists.{key_of}
 use Rattle.ps_token.specs.declared.key_lists.Key.{Key}
 use Rattle.ps_files.specs.declared.faults.Fault.{Fault}
 use Rattle.ps_files.specs.declared.faults.Fault.TheVariants.{Usage, Rules, Change, PastLimit, TooManyBuckets, Claims, Keys, TooLong, CannotRead, CannotWrite, Script, Memory}
-use Rattle.ps_files.specs.declared.faults.Limit.{Limit}
 use Rattle.ps_files.specs.declared.faults.LineFault.{LineFault}
 use Rattle.ps_files.specs.declared.faults.ScriptCause.{ScriptCause}
 use Rattle.ps_files.specs.ChangeFiles.{transactions_of, all_transactions_of}
@@ -23,7 +22,7 @@ use Rattle.ps_files.specs.Checking.{check_text}
 use Rattle.ps_claims.specs.Claims.{asker_of_claims}
 use Rattle.ps_files.specs.FaultTexts.{status_of}
 use Rattle.ps_files.specs.HeldFiles.{rules_limit, file_limit, HoldsWithin}
-use Rattle.ps_commands.specs.Commands.{Names, Inputs, Scripting, Signing, Command, check, rows, replay, compact, token, generate, generate_lines, command_of, ReadsRules, ReadsAsker, ReadsChanges, ReadsTransactions, ReadsGame, ReadsKeyFile, token_text, Means, Prints, Role, for_rules, for_keys, for_claims, for_changes, for_script, limit_of, Reaches, ComesTo, RefusesRules, RefusesKeyFile, HasUnknownKid, RefusesKeys, RefusesClaims, RefusesChanges, RefusesCompaction, RefusesFed, RefusesScript, RefusesMade, RefusesLines, PassesLimit, ExceedsBuckets, HasTooManyBuckets, ExceedsFile, ExceedsLimit, IsNext, IsCommand, PrintsFront, PrintsSome, Kept, Outside, Caused, Refusal, exceeds, refused, refusal_status, within_limit, or_refused, or_refused_as, or_none, rules_meant, keys_meant, asker_meant, transactions_meant, rows_meant, all_meant, script_meant, Meant, prints, plays, printing, meaning, IsPlayed, IsAnswer, IsAnswerAlone, IsExact, ◌>>=◌}
+use Rattle.ps_commands.specs.Commands.{Names, Inputs, Scripting, Signing, Command, check, rows, replay, compact, token, generate, generate_lines, command_of, ReadsRules, ReadsAsker, ReadsChanges, ReadsTransactions, ReadsGame, ReadsKeyFile, token_text, Means, Prints, Role, for_rules, for_keys, for_claims, for_changes, for_script, limit_of, Reaches, ComesTo, RefusesRules, RefusesKeyFile, HasUnknownKid, RefusesKeys, RefusesClaims, RefusesChanges, RefusesCompaction, RefusesFed, RefusesScript, RefusesLines, HasTooManyBuckets, ExceedsFile, ExceedsLimit, IsNext, IsCommand, PrintsFront, PrintsSome, Kept, Outside, Caused, Refusal, exceeds, refused, refusal_status, within_limit, or_refused, or_refused_as, or_none, rules_meant, keys_meant, asker_meant, transactions_meant, rows_meant, all_meant, script_meant, Meant, prints, plays, printing, meaning, IsPlayed, IsAnswer, IsAnswerAlone, IsExact, ◌>>=◌}
 use Rattle.ps_commands.specs.Dues.{due, own_buckets}
 use Rattle.ps_files.specs.Compacting.{compact_text}
 use Rattle.ps_commands.specs.Generating.{generated}
@@ -305,9 +304,6 @@ module _ (held : Contents) (words : List (List ℕ)) (command : Command) (is : c
       (past_inputs held r.names r.rules r.rules_read
       ∙ ap (compact_left held r.rules) (transactions_from held r.names.changes r.rules r.bytes r.file ∙ ap or_refused r.refused)) (inl h)
 
-  made_answer : (fault : Fault) → RefusesMade words fault → (status ≡ status_of fault) × (new ≡ old) → IsAnswer (meaning held command) old new status
-  made_answer fault r h = at_command held words command (generate r.count) (Err (refused fault)) old new status is r.is (ap (λ r. printing (or_refused r)) r.refused) (inl h)
-
   fed_answer : (fault : Fault) → RefusesFed (Some held) words fault → (status ≡ status_of fault) × (new ≡ old) → IsAnswer (meaning held command) old new status
   fed_answer fault r h =
       at_command held words command (replay r.names) (Err (refused fault)) old new status is r.is
@@ -329,14 +325,6 @@ module _ (held : Contents) (words : List (List ℕ)) (command : Command) (is : c
   lines_answer fault (inr (inl r)) h = compaction_answer fault r h
   lines_answer fault (inr (inr r)) h = fed_answer fault r h
 
-  passed_answer : (limit : Limit) → PassesLimit (Some held) words limit → (status ≡ 5) × (new ≡ old) → IsAnswer (meaning held command) old new status
-  passed_answer limit (inl r) h = lines_answer (PastLimit limit) r h
-  passed_answer limit (inr r) h = made_answer (PastLimit limit) r h
-
-  unruled_answer : (fault : Fault) → RefusesRules (Some held) words fault ⊎ RefusesMade words fault → (status ≡ status_of fault) × (new ≡ old) → IsAnswer (meaning held command) old new status
-  unruled_answer fault (inl r) h = rules_answer fault r h
-  unruled_answer fault (inr r) h = made_answer fault r h
-
   buckets_answer : (count : ℕ) → HasTooManyBuckets (Some held) words count → (status ≡ 5) × (new ≡ old) → IsAnswer (meaning held command) old new status
   buckets_answer count r h =
       let b = r.before in
@@ -344,10 +332,6 @@ module _ (held : Contents) (words : List (List ℕ)) (command : Command) (is : c
       (past_claims held r.names b.rules b.asker b.rules_read b.claims_read
       ∙ ap (changes_left held b.rules b.asker) (transactions_are held r.names.changes b.rules r.transactions r.changes_read)
       ∙ ap (rows_left held) (too_many b.rules b.asker r.transactions count r.count_is r.more)) (inl h)
-
-  many_answer : (count : ℕ) → ExceedsBuckets (Some held) words count → (status ≡ 5) × (new ≡ old) → IsAnswer (meaning held command) old new status
-  many_answer count (inl r) h = buckets_answer count r h
-  many_answer count (inr r) h = made_answer (TooManyBuckets count) r h
 
   key_file_answer : RefusesKeyFile (Some held) words → (status ≡ 4) × (new ≡ old) → IsAnswer (meaning held command) old new status
   key_file_answer r h = refused_answer for_keys r.name (refused Keys) r.reached (keys_from held r.name r.bytes r.file ∙ ap (or_refused_as Keys) r.refused) h
@@ -367,10 +351,10 @@ module _ (held : Contents) (words : List (List ℕ)) (command : Command) (is : c
   answer_of : (read_before read_now write_before write_now : ℕ) → ¬ (Rose read_before read_now) → ¬ (Rose write_before write_now)
       → (fault : Fault) → Caused (outside held read_before read_now old new write_before write_now) words fault → status ≡ status_of fault → IsAnswer (meaning held command) old new status
   answer_of read_before read_now write_before write_now read written Usage c s = let wrong : Some command ≡ None = sym is ∙ c.1 in cc
-  answer_of read_before read_now write_before write_now read written (Rules line column why) c s = unruled_answer (Rules line column why) c.1 (s, c.0)
+  answer_of read_before read_now write_before write_now read written (Rules line column why) c s = rules_answer (Rules line column why) c.1 (s, c.0)
   answer_of read_before read_now write_before write_now read written (Change line why) c s = lines_answer (Change line why) c.1 (s, c.0)
-  answer_of read_before read_now write_before write_now read written (PastLimit limit) c s = passed_answer limit c.1 (s, c.0)
-  answer_of read_before read_now write_before write_now read written (TooManyBuckets count) c s = many_answer count c.1 (s, c.0)
+  answer_of read_before read_now write_before write_now read written (PastLimit limit) c s = lines_answer (PastLimit limit) c.1 (s, c.0)
+  answer_of read_before read_now write_before write_now read written (TooManyBuckets count) c s = buckets_answer count c.1 (s, c.0)
   answer_of read_before read_now write_before write_now read written Claims c s = claims_answer c.1 (s, c.0)
   answer_of read_before read_now write_before write_now read written Keys c s = keys_answer c.1 (s, c.0)
   answer_of read_before read_now write_before write_now read written (TooLong seen) c s = limit_answer seen c.1 (s, c.0)
@@ -379,7 +363,7 @@ module _ (held : Contents) (words : List (List ℕ)) (command : Command) (is : c
   answer_of read_before read_now write_before write_now read written (Script line why) c s = script_answer line why c s
   answer_of read_before read_now write_before write_now read written Memory c s = want_answer c s
 
--- a command that reads no file fails by what it makes, by the output or for want of memory
+-- a command that reads no file fails by the output or for want of memory
 module _ (words : List (List ℕ)) (old new : Option (List ℕ)) (status : ℕ) where
   abbrev ReadsNone : Command → Type 0
   ReadsNone (check name) = ⊥
@@ -418,25 +402,10 @@ module _ (words : List (List ℕ)) (old new : Option (List ℕ)) (status : ℕ) 
     of_reached : (role : Role) (name : List ℕ) → Reaches None words role name → Answer
     of_reached role name r = of_other r.command r.is (comes_to_none r.command role name r.comes)
 
-    of_made : (fault : Fault) → RefusesMade words fault → status ≡ status_of fault → new ≡ old → Answer
-    of_made fault r s kept = subst (λ c. IsAnswerAlone c old new status) (same_value (command_of words) (generate r.count) command r.is is) (rw r.refused (inl (s, kept)))
-
     of_lines : (fault : Fault) → RefusesLines None words fault → Answer
     of_lines fault (inl r) = of_other (rows r.names) r.is (λ none. none)
     of_lines fault (inr (inl r)) = of_other (compact r.names) r.is (λ none. none)
     of_lines fault (inr (inr r)) = of_other (replay r.names) r.is (λ none. none)
-
-    of_passed : (limit : Limit) → PassesLimit None words limit → status ≡ 5 → new ≡ old → Answer
-    of_passed limit (inl r) s kept = of_lines (PastLimit limit) r
-    of_passed limit (inr r) s kept = of_made (PastLimit limit) r s kept
-
-    of_buckets : (count : ℕ) → ExceedsBuckets None words count → status ≡ 5 → new ≡ old → Answer
-    of_buckets count (inl r) s kept = of_other (rows r.names) r.is (λ none. none)
-    of_buckets count (inr r) s kept = of_made (TooManyBuckets count) r s kept
-
-    of_rules : (fault : Fault) → RefusesRules None words fault ⊎ RefusesMade words fault → status ≡ status_of fault → new ≡ old → Answer
-    of_rules fault (inl r) s kept = of_reached for_rules r.name r.reached
-    of_rules fault (inr r) s kept = of_made fault r s kept
 
     of_keys : RefusesKeys None words → Answer
     of_keys (inl r) = of_reached for_keys r.name r.reached
@@ -457,10 +426,10 @@ module _ (words : List (List ℕ)) (old new : Option (List ℕ)) (status : ℕ) 
         → (fault : Fault) → Caused (record { held = None; read_before = read_before; read_now = read_now; taken_before = old; taken_now = new; write_before = write_before; write_now = write_now }) words fault → status ≡ status_of fault
         → Answer
     alone_answer read_before read_now write_before write_now read written Usage c s = let wrong : Some command ≡ None = sym is ∙ c.1 in cc
-    alone_answer read_before read_now write_before write_now read written (Rules line column why) c s = of_rules (Rules line column why) c.1 s c.0
+    alone_answer read_before read_now write_before write_now read written (Rules line column why) c s = of_reached for_rules c.1.name c.1.reached
     alone_answer read_before read_now write_before write_now read written (Change line why) c s = of_lines (Change line why) c.1
-    alone_answer read_before read_now write_before write_now read written (PastLimit limit) c s = of_passed limit c.1 s c.0
-    alone_answer read_before read_now write_before write_now read written (TooManyBuckets n) c s = of_buckets n c.1 s c.0
+    alone_answer read_before read_now write_before write_now read written (PastLimit limit) c s = of_lines (PastLimit limit) c.1
+    alone_answer read_before read_now write_before write_now read written (TooManyBuckets n) c s = of_other (rows c.1.names) c.1.is (λ none. none)
     alone_answer read_before read_now write_before write_now read written Claims c s = of_reached for_claims c.1.name c.1.reached
     alone_answer read_before read_now write_before write_now read written Keys c s = of_keys c.1
     alone_answer read_before read_now write_before write_now read written (TooLong seen) c s = of_reached c.1.role c.1.name c.1.reached
@@ -622,28 +591,16 @@ module _ (held : Option Contents) (words : List (List ℕ)) (none : command_of w
   not_lines fault (inr (inl r)) = not_any (compact r.names) r.is
   not_lines fault (inr (inr r)) = not_any (replay r.names) r.is
 
-  not_rules : (fault : Fault) → RefusesRules held words fault ⊎ RefusesMade words fault → ⊥
-  not_rules fault (inl r) = not_any r.reached.command r.reached.is
-  not_rules fault (inr r) = not_any (generate r.count) r.is
-
   not_keys : RefusesKeys held words → ⊥
   not_keys (inl r) = not_any r.reached.command r.reached.is
   not_keys (inr r) = not_any (token r.names) r.is
 
-  not_past : (limit : Limit) → PassesLimit held words limit → ⊥
-  not_past limit (inl r) = not_lines (PastLimit limit) r
-  not_past limit (inr r) = not_any (generate r.count) r.is
-
-  not_many : (count : ℕ) → ExceedsBuckets held words count → ⊥
-  not_many count (inl r) = not_any (rows r.names) r.is
-  not_many count (inr r) = not_any (generate r.count) r.is
-
 pub no_command : (o : Outside) (words : List (List ℕ)) (status : ℕ) (fault : Fault) → Caused o words fault → status ≡ status_of fault → command_of words ≡ None → status ≡ 1
 no_command o words status Usage c s none = s
-no_command o words status (Rules line column why) c s none = absurd (not_rules o.held words none (Rules line column why) c.1)
+no_command o words status (Rules line column why) c s none = absurd (not_any o.held words none c.1.reached.command c.1.reached.is)
 no_command o words status (Change line why) c s none = absurd (not_lines o.held words none (Change line why) c.1)
-no_command o words status (PastLimit limit) c s none = absurd (not_past o.held words none limit c.1)
-no_command o words status (TooManyBuckets count) c s none = absurd (not_many o.held words none count c.1)
+no_command o words status (PastLimit limit) c s none = absurd (not_lines o.held words none (PastLimit limit) c.1)
+no_command o words status (TooManyBuckets count) c s none = absurd (not_any o.held words none (rows c.1.names) c.1.is)
 no_command o words status Claims c s none = absurd (not_any o.held words none c.1.reached.command c.1.reached.is)
 no_command o words status Keys c s none = absurd (not_keys o.held words none c.1)
 no_command o words status (TooLong seen) c s none = absurd (not_any o.held words none c.1.reached.command c.1.reached.is)

@@ -1,5 +1,5 @@
 -- Why `replay` ends as it does.
-use Rattle.std.proofs.Common.{inl, inr, ◌≡◌, ℕ, ◌≤◌, List, ◌∷◌, Option, Some, Result, Ok, Err, refl, sym, subst, Vec}
+use Rattle.std.proofs.Common.{inr, ◌≡◌, ℕ, ◌≤◌, List, ◌∷◌, Option, Some, Result, Ok, Err, refl, sym, subst, Vec}
 use Rattle.std.specs.declared.alloc.Global.{Global}
 use Rattle.ps_io.specs.Contents.{Contents}
 use Rattle.ps_rows.specs.declared.changes.Transaction.{Transaction}
@@ -59,7 +59,7 @@ module _ (o : Outside) (words : List (List ℕ)) (names : Scripting) (is : comma
     fed_refused Usage bytes file h = absurd h
     fed_refused (Rules line column why) bytes file h = absurd h
     fed_refused (Change line why) bytes file h = (kept, inr (inr (record { names = names; is = is; rules = rules; rules_read = rules_read; bytes = bytes; file = file; refused = h })))
-    fed_refused (PastLimit limit) bytes file h = (kept, inl (inr (inr (record { names = names; is = is; rules = rules; rules_read = rules_read; bytes = bytes; file = file; refused = h }))))
+    fed_refused (PastLimit limit) bytes file h = (kept, inr (inr (record { names = names; is = is; rules = rules; rules_read = rules_read; bytes = bytes; file = file; refused = h })))
     fed_refused (TooManyBuckets count) bytes file h = absurd h
     fed_refused Claims bytes file h = absurd h
     fed_refused Keys bytes file h = absurd h

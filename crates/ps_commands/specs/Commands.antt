@@ -386,12 +386,6 @@ pub record RefusesScript (held : Option Contents) (words : List (List ℕ)) (lin
   pub gives : GivesUntil game line why text
   pub printed : Gains old new text
 
--- that is why what `generate` makes has no summary
-pub record RefusesMade (words : List (List ℕ)) (fault : Fault) : Type 0 where
-  pub count : ℕ
-  pub is : command_of words ≡ Some (generate count)
-  pub refused : generated count ≡ Err fault
-
 -- rules and claims are read, and that is the fault of the first line of the change file of `rows` that is refused
 pub record RefusesChanges (held : Option Contents) (words : List (List ℕ)) (fault : Fault) : Type 0 where
   pub names : Names
@@ -423,17 +417,9 @@ pub record ExceedsFile (held : Option Contents) (words : List (List ℕ)) (seen 
   pub more : limit_of role < seen
   pub file : HasLength held name seen
 
--- the first change that is refused passes that limit
-abbrev pub PassesLimit : Option Contents → List (List ℕ) → Limit → Type 0
-PassesLimit held words limit = RefusesLines held words (PastLimit limit) ⊎ RefusesMade words (PastLimit limit)
-
--- the asker has so many buckets, more than an asker may have
-abbrev pub ExceedsBuckets : Option Contents → List (List ℕ) → ℕ → Type 0
-ExceedsBuckets held words count = HasTooManyBuckets held words count ⊎ RefusesMade words (TooManyBuckets count)
-
 -- a file is longer than its limit, or the first change that is refused passes one, or the asker has too many buckets
 abbrev pub ExceedsLimit : Option Contents → List (List ℕ) → Type 0
-ExceedsLimit held words = ((seen : ℕ) × ExceedsFile held words seen) ⊎ ((limit : Limit) × PassesLimit held words limit) ⊎ ((count : ℕ) × ExceedsBuckets held words count)
+ExceedsLimit held words = ((seen : ℕ) × ExceedsFile held words seen) ⊎ ((limit : Limit) × RefusesLines held words (PastLimit limit)) ⊎ ((count : ℕ) × HasTooManyBuckets held words count)
 
 -- that is a file of the command, and those before it, in order, are read
 pub record IsNext (held : Option Contents) (words : List (List ℕ)) (name : List ℕ) : Type 0 where
@@ -458,10 +444,10 @@ Kept o = o.taken_now ≡ o.taken_before
 -- why a command ends with a fault, and what the output has taken then
 abbrev pub Caused : Outside → List (List ℕ) → Fault → Type 0
 Caused o words Usage = Kept o × (command_of words ≡ None)
-Caused o words (Rules line column why) = Kept o × (RefusesRules o.held words (Rules line column why) ⊎ RefusesMade words (Rules line column why))
+Caused o words (Rules line column why) = Kept o × RefusesRules o.held words (Rules line column why)
 Caused o words (Change line why) = Kept o × RefusesLines o.held words (Change line why)
-Caused o words (PastLimit limit) = Kept o × PassesLimit o.held words limit
-Caused o words (TooManyBuckets count) = Kept o × ExceedsBuckets o.held words count
+Caused o words (PastLimit limit) = Kept o × RefusesLines o.held words (PastLimit limit)
+Caused o words (TooManyBuckets count) = Kept o × HasTooManyBuckets o.held words count
 Caused o words Claims = Kept o × RefusesClaims o.held words
 Caused o words Keys = Kept o × RefusesKeys o.held words
 Caused o words (TooLong seen) = Kept o × ExceedsFile o.held words seen

@@ -1,6 +1,5 @@
 -- What `generate` prints: a summary of made transactions, of one stream of them, and of their compaction.
-use Rattle.std.specs.Prelude.{◌≡◌, ℕ, List, [], ◌++◌, length, codes, decimal, None, Result, Ok, Err, Vec}
-use Rattle.std.specs.declared.alloc.Global.{Global}
+use Rattle.std.specs.Prelude.{ℕ, List, [], ◌++◌, length, codes, decimal, None, Result, Ok}
 use Rattle.std.specs.List.{sum_by}
 use Rattle.ps_rows.specs.declared.changes.Transaction.{Transaction}
 use Rattle.ps_rows.specs.declared.shown.Shown.{Shown}
@@ -8,14 +7,15 @@ use Rattle.ps_gen.specs.Made.{made_rules, made_input}
 use Rattle.ps_definitions.specs.RuleSets.{RuleSet}
 use Rattle.ps_queries.specs.Meaning.{Asker}
 use Rattle.ps_store.specs.declared.totals.Totals.{Totals}
+use Rattle.ps_store.specs.Laws.{last_position}
 use Rattle.ps_store.specs.Totals.{totals_of}
 use Rattle.ps_files.specs.declared.compacting.Compacted.{Compacted}
 use Rattle.ps_files.specs.declared.faults.Fault.{Fault}
-use Rattle.ps_files.specs.declared.faults.Fault.TheVariants.{Usage, Rules, Change, PastLimit, TooManyBuckets, Claims, Keys, TooLong, CannotRead, CannotWrite, Script, Memory}
 use Rattle.ps_files.specs.ChangeFiles.{admitted, ◌>>=◌}
 use Rattle.ps_files.specs.Committing.{committed_ledger}
 use Rattle.ps_files.specs.Compacting.{reports_of}
-use Rattle.ps_commands.specs.Dues.{rows_after}
+use Rattle.ps_files.specs.MadeRules.{made_rule_set}
+use Rattle.ps_commands.specs.Dues.{due, rows_after}
 use Rattle.ps_files.specs.RulesFaults.{rules_of_file}
 
 -- the asker of the one stream
@@ -63,36 +63,11 @@ summary_of text made = rules_of_file text >>= λ rules. summary_under rules made
 unfoldable pub generated : ℕ → Result (List ℕ) Fault
 generated count = summary_of made_rules (made_input count)
 
--- ---- calls
+-- ---- made transactions under the made rules
 
--- the rows that are due were counted, or there are too many buckets
-abbrev pub CountsRows : RuleSet → List Transaction → Result ℕ Fault → Type 0
-CountsRows rules transactions (Ok count) = (shown : List Shown) × (rows_after rules made_asker transactions ≡ Ok shown) × (count ≡ length shown)
-CountsRows rules transactions (Err (TooManyBuckets count)) = rows_after rules made_asker transactions ≡ Err (TooManyBuckets count)
-CountsRows rules transactions (Err Memory) = Unit {0}
-CountsRows rules transactions (Err Usage) = ⊥
-CountsRows rules transactions (Err (Rules line column why)) = ⊥
-CountsRows rules transactions (Err (Change line why)) = ⊥
-CountsRows rules transactions (Err (PastLimit limit)) = ⊥
-CountsRows rules transactions (Err Claims) = ⊥
-CountsRows rules transactions (Err Keys) = ⊥
-CountsRows rules transactions (Err (TooLong seen)) = ⊥
-CountsRows rules transactions (Err (CannotRead name)) = ⊥
-CountsRows rules transactions (Err CannotWrite) = ⊥
-CountsRows rules transactions (Err (Script place cause)) = ⊥
+-- the rows that are due to the asker
+abbrev pub made_rows : List Transaction → List Shown
+made_rows transactions = due made_rule_set made_asker transactions (last_position 0 transactions)
 
--- a text is as it is meant, or why there is none; of want of memory nothing is said
-abbrev pub Summarizes : Result (List ℕ) Fault → Result (Vec ℕ Global) Fault → Type 0
-Summarizes meant (Ok text) = meant ≡ Ok text.items
-Summarizes meant (Err (Rules line column why)) = meant ≡ Err (Rules line column why)
-Summarizes meant (Err (PastLimit limit)) = meant ≡ Err (PastLimit limit)
-Summarizes meant (Err (TooManyBuckets count)) = meant ≡ Err (TooManyBuckets count)
-Summarizes meant (Err Memory) = Unit {0}
-Summarizes meant (Err Usage) = ⊥
-Summarizes meant (Err (Change line why)) = ⊥
-Summarizes meant (Err Claims) = ⊥
-Summarizes meant (Err Keys) = ⊥
-Summarizes meant (Err (TooLong seen)) = ⊥
-Summarizes meant (Err (CannotRead name)) = ⊥
-Summarizes meant (Err CannotWrite) = ⊥
-Summarizes meant (Err (Script place cause)) = ⊥
+abbrev pub made_summary : List Transaction → List ℕ
+made_summary transactions = summary_by made_rule_set transactions (made_rows transactions)

@@ -1,23 +1,18 @@
 //! Made rules and transactions, written into a store, read by one stream and compacted.
 
-ghost use Rattle.std.specs.Prelude.{◌≡◌, ◌+◌, ◌^◌, ◌<◌, ◌≤◌, ◌++◌, List, [], IfOk};
+ghost use Rattle.std.specs.Prelude.{◌≡◌, ◌+◌, ◌^◌, ◌<◌, ◌≤◌, ◌++◌, List, length, IfOk, Ok};
 ghost use Rattle.ps_rows.specs.declared.changes.Transaction.{Transaction as TransactionData};
-ghost use Rattle.ps_definitions.specs.RuleSets.{RuleSet, AreRules};
 ghost use Rattle.ps_sql_eval.specs.Evaluated.{asker_of};
-ghost use Rattle.ps_store.specs.Laws.{HaveNumbers};
+ghost use Rattle.ps_files.specs.MadeRules.{made_rule_set};
 ghost use Rattle.ps_files.specs.Making.{made_limit};
-ghost use Rattle.ps_commands.specs.Generating.{CountsRows, Summarizes, all_after, all_before, generated, made_asker as made_asker_of, rest_text, summary_after, summary_under, totals_text};
-ghost use Rattle.ps_files.specs.ChangeFiles.{CanBeFed};
 ghost use Rattle.ps_files.specs.ReadingChanges.{HasCommitted};
+ghost use Rattle.ps_commands.specs.Generating.{all_after, all_before, generated, made_asker as made_asker_of, made_rows, made_summary, rest_text, totals_text};
 
 use crate::syncing::synced_rows;
-use ps_data::{Items, Memory, Text};
-use ps_definitions::Rules;
-use ps_files::{Compacted, Fault, compact_all, read_rules_file, write_transactions};
-use ps_gen::{make_input, make_rules};
-use ps_rows::Transaction;
+use ps_data::{Memory, Text};
+use ps_files::{Compacted, compact_all, made_input_is_admitted, made_rules_are_read, write_made};
 use ps_sql_eval::Asker;
-use ps_store::{Store, TakeFault, Totals, have_numbers, ledgers_tell_histories};
+use ps_store::{Store, TakeFault, Totals};
 use std::alloc::Global;
 
 // The asker of the one stream.
@@ -32,18 +27,17 @@ fn made_asker(alloc: Global) -> Result<Asker, Memory>
     })
 }
 
-// The number of rows that a new client shows after one stream of the asker.
-fn count_rows<'a>(alloc: Global, store: &Store) -> Result<usize, Fault<'a>>
-    requires { (rules : RuleSet) × (transactions : List TransactionData) × HasCommitted rules transactions store.now × AreRules rules × HaveNumbers rules.definitions }
-    ensures { (rules : RuleSet) (transactions : List TransactionData) → HasCommitted rules transactions store.now → AreRules rules → HaveNumbers rules.definitions
-        → CountsRows rules transactions result }
+// The number of rows that a new client shows after one stream of the asker, who has one bucket.
+fn count_rows(alloc: Global, store: &Store) -> Result<usize, Memory>
+    requires { (transactions : List TransactionData) × HasCommitted made_rule_set transactions store.now }
+    ensures { (transactions : List TransactionData) → HasCommitted made_rule_set transactions store.now
+        → IfOk result (λ count. count ≡ length (made_rows transactions)) }
 {
-    ledgers_tell_histories();
     let asker = made_asker(alloc)?;
     match synced_rows(alloc, store, asker) {
         Ok(rows) => Ok(rows.len()),
-        Err(TakeFault::TooManyBuckets { count }) => Err(Fault::TooManyBuckets { count }),
-        Err(TakeFault::Memory) => Err(Fault::Memory),
+        Err(TakeFault::TooManyBuckets { .. }) => unreachable!(),
+        Err(TakeFault::Memory) => Err(Memory),
     }
 }
 
@@ -95,42 +89,26 @@ fn print_line(
     Ok(out)
 }
 
-// The summary of a store that transactions were written into. Each of its buckets is compacted.
-fn summarize_store<'a>(alloc: Global, store: &mut Store) -> Result<Vec<u8>, Fault<'a>>
-    requires { (rules : RuleSet) × (transactions : List TransactionData) × HasCommitted rules transactions store.old × AreRules rules × HaveNumbers rules.definitions }
-    ensures { (rules : RuleSet) (transactions : List TransactionData) → HasCommitted rules transactions store.old → AreRules rules → HaveNumbers rules.definitions
-        → Summarizes (summary_after rules transactions) result }
+// The summary of a store that made transactions were written into. Each of its buckets is compacted.
+fn summarize_store(alloc: Global, store: &mut Store) -> Result<Vec<u8>, Memory>
+    requires { (transactions : List TransactionData) × HasCommitted made_rule_set transactions store.old }
+    ensures { (transactions : List TransactionData) → HasCommitted made_rule_set transactions store.old
+        → IfOk result (λ text. text.items ≡ made_summary transactions) }
 {
     let totals = store.totals();
     let rows = count_rows(alloc, store)?;
     let reports = compact_all(alloc, store)?;
     let (before, after) = add_up(reports.as_slice());
-    Ok(print_line(alloc, &totals, rows, before, after)?)
+    print_line(alloc, &totals, rows, before, after)
 }
 
-// The summary of transactions under rules.
-fn summarize<'a>(
-    alloc: Global,
-    rules: Rules,
-    made: Items<Transaction>,
-) -> Result<Vec<u8>, Fault<'a>>
-    requires { CanBeFed 0 made }
-    ensures { Summarizes (summary_under rules made) result }
-{
-    have_numbers(&rules);
-    let mut store = write_transactions(alloc, rules, made)?;
-    summarize_store(alloc, &mut store)
-}
-
-/// The summary of made rules and of so many made transactions: docs/FORMATS.md, "Made input".
-/// Fails with `Rules` where the made rules are refused, with `PastLimit` where a made change passes a limit, and with `TooManyBuckets` where
-/// the asker has more buckets than an asker may have.
-pub fn print_summary<'a>(alloc: Global, count: u32) -> Result<Vec<u8>, Fault<'a>>
+/// The summary of made rules and of so many made transactions: docs/FORMATS.md, "Made input". None of them is refused.
+pub fn print_summary(alloc: Global, count: u32) -> Result<Vec<u8>, Memory>
     requires { count ≤ made_limit }
-    ensures { Summarizes (generated count) result }
+    ensures { IfOk result (λ text. generated count ≡ Ok text.items) }
 {
-    let text = make_rules(alloc)?;
-    let rules = read_rules_file(alloc, text.as_slice())?;
-    let made = make_input(alloc, count)?;
-    summarize(alloc, rules, made)
+    made_rules_are_read();
+    made_input_is_admitted();
+    let mut store = write_made(alloc, count)?;
+    summarize_store(alloc, &mut store)
 }

@@ -2,7 +2,7 @@ ghost use Rattle.std.specs.Prelude.{◌≡◌, ◌≢◌, ◌≤◌, ◌⊎◌, 
 ghost use Rattle.ps_io.specs.Contents.{Contents};
 ghost use Rattle.ps_io.specs.Counts.{Rose};
 ghost use Rattle.ps_files.specs.Making.{made_limit};
-ghost use Rattle.ps_commands.specs.Commands.{command_of, check as check_command, rows as rows_command, compact as compact_command, token as token_command, generate_lines as generate_lines_command, Finds, Outcome, Prints, PrintsFront, RefusesRules, RefusesMade, RefusesLines, RefusesKeys, RefusesClaims, RefusesScript, ExceedsLimit, IsNext, PrintsSome, IsExact};
+ghost use Rattle.ps_commands.specs.Commands.{command_of, check as check_command, rows as rows_command, compact as compact_command, token as token_command, generate as generate_command, generate_lines as generate_lines_command, Finds, Outcome, Prints, PrintsFront, RefusesRules, RefusesLines, RefusesKeys, RefusesClaims, RefusesScript, ExceedsLimit, IsNext, PrintsSome, IsExact};
 ghost use Rattle.ps_commands.specs.Causes.{SaysCause};
 ghost use Rattle.ps_files.specs.declared.faults.LineFault.{LineFault as LineFaultData};
 ghost use Rattle.ps_files.specs.declared.faults.RulesCause.{RulesCause as RulesCauseData};
@@ -79,6 +79,15 @@ fn token<'a, F: Files>(
     }
 }
 
+// The summary of made changes.
+fn generate<'a>(alloc: Global, count: u32) -> Result<Vec<u8>, Fault<'a>>
+    requires { count ≤ made_limit }
+    ensures { (held : Option Contents) (before now : ℕ) (words : List (List ℕ)) → command_of words ≡ Some (generate_command count)
+        → Finds held before now words result }
+{
+    Ok(print_summary(alloc, count)?)
+}
+
 // Made change lines.
 fn generate_lines<'a>(alloc: Global, count: u32) -> Result<Vec<u8>, Fault<'a>>
     requires { count ≤ made_limit }
@@ -143,7 +152,7 @@ fn command<'a, F: Files, K: Sink>(
         Command::Token { keys, kid, claims } => {
             print(token(alloc, keys, kid, claims, files), out)
         }
-        Command::Generate { count } => print(print_summary(alloc, count), out),
+        Command::Generate { count } => print(generate(alloc, count), out),
         Command::GenerateLines { count } => print(generate_lines(alloc, count), out),
     }
 }
@@ -169,7 +178,7 @@ pub fn run_plain<F: Files, K: Sink, E: Sink>(
     // Statuses 1 to 9, each by its cause.
     ensures usage { (result ≡ 1) ↔ (command_of words.now ≡ None) }
     ensures rules { result ≡ 2 → (line column : ℕ) × (why : RulesCauseData)
-        × (RefusesRules (F.held files.old) words.now (Fault.Rules line column why) ⊎ RefusesMade words.now (Fault.Rules line column why)) }
+        × RefusesRules (F.held files.old) words.now (Fault.Rules line column why) }
     ensures changes { result ≡ 3 → (line : ℕ) × (why : LineFaultData) × RefusesLines (F.held files.old) words.now (Fault.Change line why) }
     ensures claims { result ≡ 4 → RefusesKeys (F.held files.old) words.now ⊎ RefusesClaims (F.held files.old) words.now }
     ensures limits { result ≡ 5 → ExceedsLimit (F.held files.old) words.now }

@@ -2,7 +2,9 @@ pub mod AllLines
 pub mod Committing
 pub mod CompactedLogs
 pub mod FaultLines
+pub mod MadeInput
 pub mod MadeLines
+pub mod MadeRules
 pub mod Pending
 pub mod Reaching
 pub mod RulesReading

@@ -5,6 +5,7 @@ pub mod Compacting
 pub mod FaultTexts
 pub mod HeldFiles
 pub mod Loading
+pub mod MadeRules
 pub mod Making
 pub mod ReadingAll
 pub mod ReadingChanges

@@ -187,7 +187,7 @@ fn refuse<'a>(line: u64, why: LineFault) -> Result<Transaction, Fault<'a>>
 
 /// Writes transactions into a new store of the rules, under the usual limits: each is fed, written in batches and committed before the next.
 /// Fails with `PastLimit` by the first that passes a limit.
-pub fn write_transactions<'a>(
+pub(crate) fn write_transactions<'a>(
     alloc: Global,
     rules: Rules,
     made: Items<Transaction>,

@@ -1,16 +1,23 @@
-//! Made change lines.
+//! Made change lines, and made transactions in a store.
 
 ghost use Rattle.std.specs.Prelude.{◌≡◌, ◌≤◌, ◌++◌, ◌<◌, ◌^◌, List, IfOk, IfSome, OnOk, codes};
 ghost use Rattle.std.specs.List.{All};
 ghost use Rattle.ps_changes.specs.Writing.{IsWritable, line_text};
 ghost use Rattle.ps_gen.specs.Made.{made_input};
-ghost use Rattle.ps_files.specs.Making.{count_of, made_limit};
-ghost use Rattle.ps_files.specs.Making.{lines_text};
+ghost use Rattle.ps_files.specs.Making.{count_of, lines_text, made_limit};
+ghost use Rattle.ps_files.specs.MadeRules.{made_rule_set};
+ghost use Rattle.ps_files.specs.ReadingChanges.{HasCommitted};
 
+use crate::change_files::write_transactions;
+use crate::faults::Fault;
+use crate::laws::{made_input_is_admitted, made_rules_are_read};
+use crate::rules_faults::read_rules_file;
 use ps_changes::write_line;
 use ps_data::{Memory, Text};
-use ps_gen::make_input;
+use ps_definitions::Rules;
+use ps_gen::{make_input, make_rules};
 use ps_rows::Transaction;
+use ps_store::Store;
 use ps_values::read_decimal;
 use std::alloc::Global;
 
@@ -60,4 +67,33 @@ pub fn print_made(alloc: Global, count: u32) -> Result<Vec<u8>, Memory>
 {
     let transactions = make_input(alloc, count)?;
     print_lines(alloc, transactions.as_slice())
+}
+
+// The made rules, as they are read.
+fn read_made_rules(alloc: Global) -> Result<Rules, Memory>
+    ensures { IfOk result (λ rules. rules ≡ made_rule_set) }
+{
+    made_rules_are_read();
+    let text = make_rules(alloc)?;
+    match read_rules_file(alloc, text.as_slice()) {
+        Ok(rules) => Ok(rules),
+        Err(Fault::Memory) => Err(Memory),
+        Err(_) => unreachable!(),
+    }
+}
+
+/// Writes so many made transactions into a new store of the made rules, under the usual limits: docs/FORMATS.md, "Made input". Each is fed,
+/// written in batches and committed before the next. The rules are read, and no change passes a limit.
+pub fn write_made(alloc: Global, count: u32) -> Result<Store, Memory>
+    requires { count ≤ made_limit }
+    ensures { IfOk result (HasCommitted made_rule_set (made_input count)) }
+{
+    made_input_is_admitted();
+    let rules = read_made_rules(alloc)?;
+    let made = make_input(alloc, count)?;
+    match write_transactions(alloc, rules, made) {
+        Ok(store) => Ok(store),
+        Err(Fault::Memory) => Err(Memory),
+        Err(_) => unreachable!(),
+    }
 }

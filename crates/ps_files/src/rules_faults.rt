@@ -112,7 +112,7 @@ fn rules_fault<'a>(fault: RulesFault) -> Fault<'a>
 
 /// Reads a rules file: docs/FORMATS.md, "The rules language". Fails by the first thing that is wrong in it.
 #[tactic(auto, using(crate::proofs::RulesReading::read_as), unfolding(crate::specs::RulesFaults::rules_of_file))]
-pub fn read_rules_file<'a>(alloc: Global, bytes: &[u8]) -> Result<Rules, Fault<'a>>
+pub(crate) fn read_rules_file<'a>(alloc: Global, bytes: &[u8]) -> Result<Rules, Fault<'a>>
     requires { length bytes.now < 4294967295 }
     ensures { ReadsRules result (rules_of_file bytes.now) }
 {

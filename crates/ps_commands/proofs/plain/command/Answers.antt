@@ -1,7 +1,6 @@
 use Rattle.std.proofs.Common.{rules, ◌≡◌, ℕ, Option, Some}
 use Rattle.ps_io.specs.Contents.{Contents}
 use Rattle.ps_commands.specs.Commands.{check, rows, compact, token, generate, generate_lines, command_of}
-use Rattle.ps_commands.proofs.Causes.{summary_found}
 use Rattle.ps_commands.proofs.plain.command.Goals as goal
 
 pub returns-in-Check : goal.returns-in-Check
@@ -29,7 +28,7 @@ returns-in-Generate g c =
     let held : Option Contents = g.F.Files.held c.args.files.now in
     let faults : ℕ = g.F.Files.faults c.args.files.now in
     let is : command_of c.args.words.now ≡ Some (generate c.in-Generate.count) = search rules in
-    c.print-in-Generate.ensures held faults faults c.args.words.now (summary_found held faults faults c.args.words.now c.in-Generate.count c.print_summary.result is c.print_summary.ensures)
+    c.print-in-Generate.ensures held faults faults c.args.words.now (c.generate.ensures held faults faults c.args.words.now is)
 
 pub returns-in-GenerateLines : goal.returns-in-GenerateLines
 returns-in-GenerateLines g c =
