@@ -11,4 +11,5 @@ mod Sides
 mod Solutions
 mod Solved
 mod Steps
+mod TablePlaces
 mod Taking

@@ -1,4 +1,4 @@
-ghost use Rattle.std.specs.Prelude.{◌≡◌, ◌≤◌, ◌++◌, drop, [], ◌∷◌, false, IfOk, OnOk, length, map, flat_map, codes, string_bytes};
+ghost use Rattle.std.specs.Prelude.{◌≡◌, ◌≤◌, ◌++◌, drop, [], ◌∷◌, true, false, IfOk, OnOk, length, map, flat_map, codes, string_bytes, bytes_eq};
 ghost use Rattle.std.specs.List.{list_any};
 ghost use Rattle.ps_definitions.specs.declared.branches.Branch.{Branch as BranchData};
 ghost use Rattle.ps_definitions.specs.Names.{has_repeated};
@@ -44,8 +44,9 @@ pub fn entries_of_row(
     entries_stand_where_conditions_hold();
     let source = SourceRow { table, id, row };
     let mut placed = Items::new(alloc);
-    'definitions: for definition in rules.definitions() {
-        let added = place_definition(alloc, definition, &source, top, &mut placed);
+    'places: for place in rules.places_of(table) {
+        let (definition, planned) = rules.query_at(place);
+        let added = place_query(alloc, definition, planned, &source, top, &mut placed);
         if let Err(fault) = added {
             return Err(fault);
         }
@@ -53,29 +54,7 @@ pub fn entries_of_row(
     Ok(placed)
 }
 
-// Adds the entries of a definition.
-fn place_definition(
-    alloc: Global,
-    definition: &Definition,
-    source: &SourceRow<'_>,
-    top: u32,
-    placed: &mut Items<Placed>,
-) -> Result<(), PlaceFault>
-    requires sound { IsSound definition.now }
-    requires within { length placed.old ≤ top }
-    requires top { top ≤ 1000000 }
-    ensures { AddsEntries top placed.old placed.new (definition_entries (row_at source.now) definition.now) result }
-{
-    'queries: for planned in definition.queries.as_slice() {
-        let added = place_query(alloc, definition, planned, source, top, placed);
-        if let Err(fault) = added {
-            return Err(fault);
-        }
-    }
-    Ok(())
-}
-
-// Adds the entries of a query; one of another table has none.
+// Adds the entries of a query of the row's table.
 fn place_query(
     alloc: Global,
     definition: &Definition,
@@ -84,15 +63,13 @@ fn place_query(
     top: u32,
     placed: &mut Items<Placed>,
 ) -> Result<(), PlaceFault>
+    requires of_table { bytes_eq planned.now.query.table source.now.table.now ≡ true }
     requires differ { has_repeated definition.now.names ≡ false }
     requires sound { IsSoundQuery definition.now.names planned.now }
     requires within { length placed.old ≤ top }
     requires top { top ≤ 1000000 }
     ensures { AddsEntries top placed.old placed.new (query_entries definition.now (row_at source.now) planned.now) result }
 {
-    if !planned.query.table.equals(source.table) {
-        return Ok(());
-    }
     let Some(object) = shown_id(alloc, &planned.query, source)? else {
         return Ok(());
     };

@@ -27,7 +27,7 @@ fn made_asker(alloc: Global) -> Result<Asker, Memory>
     })
 }
 
-// The number of rows that a new client shows after one stream of the asker, who has one bucket.
+// The number of rows that a new client shows after one stream of the asker, who has one bucket at most.
 fn count_rows(alloc: Global, store: &Store) -> Result<usize, Memory>
     requires { (transactions : List TransactionData) × HasCommitted made_rule_set transactions store.now }
     ensures { (transactions : List TransactionData) → HasCommitted made_rule_set transactions store.now

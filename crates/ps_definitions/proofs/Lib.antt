@@ -5,3 +5,4 @@ pub mod Meetings
 mod Names
 pub mod Spreads
 mod Steps
+mod Tabled

@@ -5,4 +5,5 @@ pub mod Laws
 pub mod Meeting
 pub mod Names
 pub mod RuleSets
+pub mod Tables
 pub mod Vectors

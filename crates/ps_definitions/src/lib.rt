@@ -11,6 +11,7 @@ mod naming;
 mod queries;
 mod rule_sets;
 mod spreading;
+mod tables;
 mod warnings;
 
 pub use branches::Branch;
@@ -24,4 +25,5 @@ pub use naming::{bucket_name, have_64_bits};
 pub use queries::Planned;
 pub use rule_sets::Rules;
 pub use spreading::{MOST_BRANCHES, branches_of, count_branches};
+pub use tables::QueryPlace;
 pub use warnings::{Warning, WarningKind};

@@ -1,8 +1,11 @@
-ghost use Rattle.std.specs.Prelude.{◌≡◌, IfOk};
+ghost use Rattle.std.specs.Prelude.{◌≡◌, ℕ, List, IfOk};
+ghost use Rattle.std.specs.List.{AllByRecursion};
 ghost use Rattle.ps_definitions.specs.RuleSets.{AreRules, RuleSet};
+ghost use Rattle.ps_definitions.specs.Tables.{places_of, is_read, HasQuery, IsAt};
 
-use crate::{Definition, Warning};
-use ps_data::{Items, Memory, copy_all};
+use crate::tables::Tables;
+use crate::{Definition, Planned, QueryPlace, Warning};
+use ps_data::{Items, Memory, Text, copy_all};
 use std::alloc::Global;
 use std::marker::Model;
 
@@ -11,10 +14,12 @@ use std::marker::Model;
 pub struct Rules {
     definitions: Items<Definition>,
     warnings: Items<Warning>,
+    tables: Tables,
 }
 
 impl Model for Rules {
     ghost use Rattle.ps_definitions.specs.RuleSets.{RuleSet as SeenRules, AreRules as KeepsRules};
+    ghost use Rattle.ps_definitions.specs.Tables.{AreTables};
     ghost use Rattle.std.specs.Coded.{codes};
     ghost use Rattle.ps_queries.specs.contracts.expressions.Expr as expr;
 
@@ -24,20 +29,25 @@ impl Model for Rules {
 
     ghost view = { λ rules. record { definitions = rules.definitions; warnings = rules.warnings } };
 
-    ghost invariant = { λ rules. KeepsRules (record { definitions = rules.definitions; warnings = rules.warnings }) };
+    ghost invariant = { λ rules. KeepsRules (record { definitions = rules.definitions; warnings = rules.warnings }) × AreTables rules.definitions rules.tables };
 }
 
 impl Rules {
     /// Rules of definitions that keep what rules keep.
-    pub fn made(definitions: Items<Definition>, warnings: Items<Warning>) -> Rules
+    pub fn made(
+        alloc: Global,
+        definitions: Items<Definition>,
+        warnings: Items<Warning>,
+    ) -> Result<Rules, Memory>
         requires { AreRules (record { definitions = definitions; warnings = warnings }) }
-        ensures definitions { result.definitions ≡ definitions }
-        ensures warnings { result.warnings ≡ warnings }
+        ensures { IfOk result (λ rules. rules ≡ record { definitions = definitions; warnings = warnings }) }
     {
-        Rules {
+        let tables = Tables::of(alloc, definitions.as_slice())?;
+        Ok(Rules {
             definitions,
             warnings,
-        }
+            tables,
+        })
     }
 
     /// The definitions, in the order of the file. Their names differ, each has passed its checks, and the numbers of
@@ -57,13 +67,40 @@ impl Rules {
         self.warnings.as_slice()
     }
 
+    /// Where the data queries of a table stand, in the order of the rules: found by the table, whatever other queries there
+    /// are.
+    #[tactic(auto, using(crate::proofs::Tabled::places_stand))]
+    pub fn places_of(&self, table: &Text) -> &[QueryPlace]
+        ensures value { result.now ≡ places_of self.now.definitions table.now }
+        ensures queries { AllByRecursion (HasQuery self.now.definitions table.now) result.now }
+        ensures kept { AreRules self.now }
+    {
+        self.tables.places(table)
+    }
+
+    /// The data query at a place, with its definition.
+    #[tactic(auto, using(crate::proofs::Tabled::got_within))]
+    pub fn query_at(&self, place: &QueryPlace) -> (&Definition, &Planned)
+        requires { (table : List ℕ) × HasQuery self.now.definitions table place.now }
+        ensures { IsAt self.now.definitions place.now result.0.now result.1.now }
+    {
+        let definition = &self.definitions.as_slice()[place.definition];
+        (definition, &definition.queries.as_slice()[place.query])
+    }
+
+    /// Whether a parameter query reads a table.
+    pub fn reads(&self, table: &Text) -> bool
+        ensures { result ≡ is_read self.now.definitions table.now }
+    {
+        self.tables.read.contains(table)
+    }
+
     /// Equal rules.
     pub fn copy(&self, alloc: Global) -> Result<Rules, Memory>
         ensures { IfOk result (λ copy. copy ≡ self.now) }
     {
-        Ok(Rules {
-            definitions: copy_all(alloc, self.definitions.as_slice())?,
-            warnings: copy_all(alloc, self.warnings.as_slice())?,
-        })
+        let definitions = copy_all(alloc, self.definitions.as_slice())?;
+        let warnings = copy_all(alloc, self.warnings.as_slice())?;
+        Rules::made(alloc, definitions, warnings)
     }
 }

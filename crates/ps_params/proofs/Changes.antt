@@ -18,7 +18,7 @@ use Rattle.ps_rows.specs.Keys.{keys_total, keys_exact, find-after_row, sorted-af
 use Rattle.ps_definitions.specs.declared.definitions.Definition.{Definition}
 use Rattle.ps_queries.specs.Vectors.{SourceRow}
 use Rattle.ps_params.specs.Notes.{Note, counts_for, row_after, row_at}
-use Rattle.ps_params.specs.Indexes.{is_read}
+use Rattle.ps_definitions.specs.Tables.{is_read}
 use Rattle.ps_params.specs.Laws.{note_of_change, notes_of_transaction, notes_of, notes_read, row_of, rows_in, NotesAreTheSource, NotesReadAreTheSource}
 use Rattle.ps_params.proofs.Members.{Has, has_map, from_map, has_contains, contains_has}
 use Rattle.ps_params.proofs.Standing.{after_both, after_those}

@@ -11,7 +11,8 @@ use Rattle.ps_queries.specs.Vectors.{SourceRow, vector_on}
 use Rattle.ps_definitions.specs.Vectors.{rows_read, query_vectors}
 use Rattle.ps_definitions.specs.Buckets.{bucket_name_of}
 use Rattle.ps_params.specs.Notes.{Note}
-use Rattle.ps_params.specs.Indexes.{is_table, has_reader, is_read, StandsAt}
+use Rattle.ps_definitions.specs.Tables.{is_table, has_reader, is_read}
+use Rattle.ps_params.specs.Indexes.{StandsAt}
 use Rattle.ps_params.specs.Names.{definition_names}
 use Rattle.ps_params.specs.Kept.{rows_of, names_on, query_names, names_in}
 use Rattle.ps_params.specs.Sets.{HaveSame}

@@ -1,9 +1,8 @@
 -- What an index of parameter rows holds, and which sources it stands for.
-use Rattle.std.specs.Prelude.{◌≡◌, ◌↔◌, ℕ, Bool, true, false, List, Option, Some, None, Contains, bytes_eq}
-use Rattle.std.specs.List.{list_any}
-use Rattle.ps_queries.specs.declared.queries.ParameterQuery.{ParameterQuery}
+use Rattle.std.specs.Prelude.{◌≡◌, ◌↔◌, ℕ, true, List, Some, Contains}
 use Rattle.ps_definitions.specs.declared.definitions.Definition.{Definition}
 use Rattle.ps_definitions.specs.RuleSets.{RuleSet}
+use Rattle.ps_definitions.specs.Tables.{is_read}
 use Rattle.ps_queries.specs.Vectors.{SourceRow}
 use Rattle.ps_params.specs.Notes.{Note, row_at}
 
@@ -15,18 +14,6 @@ pub record Index : Type 0 where
   pub last : ℕ
   pub forgotten : ℕ
   pub spare : ℕ
-
-abbrev pub is_table : List ℕ → Option (List ℕ) → Bool
-is_table table None = false
-is_table table (Some other) = bytes_eq other table
-
--- a parameter query of the definition reads the table
-abbrev pub has_reader : List ℕ → Definition → Bool
-has_reader table definition = list_any (λ (q : ParameterQuery). is_table table q.table) definition.parameters
-
--- a parameter query reads the table
-abbrev pub is_read : List Definition → List ℕ → Bool
-is_read definitions table = list_any (has_reader table) definitions
 
 -- of the tables that are read, a source has exactly the rows as they stood at a position
 abbrev pub StandsAt : List Definition → List Note → ℕ → List SourceRow → Type 0

@@ -6,7 +6,8 @@ use Rattle.ps_rows.specs.Source.{Key, Version, Source, source_at}
 use Rattle.ps_definitions.specs.declared.definitions.Definition.{Definition}
 use Rattle.ps_queries.specs.Vectors.{SourceRow}
 use Rattle.ps_params.specs.Notes.{Note}
-use Rattle.ps_params.specs.Indexes.{is_read, StandsAt}
+use Rattle.ps_definitions.specs.Tables.{is_read}
+use Rattle.ps_params.specs.Indexes.{StandsAt}
 
 abbrev pub note_of_change : ℕ → Change → Note
 note_of_change at change = record { at = at; table = change.table; id = change.id; row = change.row }

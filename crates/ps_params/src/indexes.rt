@@ -1,9 +1,9 @@
 ghost use Rattle.std.specs.Prelude.{◌≡◌, ℕ, ◌≤◌, ◌+◌, max, List, [], ◌∷◌, ◌++◌, option_map, if◌then◌else◌, IfOk, OnOk};
-ghost use Rattle.std.specs.List.{list_any};
 ghost use Rattle.ps_queries.specs.Vectors.{SourceRow};
 ghost use Rattle.ps_sql_eval.specs.Evaluated.{asker_of};
 ghost use Rattle.ps_params.specs.Notes.{Note, SameFrom};
-ghost use Rattle.ps_params.specs.Indexes.{has_reader as definition_reads, is_read, is_table, StandsAt};
+ghost use Rattle.ps_definitions.specs.Tables.{is_read};
+ghost use Rattle.ps_params.specs.Indexes.{StandsAt};
 ghost use Rattle.ps_params.specs.Names.{bucket_names, AreTold};
 ghost use Rattle.ps_params.specs.Kept.{note_of};
 
@@ -13,7 +13,7 @@ use crate::name_sets::NameSet;
 use crate::noted::Noted;
 use crate::paths::paths_of;
 use ps_data::{Items, Memory, Position, Text};
-use ps_definitions::{Definition, Rules};
+use ps_definitions::Rules;
 use ps_rows::Row;
 use ps_sql_eval::Asker;
 use std::alloc::Global;
@@ -98,7 +98,7 @@ impl ParameterIndex {
         ensures room { self.old.spare ≤ self.new.spare + 1 }
     {
         self.last = at;
-        if reads_table(self.rules.definitions(), &table) {
+        if self.rules.reads(&table) {
             self.kept.keep(Noted { at, table, id, row });
         }
     }
@@ -144,39 +144,5 @@ impl ParameterIndex {
         if self.forgotten.0 < upto.0 {
             self.forgotten = upto;
         }
-    }
-}
-
-/// Whether a parameter query of definitions reads a table. An index for them drops a row of any other table.
-pub fn reads_table(definitions: &[Definition], table: &Text) -> bool
-    ensures { result ≡ is_read definitions.now table.now }
-{
-    'definitions: for definition in definitions {
-        if has_reader(definition, table) {
-            return true;
-        }
-    }
-    false
-}
-
-// Whether a parameter query of a definition reads a table.
-fn has_reader(definition: &Definition, table: &Text) -> bool
-    ensures { result ≡ definition_reads table.now definition.now }
-{
-    'queries: for query in definition.parameters.as_slice() {
-        if is_of_table(&query.table, table) {
-            return true;
-        }
-    }
-    false
-}
-
-// Whether a table that may be missing is another one.
-fn is_of_table(table: &Option<Text>, other: &Text) -> bool
-    ensures { result ≡ is_table other.now table.now }
-{
-    match table {
-        Some(table) => table.equals(other),
-        None => false,
     }
 }

@@ -14,5 +14,5 @@ mod places;
 mod spots;
 mod trimming;
 
-pub use indexes::{ParameterIndex, reads_table};
+pub use indexes::ParameterIndex;
 pub use laws::notes_of_changes_are_the_source;

@@ -85,7 +85,7 @@ fn check_all(alloc: Global, drafts: Items<Draft>) -> Result<Rules, RulesFault>
         warnings = warnings_behind(warnings, more)?;
         before = last;
     }
-    Ok(Rules::made(definitions, warnings))
+    Ok(Rules::made(alloc, definitions, warnings)?)
 }
 
 // The rules of a document.

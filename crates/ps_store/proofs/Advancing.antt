@@ -6,7 +6,7 @@ use Rattle.ps_store.specs.declared.reach.End.{End}
 use Rattle.ps_store.specs.declared.rows.Rows.{Rows}
 use Rattle.ps_rows.specs.Source.{Key}
 use Rattle.ps_definitions.specs.declared.definitions.Definition.{Definition}
-use Rattle.ps_params.specs.Indexes.{is_read}
+use Rattle.ps_definitions.specs.Tables.{is_read}
 use Rattle.ps_params.specs.Notes.{Note, SameFrom}
 use Rattle.ps_data.specs.declared.columns.Column.{Column}
 use Rattle.ps_store.specs.declared.plans.Made.{Made}

@@ -8,7 +8,7 @@ use Rattle.ps_rows.specs.Source.{key_cmp, Key, Source, Version}
 use Rattle.ps_rows.specs.Keys.{find-after_row}
 use Rattle.ps_definitions.specs.declared.definitions.Definition.{Definition}
 use Rattle.ps_params.specs.Notes.{Note, counts_for, row_after, SameFrom}
-use Rattle.ps_params.specs.Indexes.{is_read}
+use Rattle.ps_definitions.specs.Tables.{is_read}
 use Rattle.ps_store.specs.Noting.{with_note}
 use Rattle.ps_store.specs.Originals.{Timed, key_of, after, columns_of}
 

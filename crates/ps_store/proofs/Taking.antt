@@ -17,7 +17,8 @@ use Rattle.ps_definitions.specs.declared.definitions.Definition.{Definition}
 use Rattle.ps_definitions.specs.RuleSets.{RuleSet}
 use Rattle.ps_queries.specs.Vectors.{SourceRow}
 use Rattle.ps_granted.specs.Sources.{rows_in}
-use Rattle.ps_params.specs.Indexes.{is_read, StandsAt}
+use Rattle.ps_definitions.specs.Tables.{is_read}
+use Rattle.ps_params.specs.Indexes.{StandsAt}
 use Rattle.ps_params.specs.Laws.{note_of_change, notes_of_transaction, notes_of, notes_read, NotesReadAreTheSource}
 use Rattle.ps_params.specs.Names.{definition_names, bucket_names, AreTold}
 use Rattle.ps_params.specs.Notes.{Note, counts_for, row_after, row_at}

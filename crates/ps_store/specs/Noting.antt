@@ -3,7 +3,7 @@ use Rattle.std.specs.Prelude.{List, [], ◌∷◌, ◌++◌, if◌then◌else◌
 use Rattle.ps_data.specs.declared.columns.Column.{Column}
 use Rattle.ps_definitions.specs.declared.definitions.Definition.{Definition}
 use Rattle.ps_params.specs.Notes.{Note}
-use Rattle.ps_params.specs.Indexes.{is_read}
+use Rattle.ps_definitions.specs.Tables.{is_read}
 use Rattle.ps_store.specs.Originals.{Timed}
 
 -- the note of a change

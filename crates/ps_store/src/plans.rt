@@ -25,7 +25,6 @@ use ps_bucket_eval::{PlaceFault, Placed, entries_of_row};
 use ps_bucket_log::{Key, Op};
 use ps_checksum::{put_sum, remove_sum};
 use ps_data::{Items, Memory, OpId};
-use ps_params::reads_table;
 use ps_rows::Row;
 use std::alloc::Global;
 use std::collections::{BTreeMap, VecDeque};
@@ -351,7 +350,7 @@ impl Plan {
 fn row_to_note(alloc: Global, fixed: &Fixed, waiting: &Waiting) -> Result<Option<Row>, Memory>
     ensures { IfOk result (λ row. row ≡ row_noted fixed.now.rules.definitions waiting.now) }
 {
-    if !reads_table(fixed.rules.definitions(), &waiting.change().table) {
+    if !fixed.rules.reads(&waiting.change().table) {
         return Ok(None);
     }
     waiting.row(alloc)
