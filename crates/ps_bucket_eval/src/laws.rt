@@ -1,6 +1,5 @@
 //! The laws of entries. Each is the contract of a function that does nothing.
 
-ghost use Rattle.std.specs.Prelude.{ℕ, List};
 ghost use Rattle.ps_definitions.specs.RuleSets.{RuleSet, AreRules};
 ghost use Rattle.ps_bucket_eval.specs.Entries.{RowOf, entries_of};
 ghost use Rattle.ps_bucket_eval.specs.Laws.{PlacedWhereItHolds, EntriesRise};

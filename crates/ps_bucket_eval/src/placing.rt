@@ -1,11 +1,11 @@
-ghost use Rattle.std.specs.Prelude.{◌≡◌, ◌≤◌, ◌++◌, drop, [], ◌∷◌, true, false, IfOk, OnOk, length, map, flat_map, codes, string_bytes, bytes_eq};
+ghost use Rattle.std.specs.Prelude.{◌≡◌, ◌≤◌, ◌++◌, drop, [], ◌∷◌, true, false, IfOk, OnOk, length, map, flat_map, bytes_eq};
 ghost use Rattle.std.specs.List.{list_any};
 ghost use Rattle.ps_definitions.specs.declared.branches.Branch.{Branch as BranchData};
 ghost use Rattle.ps_definitions.specs.Names.{has_repeated};
-ghost use Rattle.ps_definitions.specs.RuleSets.{IsSound, IsSoundQuery, AreRules};
+ghost use Rattle.ps_definitions.specs.RuleSets.{IsSoundQuery};
 ghost use Rattle.ps_definitions.specs.Buckets.{bucket_name_of};
 ghost use Rattle.ps_bucket_eval.specs.Shown.{alone};
-ghost use Rattle.ps_bucket_eval.specs.Entries.{RowOf, subkey_of, placed_in, query_entries, definition_entries, entries_of, buckets_of, IsPlaced};
+ghost use Rattle.ps_bucket_eval.specs.Entries.{subkey_of, placed_in, query_entries, entries_of, buckets_of, IsPlaced};
 ghost use Rattle.ps_bucket_eval.specs.Laws.{PlacedWhereItHolds, EntriesRise};
 ghost use Rattle.ps_bucket_eval.specs.Solving.{sides_have_parameter, names_from, is_none, some_empty, branch_names, Fits, FitsWith, AddsEntries, row_of, made_in, outputs_have_parameter, row_at};
 

@@ -4,7 +4,7 @@ ghost use Rattle.serde_json.specs.View.{view, members_view, items_of};
 ghost use Rattle.ps_data.specs.Documents.{data_of};
 ghost use Rattle.ps_values.specs.ValueFaults.{IsValueOf};
 ghost use Rattle.ps_changes.specs.Lines.{longest, line_of, lone_change_of};
-ghost use Rattle.ps_changes.specs.Grammar.{AreColumns, IsChange, AreChanges, IsTransaction, IsLine, IsLoneChange};
+ghost use Rattle.ps_changes.specs.Grammar.{AreColumns, IsChange, AreChanges, IsTransaction};
 ghost use Rattle.ps_changes.specs.Writing.{members_of, with_row, change_json as json_of_change, transaction_json as json_of_transaction, change_text, line_text, IsWritable};
 
 use ps_data::{Memory, Value};

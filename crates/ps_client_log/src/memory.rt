@@ -1,4 +1,4 @@
-ghost use Rattle.std.specs.Prelude.{◌≡◌, ◌≤◌, Some, IfSome, IfOk, OnOk, OnErr, option_map};
+ghost use Rattle.std.specs.Prelude.{◌≡◌, ◌≤◌, Some, IfOk, OnOk, OnErr};
 ghost use Rattle.ps_io.specs.Calls.{fails_next, Begins, IsCounted};
 ghost use Rattle.ps_client_log.specs.Kept.{kept_of, nothing_kept};
 ghost use Rattle.ps_client_log.specs.Soundness.{IsSound, IsSoundState};

@@ -1,6 +1,6 @@
 //! How much room a list of edits wants in each bucket that it names.
 
-ghost use Rattle.std.specs.Prelude.{◌≡◌, ℕ, ◌+◌, ◌≤◌, List, OnOk, IfOk, bytes_eq, if◌then◌else◌, sum_by};
+ghost use Rattle.std.specs.Prelude.{◌≡◌, ℕ, ◌+◌, List, OnOk, IfOk, bytes_eq, if◌then◌else◌, sum_by};
 ghost use Rattle.ps_client_log.specs.Rooms.{brings, given};
 
 use crate::Edit;

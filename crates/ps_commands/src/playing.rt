@@ -3,7 +3,6 @@
 ghost use Rattle.std.specs.Prelude.{◌≡◌, ◌<◌, ◌≤◌, ◌^◌, length};
 ghost use Rattle.ps_store.specs.declared.fixed.Fixed.{Fixed as FixedSeen};
 ghost use Rattle.ps_store.specs.Limits.{usual_limits};
-ghost use Rattle.ps_script.specs.Lines.{is_skipped as is_skipped_line};
 ghost use Rattle.ps_core.specs.Plays.{Play, first_play};
 ghost use Rattle.ps_core.specs.PlayHeadline.{AreLed};
 ghost use Rattle.ps_core.specs.Scripts.{AreLow};

@@ -1,6 +1,6 @@
 //! Which operations later ones make needless.
 
-ghost use Rattle.std.specs.Prelude.{◌≡◌, ℕ, List, ◌++◌, ◌∷◌, if◌then◌else◌, reverse, length, filter, is_some, Some, None, IfOk, OnOk};
+ghost use Rattle.std.specs.Prelude.{◌≡◌, if◌then◌else◌, reverse, length, filter, is_some, Some, None, IfOk, OnOk};
 ghost use Rattle.ps_bucket_log.specs.declared.ops.Key.{Key as RowKey};
 ghost use Rattle.ps_bucket_log.specs.Ops.{same_key};
 ghost use Rattle.ps_compact.specs.Compaction.{first_id, own_id, moved_to, moved as moved_of, targets_of};

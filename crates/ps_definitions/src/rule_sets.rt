@@ -1,6 +1,6 @@
 ghost use Rattle.std.specs.Prelude.{◌≡◌, ℕ, List, IfOk};
 ghost use Rattle.std.specs.List.{AllByRecursion};
-ghost use Rattle.ps_definitions.specs.RuleSets.{AreRules, RuleSet};
+ghost use Rattle.ps_definitions.specs.RuleSets.{AreRules};
 ghost use Rattle.ps_definitions.specs.Tables.{places_of, is_read, HasQuery, IsAt};
 
 use crate::tables::Tables;

@@ -1,6 +1,6 @@
 //! The branches of a condition: AND spread over OR from the root.
 
-ghost use Rattle.std.specs.Prelude.{◌≡◌, ◌<◌, ◌∷◌, [], ◌++◌, IfOk, Some, None, map, length, min};
+ghost use Rattle.std.specs.Prelude.{◌≡◌, ◌<◌, ◌++◌, IfOk, Some, None, map, length, min};
 ghost use Rattle.ps_definitions.specs.declared.branches.Branch.{Branch as BranchData};
 ghost use Rattle.ps_definitions.specs.Branches.{match_of as match_in, match_of_side, match_of_sides, leaf_branch, joined, crossed, branches_in, branches_of as branches_in_condition};
 ghost use Rattle.ps_definitions.specs.Laws.{is_leaf as stands_alone, is_spread, is_either};

@@ -1,4 +1,4 @@
-ghost use Rattle.std.specs.Prelude.{◌≡◌, ◌++◌, string_bytes, flat_map, codes, IfOk, OnOk};
+ghost use Rattle.std.specs.Prelude.{◌≡◌, ◌++◌, IfOk, OnOk};
 ghost use Rattle.ps_files.specs.Checking.{counted_line, definition_line, warning_line, kind_text as kind_text_of, check_text};
 
 use ps_data::{Memory, Text};

@@ -1,6 +1,6 @@
 //! Made change lines, and made transactions in a store.
 
-ghost use Rattle.std.specs.Prelude.{◌≡◌, ◌≤◌, ◌++◌, ◌<◌, ◌^◌, List, IfOk, IfSome, OnOk, codes};
+ghost use Rattle.std.specs.Prelude.{◌≡◌, ◌≤◌, ◌++◌, ◌<◌, IfOk, IfSome, OnOk, codes};
 ghost use Rattle.std.specs.List.{All};
 ghost use Rattle.ps_changes.specs.Writing.{IsWritable, line_text};
 ghost use Rattle.ps_gen.specs.Made.{made_input};

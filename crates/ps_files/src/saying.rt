@@ -1,4 +1,4 @@
-ghost use Rattle.std.specs.Prelude.{◌≡◌, ◌++◌, codes, decimal};
+ghost use Rattle.std.specs.Prelude.{◌++◌, codes, decimal};
 ghost use Rattle.ps_files.specs.FaultTexts.{Tells, fault_line};
 ghost use Rattle.ps_files.specs.Saying.{SaysFault, IsCauseText, joined};
 

@@ -1,7 +1,6 @@
 //! Made rules and made transactions.
 
-ghost use Rattle.std.specs.Prelude.{◌≡◌, ℕ, ◌≤◌, List, ◌++◌, IfOk, codes, decimal as digits_of};
-ghost use Rattle.ps_data.specs.declared.columns.Column.{Column as ColumnData};
+ghost use Rattle.std.specs.Prelude.{◌≡◌, ◌++◌, IfOk, decimal as digits_of};
 ghost use Rattle.ps_gen.specs.Made.{made_change, made_columns, made_input, made_rules, made_transaction};
 
 use ps_data::{Column, Items, Memory, Position, Text, Value};

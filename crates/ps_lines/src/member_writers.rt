@@ -1,6 +1,6 @@
 //! Members of JSON objects, written straight behind what a writer holds.
 
-ghost use Rattle.std.specs.Prelude.{◌≡◌, ◌<◌, ◌^◌, ◌∷◌, [], OnOk};
+ghost use Rattle.std.specs.Prelude.{◌<◌, ◌^◌, ◌∷◌, [], OnOk};
 ghost use Rattle.json.specs.Token.{begin_object, key as key_token};
 ghost use Rattle.serde_json.specs.Data.{number, string, boolean, unsigned};
 ghost use Rattle.ps_lines.specs.Tokens.{member_tokens, members_tokens, Adds};

@@ -1,13 +1,13 @@
 //! The members of a JSON object, each by its name and its kind.
 
-ghost use Rattle.serde_json.specs.View.{view, items_view};
-ghost use Rattle.ps_lines.specs.Members.{Reads, text_at, truth_at, decimal_at, id_at, number_at, sum_at, sum_of, whole_at, priority_at};
+ghost use Rattle.serde_json.specs.View.{view};
+ghost use Rattle.ps_lines.specs.Members.{Reads, text_at, truth_at, decimal_at, id_at, sum_at, sum_of, whole_at, priority_at};
 
 use crate::LineFault;
 use ps_checksum::Sum;
 use ps_data::{OpId, Text};
 use ps_values::read_decimal;
-use serde_json::{Number, Value as Json};
+use serde_json::Value as Json;
 use std::alloc::Global;
 
 pub fn read_text(alloc: Global, json: &Json, name: &str) -> Result<Text, LineFault>

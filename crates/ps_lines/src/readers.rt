@@ -3,7 +3,7 @@ ghost use Rattle.serde_json.specs.View.{view, items_view, members_view};
 ghost use Rattle.ps_lines.specs.declared.lines.Line.{Line as SomeLine};
 ghost use Rattle.ps_lines.specs.Grammar.{IsLine};
 ghost use Rattle.ps_lines.specs.Members.{Reads};
-ghost use Rattle.ps_lines.specs.Reading.{upload_at, entry_of, entries_of, texts_of, key_of, put_of, remove_of, op_named, op_of, ops_of, rises_from as rises_past, leads as leads_to, checkpoint_of, diff_of, data_of, expires_of, shaped, line_named, line_of_members, without_feed as cut_feed, line_of};
+ghost use Rattle.ps_lines.specs.Reading.{upload_at, entry_of, entries_of, texts_of, key_of, put_of, op_named, op_of, ops_of, rises_from as rises_past, leads as leads_to, checkpoint_of, diff_of, data_of, expires_of, shaped, line_named, line_of_members, without_feed as cut_feed, line_of};
 ghost use Rattle.ps_lines.specs.Shapes.{is_checkpoint as is_checkpoint_shape, is_diff as is_diff_shape, is_data as is_data_shape};
 
 use crate::members::{

@@ -1,11 +1,10 @@
-ghost use Rattle.std.specs.Prelude.{◌≡◌, ℕ, ◌≤◌, ◌+◌, max, List, [], ◌∷◌, ◌++◌, option_map, if◌then◌else◌, IfOk, OnOk};
+ghost use Rattle.std.specs.Prelude.{◌≡◌, ◌≤◌, ◌+◌, max, List, [], ◌∷◌, ◌++◌, if◌then◌else◌, IfOk, OnOk};
 ghost use Rattle.ps_queries.specs.Vectors.{SourceRow};
 ghost use Rattle.ps_sql_eval.specs.Evaluated.{asker_of};
 ghost use Rattle.ps_params.specs.Notes.{Note, SameFrom};
 ghost use Rattle.ps_definitions.specs.Tables.{is_read};
 ghost use Rattle.ps_params.specs.Indexes.{StandsAt};
 ghost use Rattle.ps_params.specs.Names.{bucket_names, AreTold};
-ghost use Rattle.ps_params.specs.Kept.{note_of};
 
 use crate::asking::add_definitions;
 use crate::kept::Kept;

@@ -1,6 +1,6 @@
 //! The notes that are kept of rows, and where they are found again.
 
-ghost use Rattle.std.specs.Prelude.{◌≡◌, ℕ, ◌≤◌, ◌+◌, [], ◌∷◌, ◌++◌, map, take, drop, Some, OnOk, IfOk, IfSome, slice_get};
+ghost use Rattle.std.specs.Prelude.{◌≡◌, ◌≤◌, ◌+◌, [], ◌∷◌, ◌++◌, map, take, drop, Some, OnOk, IfOk, IfSome, slice_get};
 ghost use Rattle.std.specs.Option.{option_copied};
 ghost use Rattle.ps_params.specs.Notes.{counts_for, row_at, row_after, SameFrom};
 ghost use Rattle.ps_params.specs.Kept.{note_of};

@@ -2,7 +2,6 @@
 
 ghost use Rattle.std.specs.Prelude.{◌≡◌, ◌↔◌, IsTrue, Some, IfSome, slice_get};
 ghost use Rattle.std.specs.Option.{option_copied};
-ghost use Rattle.ps_params.specs.declared.paths.Path.{Path as PathData};
 
 use crate::accesses::access_of;
 use ps_data::{Items, Memory, Text};

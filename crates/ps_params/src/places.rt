@@ -2,7 +2,7 @@
 
 ghost use Rattle.std.specs.Prelude.{◌≡◌, ℕ, ◌≤◌, ◌++◌, [], ◌∷◌, List, map, take, length, if◌then◌else◌, OnOk, IfOk};
 ghost use Rattle.std.specs.BTreeMap as tree;
-ghost use Rattle.ps_queries.specs.Meaning.{value_in, column_value as value_of_column, text_of as text_of_value};
+ghost use Rattle.ps_queries.specs.Meaning.{value_in, text_of as text_of_value};
 ghost use Rattle.ps_params.specs.Kept.{note_of};
 ghost use Rattle.ps_params.specs.Places.{text_in, text_by, text_on, is_spot, lies_at, places_at, Finds};
 

@@ -1,5 +1,5 @@
 ghost use Rattle.std.specs.Prelude.{◌≡◌, map};
-ghost use Rattle.ps_queries.specs.Subjects.{is_asker, is_bucket, is_row, any_true, speaks, IsSameForEveryAsker, IsSameForEveryBucket, IsSameOnEveryRow};
+ghost use Rattle.ps_queries.specs.Subjects.{any_true, speaks, IsSameForEveryAsker, IsSameForEveryBucket, IsSameOnEveryRow};
 
 use crate::Expr;
 

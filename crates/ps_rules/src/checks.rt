@@ -1,6 +1,6 @@
 //! The checks of a definition: parameter queries before data queries, each query at its scalar.
 
-ghost use Rattle.std.specs.Prelude.{◌≡◌, ℕ, List, ◌∷◌, [], ◌++◌, ◌<◌, ◌↔◌, not, IfOk, IsTrue, Some, None, length, map, bytes_eq, codes, if◌then◌else◌};
+ghost use Rattle.std.specs.Prelude.{◌≡◌, ℕ, List, [], ◌++◌, ◌<◌, ◌↔◌, not, IfOk, IsTrue, Some, None, length, map, bytes_eq, codes, if◌then◌else◌};
 ghost use Rattle.std.specs.List.{list_any, list_all};
 ghost use Rattle.ps_queries.specs.declared.expressions.Expr.{Expr as ExprData};
 ghost use Rattle.ps_queries.specs.declared.queries.Output.{Output as OutputData};
@@ -10,7 +10,7 @@ ghost use Rattle.ps_definitions.specs.declared.warnings.Warning.{Warning as Warn
 ghost use Rattle.ps_rules.specs.Faults.{Reads, sql, placed_fault};
 ghost use Rattle.ps_definitions.specs.Names.{is_in, are_in, has_repeated, output_names};
 ghost use Rattle.ps_definitions.specs.Branches.{mentions, has_parameter, asks_parameters as asks};
-ghost use Rattle.ps_definitions.specs.Checks.{some_expr, in_condition, names_of, has_no_id as lacks_id, has_unknown as knows_not, has_many_branches as has_many, is_bound as binds, is_matched as matches_all};
+ghost use Rattle.ps_definitions.specs.Checks.{some_expr, in_condition, names_of, has_no_id as lacks_id, has_unknown as knows_not, has_many_branches as has_many, is_bound as binds};
 ghost use Rattle.ps_rules.specs.Checks.{is_mixed as mixes, client_warning, known_by, known_after, known_from, known_with, all_known, planned_with, planned_from, planned_of, all_planned, data_warning, checked_of};
 
 use crate::RulesFault;

@@ -1,8 +1,7 @@
-ghost use Rattle.std.specs.Prelude.{◌≡◌, [], ◌∷◌, ◌++◌, IfOk, Some, None, length, if◌then◌else◌};
-ghost use Rattle.ps_definitions.specs.Names.{is_in, has_repeated, output_names};
+ghost use Rattle.std.specs.Prelude.{◌≡◌, [], ◌∷◌, ◌++◌, IfOk};
+ghost use Rattle.ps_definitions.specs.Names.{is_in};
 
 use ps_data::{Items, Memory, Text};
-use ps_queries::Output;
 use std::alloc::Global;
 use std::collections::BTreeSet;
 use std::marker::Model;

@@ -1,4 +1,4 @@
-ghost use Rattle.std.specs.Prelude.{◌≡◌, ℕ, ◌<◌, ◌+◌, length, IfSome, IfOk, ◌++◌};
+ghost use Rattle.std.specs.Prelude.{◌≡◌, ◌<◌, ◌+◌, length, IfSome, IfOk, ◌++◌};
 ghost use Rattle.ps_yaml.specs.declared.nodes.Node.{Node as NodeData};
 ghost use Rattle.ps_yaml.specs.Grammar.{Spells};
 ghost use Rattle.ps_rules.specs.Grammar.{IsRules};
@@ -14,7 +14,7 @@ use crate::checks::check;
 use crate::drafts::{Checked, Draft};
 use crate::shapes::drafts_in;
 use ps_data::{Items, Memory};
-use ps_definitions::{Definition, Rules, Warning};
+use ps_definitions::{Rules, Warning};
 use ps_sql::queries_speak_as_they_may;
 use ps_yaml::{Node, YamlFault, places_rise, read_yaml};
 use std::alloc::Global;

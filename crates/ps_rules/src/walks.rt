@@ -1,6 +1,6 @@
 //! What stands in an expression.
 
-ghost use Rattle.std.specs.Prelude.{◌≡◌, not, map};
+ghost use Rattle.std.specs.Prelude.{◌≡◌, not};
 ghost use Rattle.std.specs.List.{list_any};
 ghost use Rattle.ps_queries.specs.declared.expressions.Expr.{Expr as ExprData};
 ghost use Rattle.ps_definitions.specs.Names.{is_in};

@@ -1,6 +1,6 @@
 //! Answers, written to a sink.
 
-ghost use Rattle.std.specs.Prelude.{◌≡◌, ◌≤◌, ◌++◌, IfOk, OnOk, IsTrue, string_bytes};
+ghost use Rattle.std.specs.Prelude.{◌≡◌, ◌≤◌, ◌++◌, IfOk, IsTrue};
 ghost use Rattle.std.specs.Fmt.{decimal};
 ghost use Rattle.ps_http.specs.Answers.{is_status};
 ghost use Rattle.ps_serve.specs.declared.ends.End.TheVariants as ends;

@@ -1,6 +1,6 @@
 //! What has changed from one taken value to another.
 
-ghost use Rattle.std.specs.Prelude.{◌≡◌, map, length, IfOk};
+ghost use Rattle.std.specs.Prelude.{◌≡◌, map, IfOk};
 ghost use Rattle.ps_session.specs.Takes.{NamesRise, same_bucket, same_buckets, same_number, is_unchanged, removed, updated, entry_of, diff_line};
 ghost use Rattle.ps_session.specs.Matches.{match_of, is_as_found};
 

@@ -20,10 +20,10 @@ impl<'a> Model for Cursor<'a> {
 }
 
 impl<'a> Cursor<'a> {
-    ghost use Rattle.std.specs.Prelude.{◌≡◌, ℕ, ◌<◌, drop, not, is_some};
+    ghost use Rattle.std.specs.Prelude.{◌≡◌, ◌<◌, drop, not, is_some};
     ghost use Rattle.std.specs.Option.{option_copied};
     ghost use Rattle.ps_sql.specs.Answers.{ReadsOn, StepsOn};
-    ghost use Rattle.ps_sql.specs.Inputs.{Input, first_word, next, second, third, fourth, here, past, is_mark, is_keyword, name_of, plain_name_of, refusal, expect_mark, expect_keyword, expect_name};
+    ghost use Rattle.ps_sql.specs.Inputs.{Input, first_word, next, here, past, is_mark, is_keyword, name_of, plain_name_of, refusal, expect_mark, expect_keyword, expect_name};
 
     /// All of a text's words.
     pub fn new(left: &'a [Lexeme], end: u32) -> Cursor<'a>

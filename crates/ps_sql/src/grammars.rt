@@ -1,8 +1,6 @@
-ghost use Rattle.std.specs.Prelude.{◌≡◌, ℕ};
-ghost use Rattle.std.specs.Option.{option_copied};
 ghost use Rattle.ps_sql.specs.Answers.{ReadsOn};
 ghost use Rattle.ps_sql.specs.Inputs.{next};
-ghost use Rattle.ps_sql.specs.Grammar.{ands, arguments, bracketed, call_by, expr, function_of, joins, keyword_value, mark_value, more, negation, operand_at, orders, plain_name, prime, sames, step};
+ghost use Rattle.ps_sql.specs.Grammar.{ands, arguments, bracketed, call_by, expr, joins, keyword_value, mark_value, more, negation, operand_at, orders, plain_name, prime, sames, step};
 
 use crate::contexts::{Context, Level, Step};
 use crate::cursors::Cursor;

@@ -1,8 +1,7 @@
-ghost use Rattle.std.specs.Prelude.{◌≡◌, ℕ, bytes_eq};
-ghost use Rattle.std.specs.Option.{option_copied};
+ghost use Rattle.std.specs.Prelude.{◌≡◌, bytes_eq};
 ghost use Rattle.ps_sql.specs.Answers.{ReadsOn, StepsOn};
-ghost use Rattle.ps_sql.specs.Inputs.{next, second, third, name_of, plain_name_of};
-ghost use Rattle.ps_sql.specs.Grammar.{allows_column, allows_qualifier, arity, arithmetic_by, as_text, bucket, casted, column, dotted, function_of, is_arithmetic, named_value, negative_by, null_test, operator_at, operator_of_keyword, operator_of_mark, qualified, quoted_name, request, request_value, token_user, type_by};
+ghost use Rattle.ps_sql.specs.Inputs.{next, second, plain_name_of};
+ghost use Rattle.ps_sql.specs.Grammar.{allows_column, allows_qualifier, arity, as_text, bucket, casted, column, dotted, function_of, is_arithmetic, named_value, negative_by, null_test, operator_at, operator_of_keyword, operator_of_mark, qualified, quoted_name, request, request_value, token_user, type_by};
 
 use crate::contexts::{Context, Level, Scope};
 use crate::cursors::Cursor;

@@ -1,5 +1,4 @@
 ghost use Rattle.std.specs.Prelude.{◌≡◌, ℕ, ◌<◌, List, length, IfOk};
-ghost use Rattle.std.specs.Option.{option_copied};
 ghost use Rattle.ps_sql.specs.declared.words.Lexeme.{Lexeme};
 ghost use Rattle.ps_sql.specs.Answers.{AnswersQuery, Reads, ReadsOn, StepsOn, input_of, StopsAtToken};
 ghost use Rattle.ps_sql.specs.SpelledQueries.{IsDataQuery, IsParameterQuery};

@@ -1,4 +1,4 @@
-ghost use Rattle.std.specs.Prelude.{◌≡◌, true, ℕ, pos, ◌+◌, ◌-◌, ◌<◌, ◌≤◌, length, take, drop, slice_index, IfOk, IfSome, Some, None, option_map, if◌then◌else◌, nat_le};
+ghost use Rattle.std.specs.Prelude.{◌≡◌, true, ◌+◌, ◌-◌, ◌<◌, ◌≤◌, length, take, drop, slice_index, IfOk, IfSome, Some, None, option_map, if◌then◌else◌, nat_le};
 ghost use Rattle.std.specs.List.{prefix_len};
 ghost use Rattle.ps_sql.specs.declared.words.Word.TheVariants as words;
 ghost use Rattle.ps_data.specs.Numbers.{greatest};

@@ -2,7 +2,7 @@ ghost use Rattle.std.specs.Prelude.{◌≡◌, false, map, [], ◌∷◌, IfOk};
 ghost use Rattle.ps_queries.specs.Meaning.{value_of, two_value, call_value};
 ghost use Rattle.ps_queries.specs.declared.subjects.Subject.TheVariants as subjects;
 ghost use Rattle.ps_queries.specs.Subjects.{speaks};
-ghost use Rattle.ps_sql_eval.specs.Evaluated.{given_of, without_bucket, IsValueFor, IsValueOn};
+ghost use Rattle.ps_sql_eval.specs.Evaluated.{without_bucket, IsValueFor, IsValueOn};
 
 use crate::Asker;
 use crate::askers::nobody;

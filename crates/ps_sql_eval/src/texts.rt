@@ -1,4 +1,4 @@
-ghost use Rattle.std.specs.Prelude.{◌≡◌, ◌++◌, pos, length as count, IfOk, map, option_map};
+ghost use Rattle.std.specs.Prelude.{◌≡◌, ◌++◌, length as count, IfOk, map, option_map};
 ghost use Rattle.std.specs.Str.{chars};
 ghost use Rattle.ps_data.specs.declared.values.Value.TheVariants as values;
 ghost use Rattle.std.specs.Char.{to_ascii_uppercase, to_ascii_lowercase};

@@ -1,10 +1,9 @@
 //! The numbers of data queries.
 
-ghost use Rattle.std.specs.Prelude.{◌<◌, ◌^◌};
 ghost use Rattle.std.specs.List.{AllByRecursion};
 ghost use Rattle.ps_definitions.specs.RuleSets.{AreRules};
 ghost use Rattle.ps_store.specs.Laws.{HaveNumbers};
-ghost use Rattle.ps_store.specs.Numbers.{IsNumbered, AreNumbered};
+ghost use Rattle.ps_store.specs.Numbers.{IsNumbered};
 
 use ps_definitions::{Planned, Rules};
 

@@ -19,7 +19,7 @@ ghost use Rattle.ps_store.specs.declared.rows.Rows.{Rows as RowsSeen};
 use crate::entered::Entered;
 use crate::fixed::{Fixed, Limits};
 use crate::places::{Place, copy_place, into_places, is_among, is_in, places_in_order, places_of};
-use crate::rows::{RowKey, Rows, copy_key};
+use crate::rows::{RowKey, Rows};
 use crate::waiting::Waiting;
 use ps_bucket_eval::{PlaceFault, Placed, entries_of_row};
 use ps_bucket_log::{Key, Op};

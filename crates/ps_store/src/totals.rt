@@ -1,6 +1,6 @@
 //! What a store counts.
 
-ghost use Rattle.std.specs.Prelude.{◌≡◌, ◌+◌, ◌^◌, ◌≤◌, ◌<◌, length};
+ghost use Rattle.std.specs.Prelude.{◌≡◌, ◌+◌, ◌^◌, ◌≤◌, ◌<◌};
 ghost use Rattle.ps_checksum.specs.Sums.{add_sums};
 ghost use Rattle.ps_bucket_log.specs.Ops.{sum_of as sum_of_ops};
 ghost use Rattle.ps_store.specs.Totals.{ops_of, with_transaction, HaveRoom};

@@ -1,5 +1,4 @@
 ghost use Rattle.std.specs.Prelude.{◌≡◌, ◌≤◌, ◌↔◌, length, IsTrue};
-ghost use Rattle.sha2.specs.Sha256.{sha256};
 ghost use Rattle.ps_token.specs.Macs.{filled as filled_key, block_of as block_of_key, masked as masked_block, hmac};
 
 use sha2::{Digest, Sha256};

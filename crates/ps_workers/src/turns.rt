@@ -1,6 +1,6 @@
 //! One changing call of the store in one turn.
 
-ghost use Rattle.std.specs.Prelude.{◌≡◌, ◌≤◌, List};
+ghost use Rattle.std.specs.Prelude.{◌≤◌, List};
 ghost use Rattle.ps_lock.specs.Words.{IsSeatOf};
 ghost use Rattle.ps_store.specs.declared.events.Event.{Event as EventSeen};
 ghost use Rattle.ps_store.specs.declared.events.Event.TheVariants.{Close};

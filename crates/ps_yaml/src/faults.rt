@@ -1,5 +1,4 @@
 ghost use Rattle.std.specs.Prelude.{◌≡◌};
-ghost use Rattle.ps_yaml.specs.declared.faults.YamlFault.{YamlFault as Fault};
 ghost use Rattle.ps_yaml.specs.declared.faults.YamlFault.TheVariants as faults;
 
 use ps_data::Memory as WantOfMemory;

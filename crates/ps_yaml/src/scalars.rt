@@ -1,4 +1,4 @@
-ghost use Rattle.std.specs.Prelude.{◌≡◌, ◌+◌, ◌<◌, ◌≤◌, ◌==◌, ◌&&◌, ◌++◌, ◌∷◌, nat_lt, length, take, drop, slice_index, option_map, IfOk, IfSome, OnOk};
+ghost use Rattle.std.specs.Prelude.{◌≡◌, ◌+◌, ◌<◌, ◌≤◌, ◌==◌, ◌&&◌, ◌++◌, ◌∷◌, nat_lt, length, drop, slice_index, option_map, IfOk, IfSome, OnOk};
 ghost use Rattle.ps_yaml.specs.declared.nodes.Node.TheVariants as nodes;
 ghost use Rattle.ps_yaml.specs.Faults.{Reads};
 ghost use Rattle.ps_yaml.specs.Lines as lines_of;

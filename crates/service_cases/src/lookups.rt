@@ -1,6 +1,6 @@
 //! The buckets that an asker has.
 
-ghost use Rattle.std.specs.Prelude.{◌≡◌, ◌≤◌, OnOk};
+ghost use Rattle.std.specs.Prelude.{◌≡◌, ◌≤◌};
 
 use crate::reading::asker_of;
 use crate::texts::Texts;

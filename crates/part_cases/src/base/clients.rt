@@ -1,6 +1,6 @@
 //! What clients keep of operations.
 
-ghost use Rattle.std.specs.Prelude.{◌≡◌, ◌≤◌, IsTrue, IfOk};
+ghost use Rattle.std.specs.Prelude.{IsTrue, IfOk};
 ghost use Rattle.std.specs.List.{IsDistinct};
 ghost use Rattle.ps_client_log.specs.Kept.{Kept};
 ghost use Rattle.ps_client_log.specs.Soundness.{IsSound, same_row};

@@ -1,6 +1,6 @@
 //! What several measurements begin with.
 
-ghost use Rattle.std.specs.Prelude.{◌≡◌, ◌<◌, length, IfOk};
+ghost use Rattle.std.specs.Prelude.{◌≡◌, ◌<◌, IfOk};
 ghost use Rattle.ps_bucket_log.specs.Ops.{id_of};
 
 use ps_bucket_log::{Key, Op};
