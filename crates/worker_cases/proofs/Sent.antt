@@ -18,6 +18,7 @@ use Rattle.ps_definitions.specs.contracts.branches.Branch as Branch
 use Rattle.ps_definitions.specs.contracts.queries.Planned as Planned
 use Rattle.ps_definitions.specs.contracts.definitions.Definition as Definition
 use Rattle.ps_definitions.specs.contracts.rule_sets.Rules as Rules
+use Rattle.ps_definitions.proofs.tables.Tables.TheSendSync as tables
 use Rattle.ps_definitions.proofs.warnings.Warning.TheSendSync as warnings
 use Rattle.ps_params.specs.contracts.indexes.ParameterIndex as ParameterIndex
 use Rattle.ps_params.proofs.kept.Kept.TheSendSync as kept
@@ -59,7 +60,7 @@ definition : IsSend Definition.the_row
 definition = search (sendable, planned, parameter_query, items.the_send, texts.the_send) depth 20
 
 rules : IsSend Rules.the_row
-rules = search (sendable, definition, warnings.the_send, items.the_send) depth 20
+rules = search (sendable, definition, warnings.the_send, items.the_send, tables.the_field_send) depth 20
 
 index_field : IsSend ParameterIndex.the_field.row
 index_field = search (sendable, rules, kept.the_send, positions.the_field_send) depth 20
