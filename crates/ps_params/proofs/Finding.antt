@@ -1,6 +1,6 @@
 -- Where notes are found: one place more, one note more.
-use Rattle.std.proofs.Common.{◌≡◌, ℕ, zero, suc, ◌<◌, ◌+◌, Bool, true, false, cond, List, [], ◌∷◌, ◌++◌, length, map, take, Some, None, refl, sym, ap, ◌∙◌, subst, arith, inl, inr}
-use Rattle.std.specs.Prelude.{◌≢◌, if◌then◌else◌, bytes_eq, slice_get, get_or}
+use Rattle.std.proofs.Common.{◌≡◌, ℕ, zero, suc, ◌<◌, ◌+◌, Bool, true, false, cond, List, [], ◌∷◌, ◌++◌, length, map, take, Some, None, refl, sym, ap, ◌∙◌, subst, arith}
+use Rattle.std.specs.Prelude.{◌&&◌, nat_eq, if◌then◌else◌, bytes_eq, slice_get, get_or}
 use Rattle.std.specs.Ordering.{nat_cmp, ordering_then, is_eq}
 use Rattle.std.specs.Cmp.{nat_cmp_is}
 use Rattle.std.specs.Cmp.Lexicographic.{slice_cmp}
@@ -8,7 +8,7 @@ use Rattle.std.specs.declared.cmp.Ordering.{Ordering}
 use Rattle.std.specs.declared.cmp.Ordering.TheVariants.{Less, Equal, Greater}
 use Rattle.std.specs.BTreeMap.{BTreeMap, get, is_at}
 use Rattle.std.proofs.lemmas.Map.Lookups.{exact_unsigned, exact_bytes, exact_pairs}
-use Rattle.std.proofs.lemmas.Bool.{cases_eq}
+use Rattle.std.proofs.lemmas.Bool.{eqb-true, eq-eqb}
 use Rattle.std.proofs.lemmas.Map.Text.{is_eq-slice_cmp}
 use Rattle.ps_params.specs.declared.paths.Path.{Path}
 use Rattle.ps_params.specs.Notes.{Note}
@@ -22,36 +22,22 @@ equal_order Greater e = absurd (let n : false ≡ true = e in cc)
 same_spot : (a b : Spot) → is_spot a b ≡ true → a ≡ b
 same_spot a b e = exact_pairs nat_cmp (slice_cmp nat_cmp) exact_unsigned exact_bytes a b (equal_order (spot_cmp a b) e)
 
+module _ {K : Type 0} (cmp : K → K → Ordering) (same : (a b : K) → is_eq (cmp a b) ≡ true → a ≡ b) (found new : BTreeMap K (List ℕ)) (key : K) (place : ℕ) (before after : List ℕ) where
+  pub put_behind : after ≡ before ++ place ∷ [] → places_or_none (get cmp found key) ≡ before → ((q : K) → get cmp new q ≡ cond (is_at (cmp key) q) (Some after) (get cmp found q))
+      → (other : K) → places_or_none (get cmp new other) ≡ (if is_eq (cmp key other) then places_or_none (get cmp found other) ++ place ∷ [] else places_or_none (get cmp found other))
+  put_behind grown was gets other = ap places_or_none (gets other) ∙ go (is_eq (cmp key other)) refl
+    where
+      go : (b : Bool) → is_eq (cmp key other) ≡ b
+          → places_or_none (cond b (Some after) (get cmp found other)) ≡ (if b then places_or_none (get cmp found other) ++ place ∷ [] else places_or_none (get cmp found other))
+      go true e = grown ∙ ap (λ (ps : List ℕ). ps ++ place ∷ []) (sym was ∙ ap (λ (k : K). places_or_none (get cmp found k)) (same key other e))
+      go false e = refl
+
 module _ (found new : BTreeMap Spot (List ℕ)) (spot : Spot) (place : ℕ) (before after : List ℕ) where
   pub place_put : after ≡ before ++ place ∷ [] → places_at found spot ≡ before → ((q : Spot) → get spot_cmp new q ≡ cond (is_at (spot_cmp spot) q) (Some after) (get spot_cmp found q))
       → (other : Spot) → places_at new other ≡ (if is_spot spot other then places_at found other ++ place ∷ [] else places_at found other)
-  place_put grown was gets other = ap places_or_none (gets other) ∙ go (is_spot spot other) refl
-    where
-      go : (b : Bool) → is_spot spot other ≡ b → places_or_none (cond b (Some after) (get spot_cmp found other)) ≡ (if b then places_at found other ++ place ∷ [] else places_at found other)
-      go true e = grown ∙ ap (λ (ps : List ℕ). ps ++ place ∷ []) (sym was ∙ ap (places_at found) (same_spot spot other e))
-      go false e = refl
+  place_put grown was gets other = put_behind spot_cmp same_spot found new spot place before after grown was gets other
 
 -- ---- lists by places
-
-other_got : {X : Type 0} (xs : List X) (k m : ℕ) → m ≢ k → slice_get (take (suc k) xs) m ≡ slice_get (take k xs) m
-other_got [] zero m h = refl
-other_got [] (suc k) m h = refl
-other_got (x ∷ xs) zero zero h = absurd (h refl)
-other_got (x ∷ []) zero (suc m) h = refl
-other_got (x ∷ y ∷ xs) zero (suc m) h = refl
-other_got (x ∷ xs) (suc k) zero h = refl
-other_got (x ∷ xs) (suc k) (suc m) h = other_got xs k m (λ e. h (ap suc e))
-
-here_got : {X : Type 0} (xs : List X) (k : ℕ) → slice_get (take (suc k) xs) k ≡ slice_get xs k
-here_got [] k = refl
-here_got (x ∷ xs) zero = refl
-here_got (x ∷ xs) (suc k) = here_got xs k
-
-not_yet : {X : Type 0} (xs : List X) (k : ℕ) → slice_get (take k xs) k ≡ None
-not_yet [] zero = refl
-not_yet [] (suc k) = refl
-not_yet (x ∷ xs) zero = refl
-not_yet (x ∷ xs) (suc k) = not_yet xs k
 
 pub got_at : {X : Type 0} (xs : List X) (k : ℕ) (x : X) → k < length xs → x ≡ get_or xs k x → slice_get xs k ≡ Some x
 got_at [] k x h e = absurd (omega arith)
@@ -65,49 +51,26 @@ got_mapped f (y ∷ xs) (suc k) x e = got_mapped f xs k x e
 
 -- ---- the spots of one note
 
-module _ (paths : List Path) (note : Note) (k : ℕ) (path : Path) (is : slice_get paths k ≡ Some path) where
-  other_lies : (m : ℕ) (u : List ℕ) → m ≢ k → lies_at (take (suc k) paths) m u note ≡ lies_at (take k paths) m u note
-  other_lies m u h = ap (lies_by u note) (other_got paths k m h)
-
-  here_lies : (u : List ℕ) → lies_at (take (suc k) paths) k u note ≡ is_text u (text_on path note)
-  here_lies u = ap (lies_by u note) (here_got paths k ∙ is)
-
-  lies_not_yet : (u : List ℕ) → lies_at (take k paths) k u note ≡ false
-  lies_not_yet u = ap (lies_by u note) (not_yet paths k)
-
-  -- a path that does not have the note
-  pub lies_nowhere : text_on path note ≡ None → (m : ℕ) (u : List ℕ) → lies_at (take (suc k) paths) m u note ≡ lies_at (take k paths) m u note
-  lies_nowhere none m u = elim (cases_eq m k) [
-    | inl e ↦ subst (λ j. lies_at (take (suc k) paths) j u note ≡ lies_at (take k paths) j u note) (sym e) (here_lies u ∙ ap (is_text u) none ∙ sym (lies_not_yet u))
-    | inr h ↦ other_lies m u h
-  ]
-
-  spot_here : (text u : List ℕ) → is_spot (k, text) (k, u) ≡ bytes_eq text u
-  spot_here text u = ap (λ o. is_eq (ordering_then o (slice_cmp nat_cmp text u))) (sym (nat_cmp_is k k Equal refl)) ∙ is_eq-slice_cmp text u
-
-  spot_other : (text u : List ℕ) (m : ℕ) → m ≢ k → is_spot (k, text) (m, u) ≡ false
-  spot_other text u m h = go (is_spot (k, text) (m, u)) refl
+module _ (paths : List Path) (note : Note) (number : ℕ) (m : ℕ) (u : List ℕ) (place : ℕ) (old : ℕ → List ℕ → List ℕ) where
+  -- a path that has the note under a text
+  pub lies_once : (text : List ℕ) (path : Path) (new : ℕ → List ℕ → List ℕ) → slice_get paths number ≡ Some path → text_on path note ≡ Some text
+      → new m u ≡ (if is_spot (number, text) (m, u) then old m u ++ place ∷ [] else old m u)
+      → new m u ≡ (if nat_eq number m && lies_at paths m u note then old m u ++ place ∷ [] else old m u)
+  lies_once text path new is some put = put ∙ ap (λ b. if b then old m u ++ place ∷ [] else old m u) (go (nat_eq number m) refl)
     where
-      go : (b : Bool) → is_spot (k, text) (m, u) ≡ b → b ≡ false
-      go true e = absurd (h (sym (ap (λ (s : Spot). s.0) (same_spot (k, text) (m, u) e))))
-      go false e = refl
+      here : lies_at paths number u note ≡ bytes_eq text u
+      here = ap (lies_by u note) is ∙ ap (is_text u) some
 
-  -- a path that has it under a text
-  pub lies_once : (text : List ℕ) (old mid new : ℕ → List ℕ → List ℕ) (place : ℕ) → text_on path note ≡ Some text
-      → ((m : ℕ) (u : List ℕ) → mid m u ≡ (if lies_at (take k paths) m u note then old m u ++ place ∷ [] else old m u))
-      → ((m : ℕ) (u : List ℕ) → new m u ≡ (if is_spot (k, text) (m, u) then mid m u ++ place ∷ [] else mid m u))
-      → (m : ℕ) (u : List ℕ) → new m u ≡ (if lies_at (take (suc k) paths) m u note then old m u ++ place ∷ [] else old m u)
-  lies_once text old mid new place some before after m u = elim (cases_eq m k) [
-    | inl e ↦ subst (λ j. new j u ≡ (if lies_at (take (suc k) paths) j u note then old j u ++ place ∷ [] else old j u)) (sym e)
-        (after k u
-        ∙ ap (λ b. if b then mid k u ++ place ∷ [] else mid k u) (spot_here text u)
-        ∙ ap (λ (ps : List ℕ). if bytes_eq text u then ps ++ place ∷ [] else ps) (before k u ∙ ap (λ b. if b then old k u ++ place ∷ [] else old k u) (lies_not_yet u))
-        ∙ ap (λ b. if b then old k u ++ place ∷ [] else old k u) (sym (here_lies u ∙ ap (is_text u) some)))
-    | inr h ↦ after m u
-        ∙ ap (λ b. if b then mid m u ++ place ∷ [] else mid m u) (spot_other text u m h)
-        ∙ before m u
-        ∙ ap (λ b. if b then old m u ++ place ∷ [] else old m u) (sym (other_lies m u h))
-  ]
+      spot_here : is_spot (number, text) (number, u) ≡ bytes_eq text u
+      spot_here = ap (λ o. is_eq (ordering_then o (slice_cmp nat_cmp text u))) (sym (nat_cmp_is number number Equal refl)) ∙ is_eq-slice_cmp text u
+
+      spot_other : (b : Bool) → is_spot (number, text) (m, u) ≡ b → nat_eq number m ≡ false → b ≡ false
+      spot_other false s e = refl
+      spot_other true s e = absurd (let n : true ≡ false = sym (eq-eqb number m (ap (λ (s : Spot). s.0) (same_spot (number, text) (m, u) s))) ∙ e in cc)
+
+      go : (b : Bool) → nat_eq number m ≡ b → is_spot (number, text) (m, u) ≡ (b && lies_at paths m u note)
+      go false e = spot_other (is_spot (number, text) (m, u)) refl e
+      go true e = subst (λ j. is_spot (number, text) (j, u) ≡ lies_at paths j u note) (eqb-true number m e) (spot_here ∙ sym here)
 
 -- ---- the places of one note more
 

@@ -4,6 +4,7 @@ mod Finding
 mod Gains
 mod Leaves
 mod Members
+mod Numbered
 mod Ordered
 mod Rows
 mod Sources

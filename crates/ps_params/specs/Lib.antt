@@ -4,6 +4,7 @@ pub mod Kept
 pub mod Laws
 pub mod Names
 pub mod Notes
+pub mod Numbers
 pub mod Places
 pub mod Sets
 pub mod Searches

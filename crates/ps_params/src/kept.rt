@@ -7,10 +7,10 @@ ghost use Rattle.ps_params.specs.Kept.{note_of};
 ghost use Rattle.ps_params.specs.Places.{notes_at, places_from, lies_at};
 
 use crate::noted::Noted;
-use crate::paths::{Path, number_of};
+use crate::paths::Paths;
 use crate::places::{Found, found_at, with_notes};
 use crate::trimming::trimmed;
-use ps_data::{Items, Memory, Position, Text};
+use ps_data::{Memory, Position, Text};
 use ps_rows::Row;
 use std::alloc::Global;
 use std::collections::BTreeMap;
@@ -21,7 +21,7 @@ use std::mem;
 /// is room.
 #[derive(Debug, Drop)]
 pub(crate) struct Kept {
-    paths: Items<Path>,
+    paths: Paths,
     notes: Vec<Noted>,
     indexed: usize,
     found: Found,
@@ -49,7 +49,7 @@ impl Model for Kept {
 
 impl Kept {
     /// No notes, to be found on some paths. Takes no memory.
-    pub(crate) fn new(alloc: Global, paths: Items<Path>) -> Kept
+    pub(crate) fn new(alloc: Global, paths: Paths) -> Kept
         ensures { result.notes ≡ [] }
     {
         Kept {
@@ -124,13 +124,7 @@ impl Kept {
         let found = mem::replace(&mut self.found, BTreeMap::new(alloc));
         let first = self.indexed;
         self.indexed = 0;
-        let found = with_notes(
-            alloc,
-            found,
-            self.paths.as_slice(),
-            self.notes.as_slice(),
-            first,
-        )?;
+        let found = with_notes(alloc, found, &self.paths, self.notes.as_slice(), first)?;
         self.found = found;
         self.indexed = self.notes.len();
         Ok(())
@@ -149,7 +143,7 @@ impl Kept {
     pub(crate) fn path(&self, table: &Text, column: Option<&str>) -> Option<usize>
         ensures { IfSome result (λ number. slice_get self.now.paths number ≡ Some (record { table = table.now; column = option_copied column.entry })) }
     {
-        number_of(self.paths.as_slice(), table, column)
+        self.paths.number_of(table, column)
     }
 
     /// The places of the notes that lie at a spot.

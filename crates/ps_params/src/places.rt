@@ -1,15 +1,14 @@
 //! Where notes are found again: their places, under the number of a path and a text.
 
-ghost use Rattle.std.specs.Prelude.{◌≡◌, ℕ, ◌≤◌, ◌++◌, [], ◌∷◌, List, map, take, length, if◌then◌else◌, OnOk, IfOk};
-ghost use Rattle.std.specs.BTreeMap as tree;
-ghost use Rattle.ps_queries.specs.Meaning.{value_in, text_of as text_of_value};
+ghost use Rattle.std.specs.Prelude.{◌≡◌, ℕ, ◌≤◌, ◌&&◌, nat_eq, ◌++◌, [], ◌∷◌, List, map, take, length, if◌then◌else◌, OnOk, IfOk};
+ghost use Rattle.ps_queries.specs.Meaning.{text_of as text_of_value};
 ghost use Rattle.ps_params.specs.Kept.{note_of};
 ghost use Rattle.ps_params.specs.Places.{text_in, text_by, text_on, is_spot, lies_at, places_at, Finds};
 
 use crate::noted::Noted;
-use crate::paths::Path;
+use crate::paths::{Path, Paths};
 use ps_data::{Items, Memory, Text, Value};
-use ps_rows::Row;
+use ps_sql_eval::column_value;
 use ps_values::decimal;
 use std::alloc::Global;
 use std::collections::BTreeMap;
@@ -28,18 +27,6 @@ pub(crate) fn text_of(alloc: Global, value: &Value) -> Result<Option<Text>, Memo
     }
 }
 
-// The text of a column of a row that is there.
-fn text_of_column(alloc: Global, row: &Row, name: &Text) -> Result<Option<Text>, Memory>
-    ensures { IfOk result (λ text. text ≡ text_of_value (value_in row.now name.now)) }
-{
-    'columns: for column in row.columns() {
-        if column.name.equals(name) {
-            return text_of(alloc, &column.value);
-        }
-    }
-    Ok(None)
-}
-
 // The text of the column of a note's row.
 fn text_of_note(alloc: Global, note: &Noted, column: &Text) -> Result<Option<Text>, Memory>
     ensures { IfOk result (λ text. text ≡ text_in column.now (note_of note.now)) }
@@ -48,7 +35,7 @@ fn text_of_note(alloc: Global, note: &Noted, column: &Text) -> Result<Option<Tex
         return Ok(Some(note.id.copy(alloc)?));
     }
     match &note.row {
-        Some(row) => text_of_column(alloc, row, column),
+        Some(row) => text_of(alloc, &column_value(alloc, &note.id, row, column)?),
         None => Ok(None),
     }
 }
@@ -97,22 +84,40 @@ fn add_place(
     Ok(())
 }
 
+// Puts the place of a note where it lies on the path of a number.
+fn add_on_path(
+    alloc: Global,
+    found: &mut Found,
+    paths: &Paths,
+    number: usize,
+    note: &Noted,
+    place: usize,
+) -> Result<(), Memory>
+    ensures { OnOk result ((other : ℕ) (text : List ℕ) → places_at found.new (other, text)
+        ≡ (if nat_eq number other && lies_at paths.now other text (note_of note.now) then places_at found.old (other, text) ++ place ∷ [] else places_at found.old (other, text))) }
+{
+    let Some(path) = paths.get(number) else {
+        return Ok(());
+    };
+    let Some(text) = text_on_path(alloc, path, note)? else {
+        return Ok(());
+    };
+    add_place(alloc, found, (number, text), place)
+}
+
 // Puts the place of a note at each spot where it lies.
 fn add_note(
     alloc: Global,
     found: &mut Found,
-    paths: &[Path],
+    paths: &Paths,
     note: &Noted,
     place: usize,
 ) -> Result<(), Memory>
     ensures { OnOk result ((number : ℕ) (text : List ℕ) → places_at found.new (number, text)
         ≡ (if lies_at paths.now number text (note_of note.now) then places_at found.old (number, text) ++ place ∷ [] else places_at found.old (number, text))) }
 {
-    for number in 0..paths.len() {
-        let Some(text) = text_on_path(alloc, &paths[number], note)? else {
-            continue;
-        };
-        add_place(alloc, found, (number, text), place)?;
+    'numbers: for number in paths.numbers(&note.table) {
+        add_on_path(alloc, found, paths, *number, note, place)?;
     }
     Ok(())
 }
@@ -121,7 +126,7 @@ fn add_note(
 pub(crate) fn with_notes(
     alloc: Global,
     found: Found,
-    paths: &[Path],
+    paths: &Paths,
     notes: &[Noted],
     first: usize,
 ) -> Result<Found, Memory>

@@ -19,12 +19,7 @@ fn find<'a>(columns: &'a [Column], name: &Text) -> Option<&'a Value>
 }
 
 /// The value of a column of a row: its id where that is asked, and Null where the row lacks the column.
-pub(crate) fn column_value(
-    alloc: Global,
-    id: &Text,
-    row: &Row,
-    name: &Text,
-) -> Result<Value, Memory>
+pub fn column_value(alloc: Global, id: &Text, row: &Row, name: &Text) -> Result<Value, Memory>
     ensures { IfOk result (λ value. value ≡ value_of_column id.now row.now name.now) }
 {
     if name.as_str() == "id" {

@@ -13,6 +13,7 @@ mod vectors;
 
 pub use arrays::elements;
 pub use askers::{Asker, nobody};
+pub use columns::column_value;
 pub use evaluations::{eval_request, eval_row, eval_without_bucket};
 pub use objects::{content, object_id};
 pub use vectors::{holds, vector_on};

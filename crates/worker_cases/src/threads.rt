@@ -198,26 +198,30 @@ pub fn by_four<R: Threads + Wait + Sync>(
     Ok(finish(rt, alloc, &lock, seat, count, limit))
 }
 
-/// A first seat feeds a transaction: what a second seat has seen before its turn, and after one that adds nothing; and what a third turn keeps.
-pub fn write_seats<R: Wait>(rt: &R, alloc: Global, out: &mut String) -> Result<(), Stop> {
+// What a second seat has seen before its turn, and after one that adds nothing, and what a third turn keeps; before them a first seat feeds a
+// transaction.
+fn seen_and_kept<R: Wait>(rt: &R, alloc: Global) -> Result<(u64, u64, Store), Stop> {
     let (lock, mut first) = made_store(alloc)?;
     let second = lock.split(&mut first)?;
     let first = feed_all(rt, alloc, &lock, first, make_input(alloc, 1)?);
     let before = second.seen();
     let second = lock.turn(rt, second).leave();
-    let mut store = lock.turn(rt, first).keep();
-    let wrote = store.write_batch(alloc, 10);
-    let changes = match wrote {
+    Ok((before, second.seen(), lock.turn(rt, first).keep()))
+}
+
+/// A first seat feeds a transaction: what a second seat has seen before its turn, and after one that adds nothing; and what a third turn keeps.
+pub fn write_seats<R: Wait>(rt: &R, alloc: Global, out: &mut String) -> Result<(), Stop> {
+    let (before, behind, store) = seen_and_kept(rt, alloc)?;
+    let mut store = store;
+    let changes = match store.write_batch(alloc, 10) {
         Ok(wrote) => wrote.changes,
         Err(_) => 0,
     };
-    write!(
+    let head = store.head().0;
+    Ok(write!(
         out,
-        "seen {before} and {}, kept with head {} and {changes} unwritten",
-        second.seen(),
-        store.head().0
-    )?;
-    Ok(())
+        "seen {before} and {behind}, kept with head {head} and {changes} unwritten"
+    )?)
 }
 
 // One change: a row of a table is deleted.
@@ -235,17 +239,22 @@ fn one_change(alloc: Global) -> Result<Items<Change>, Stop>
     Ok(changes)
 }
 
-/// A seat uploads a change, asks for two numbers of a client, closes the feed and uploads once more: what each call answers, and how many
-/// events the seat has seen.
-pub fn write_requests<R: Wait>(rt: &R, alloc: Global, out: &mut String) -> Result<(), Stop> {
-    let user = Text::from_str(alloc, "ann")?;
-    let client = Text::from_str(alloc, "phone")?;
-    let first = one_change(alloc)?;
-    let second = one_change(alloc)?;
+// What a store's calls answer to a user's client: uploads of changes before and after its feed is closed, and two numbers.
+fn write_answers<R: Wait>(
+    rt: &R,
+    alloc: Global,
+    asker: (&Text, &Text),
+    uploads: (Items<Change>, Items<Change>),
+    out: &mut String,
+) -> Result<(), Stop>
+    requires before { All (λ (change : ChangeSeen). 0 < length change.table) uploads.0 }
+    requires after { All (λ (change : ChangeSeen). 0 < length change.table) uploads.1 }
+{
+    let ((user, client), (first, second)) = (asker, uploads);
     let (lock, seat) = made_store(alloc)?;
     let (seat, uploaded) = upload_in_turn(rt, alloc, &lock, seat, first);
-    let (seat, one) = number_in_turn(rt, alloc, &lock, seat, &user, &client);
-    let (seat, two) = number_in_turn(rt, alloc, &lock, seat, &user, &client);
+    let (seat, one) = number_in_turn(rt, alloc, &lock, seat, user, client);
+    let (seat, two) = number_in_turn(rt, alloc, &lock, seat, user, client);
     let seat = close_in_turn(rt, &lock, seat);
     let (seat, refused) = upload_in_turn(rt, alloc, &lock, seat, second);
     write!(
@@ -254,4 +263,13 @@ pub fn write_requests<R: Wait>(rt: &R, alloc: Global, out: &mut String) -> Resul
         seat.seen()
     )?;
     Ok(())
+}
+
+/// A seat uploads a change, asks for two numbers of a client, closes the feed and uploads once more: what each call answers, and how many
+/// events the seat has seen.
+pub fn write_requests<R: Wait>(rt: &R, alloc: Global, out: &mut String) -> Result<(), Stop> {
+    let user = Text::from_str(alloc, "ann")?;
+    let client = Text::from_str(alloc, "phone")?;
+    let uploads = (one_change(alloc)?, one_change(alloc)?);
+    write_answers(rt, alloc, (&user, &client), uploads, out)
 }

@@ -83,39 +83,33 @@ fn write_batch(out: &mut String, batch: &Batch) -> Result<(), Stop> {
 }
 
 fn write_op(out: &mut String, op: &Op) -> Result<(), Stop> {
-    match op {
+    let written = match op {
         Op::Put {
             id,
             key,
             content,
             sum,
         } => {
-            write!(
-                out,
-                "put {} {} {}",
-                id.0,
-                key.kind.as_str(),
-                key.id.as_str()
-            )?;
-            write!(
-                out,
-                " {} {} {};",
-                key.subkey.as_str(),
-                content.as_str(),
-                sum.0
-            )?;
+            write_key(out, id.0, key)?;
+            write!(out, " {} {};", content.as_str(), sum.0)
         }
         Op::Remove { id, key, sum } => {
-            write!(out, "remove {} {} {};", id.0, key.id.as_str(), sum.0)?;
+            write!(out, "remove {} {} {};", id.0, key.id.as_str(), sum.0)
         }
-        Op::Move { id, sum, target } => write!(out, "move {} {} {};", id.0, sum.0, target.0)?,
+        Op::Move { id, sum, target } => write!(out, "move {} {} {};", id.0, sum.0, target.0),
         Op::Clear { id, sum, target } => {
             write!(out, "clear {} {}", id.0, sum.0)?;
             write_id(out, *target)?;
-            out.push_str(";")?;
+            out.push(';')
         }
-    }
-    Ok(())
+    };
+    Ok(written?)
+}
+
+// The id and the key of a PUT.
+fn write_key(out: &mut String, id: u64, key: &Key) -> Result<(), Stop> {
+    let (kind, row, subkey) = (key.kind.as_str(), key.id.as_str(), key.subkey.as_str());
+    Ok(write!(out, "put {id} {kind} {row} {subkey}")?)
 }
 
 fn write_ops(out: &mut String, ops: &[Op]) -> Result<(), Stop> {
@@ -160,14 +154,22 @@ pub fn write_of_compacted(alloc: Global, words: &str, out: &mut String) -> Resul
     write_answer(alloc, &log, words, out)
 }
 
+// Whether a PUT equals its copy.
+fn is_copied(alloc: Global) -> Result<bool, Stop> {
+    let op = put(alloc, 1, 3)?;
+    Ok(op.copy(alloc)? == op)
+}
+
+// Whether a key equals its copy, and whether it equals another one.
+fn are_equal(alloc: Global, key: &Key, other: &Key) -> Result<(bool, bool), Stop> {
+    Ok((key.copy(alloc)?.equals(key), key.equals(other)))
+}
+
 /// Whether a PUT and a key of an id equal their copies, and whether that key equals one of another id.
 pub fn write_copies(alloc: Global, ids: &str, out: &mut String) -> Result<(), Stop> {
     let (id, other) = cut(ids);
-    let op = put(alloc, 1, 3)?;
-    let same_op = op.copy(alloc)? == op;
-    let key_of_id = key(alloc, id)?;
-    let same_key = key_of_id.copy(alloc)?.equals(&key_of_id);
-    let equal = key_of_id.equals(&key(alloc, other)?);
+    let same_op = is_copied(alloc)?;
+    let (same_key, equal) = are_equal(alloc, &key(alloc, id)?, &key(alloc, other)?)?;
     Ok(write!(out, "{same_op} {same_key} {equal}")?)
 }
 

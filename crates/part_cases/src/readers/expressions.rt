@@ -6,14 +6,6 @@ use std::alloc::AllocError;
 #[cycle(showing)]
 pub fn show(out: &mut String, expr: &Expr) -> Result<(), AllocError> {
     match expr {
-        Expr::Null => out.push_str("NULL"),
-        Expr::Number(number) => write!(out, "{number}"),
-        Expr::Text(text) => write!(out, "'{}'", text.as_str()),
-        Expr::Column { name } => out.push_str(name.as_str()),
-        Expr::Bucket { name } => write!(out, "bucket.{}", name.as_str()),
-        Expr::UserId => out.push_str("USER"),
-        Expr::Jwt => out.push_str("JWT"),
-        Expr::Parameters => out.push_str("PARAMETERS"),
         Expr::Call {
             function,
             arguments,
@@ -45,6 +37,22 @@ pub fn show(out: &mut String, expr: &Expr) -> Result<(), AllocError> {
             write!(out, " {operator:?} ")?;
             show_within(out, "", right.get())
         }
+        _ => show_leaf(out, expr),
+    }
+}
+
+// One that has no parts.
+fn show_leaf(out: &mut String, expr: &Expr) -> Result<(), AllocError> {
+    match expr {
+        Expr::Number(number) => write!(out, "{number}"),
+        Expr::Text(text) => write!(out, "'{}'", text.as_str()),
+        Expr::Column { name } => out.push_str(name.as_str()),
+        Expr::Bucket { name } => write!(out, "bucket.{}", name.as_str()),
+        Expr::Null => out.push_str("NULL"),
+        Expr::UserId => out.push_str("USER"),
+        Expr::Jwt => out.push_str("JWT"),
+        Expr::Parameters => out.push_str("PARAMETERS"),
+        _ => out.push_str("parts"),
     }
 }
 

@@ -1,7 +1,7 @@
 use crate::readers::expressions::{show_condition, show_fault};
 use ps_data::{Memory, Text};
 use ps_queries::{DataQuery, Expr, Output, ParameterQuery};
-use ps_sql::{SqlFault, Token, TokenKind, read_data_query, read_parameter_query, tokens};
+use ps_sql::{SqlFault, Token, read_data_query, read_parameter_query, tokens};
 use std::alloc::{AllocError, Global};
 
 /// The text of bytes; of what is no UTF-8, that it is not.

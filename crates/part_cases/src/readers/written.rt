@@ -34,15 +34,15 @@ fn written_again(alloc: Global, change: &Change) -> Result<String, Memory> {
 /// The bytes of the line that a word names: one of each kind, and a transaction.
 pub fn written(alloc: Global, bytes: &[u8]) -> Result<String, Memory> {
     let written = match bytes {
-        b"checkpoint" => checkpoint(alloc)?,
-        b"diff" => diff(alloc)?,
-        b"data" => data(alloc)?,
-        b"complete" => write_line(alloc, &Line::Complete { last_op: OpId(7) })?,
-        b"expires" => write_line(alloc, &Line::Expires { seconds: 60 })?,
-        b"transaction" => transaction(alloc)?,
-        _ => Vec::new(alloc),
+        b"checkpoint" => checkpoint(alloc),
+        b"diff" => diff(alloc),
+        b"data" => data(alloc),
+        b"complete" => write_line(alloc, &Line::Complete { last_op: OpId(7) }),
+        b"expires" => write_line(alloc, &Line::Expires { seconds: 60 }),
+        b"transaction" => transaction(alloc),
+        _ => Ok(Vec::new(alloc)),
     };
-    shown_bytes(alloc, written.as_slice())
+    shown_bytes(alloc, written?.as_slice())
 }
 
 fn checkpoint(alloc: Global) -> Result<Vec<u8>, Memory> {

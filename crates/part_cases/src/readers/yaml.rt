@@ -1,5 +1,5 @@
 use ps_data::Memory;
-use ps_yaml::{Node, YamlFault, read_yaml};
+use ps_yaml::{Node, Pair, YamlFault, read_yaml};
 use std::alloc::{AllocError, Global};
 
 /// What a document is read as.
@@ -33,47 +33,57 @@ pub fn pairs_of(alloc: Global, bytes: &[u8]) -> Result<String, Memory> {
 // name and node `@line:column`.
 #[cycle(showing_nodes)]
 fn show(out: &mut String, node: &Node) -> Result<(), AllocError> {
-    match node {
+    let (line, column) = match node {
         Node::Scalar {
             text,
             line,
             column,
             plain,
         } => {
-            let text = text.as_str();
-            if *plain {
-                write!(out, "{text}@{line}:{column}")
-            } else {
-                write!(out, "{text:?}@{line}:{column}")
-            }
+            show_text(out, text.as_str(), *plain)?;
+            (line, column)
         }
         Node::Map {
             pairs,
             line,
             column,
         } => {
-            write!(out, "{{")?;
+            out.push('{')?;
             'pairs: for pair in pairs.as_slice() {
-                let name = pair.name.as_str();
-                let (row, place) = (pair.line, pair.column);
-                write!(out, " {name}@{row}:{place}=")?;
+                show_name(out, pair)?;
                 show(out, &pair.node)?;
             }
-            write!(out, " }}@{line}:{column}")
+            out.push_str(" }")?;
+            (line, column)
         }
         Node::List {
             items,
             line,
             column,
         } => {
-            write!(out, "[")?;
+            out.push('[')?;
             'items: for item in items.as_slice() {
-                write!(out, " ")?;
+                out.push(' ')?;
                 show(out, item)?;
             }
-            write!(out, " ]@{line}:{column}")
+            out.push_str(" ]")?;
+            (line, column)
         }
+    };
+    write!(out, "@{line}:{column}")
+}
+
+fn show_text(out: &mut String, text: &str, is_plain: bool) -> Result<(), AllocError> {
+    if is_plain {
+        out.push_str(text)
+    } else {
+        write!(out, "{text:?}")
     }
+}
+
+fn show_name(out: &mut String, pair: &Pair) -> Result<(), AllocError> {
+    let name = pair.name.as_str();
+    write!(out, " {name}@{}:{}=", pair.line, pair.column)
 }
 
 fn show_fault(out: &mut String, fault: &YamlFault) -> Result<(), AllocError> {

@@ -50,11 +50,21 @@ fn reader(
     }
 }
 
+fn add_reader(
+    alloc: Global,
+    readers: &mut Vec<Reader>,
+    name: &'static str,
+    user: &str,
+    has_uploads: bool,
+) -> Result<(), Stop> {
+    Ok(readers.push(reader(alloc, name, user, has_uploads)?)?)
+}
+
 fn readers(alloc: Global, has_uploads: bool) -> Result<Vec<Reader>, Stop> {
     let mut readers = Vec::new(alloc);
-    readers.push(reader(alloc, "a", "ann", has_uploads)?)?;
-    readers.push(reader(alloc, "b", "ann", has_uploads)?)?;
-    readers.push(reader(alloc, "c", "bob", has_uploads)?)?;
+    add_reader(alloc, &mut readers, "a", "ann", has_uploads)?;
+    add_reader(alloc, &mut readers, "b", "ann", has_uploads)?;
+    add_reader(alloc, &mut readers, "c", "bob", has_uploads)?;
     Ok(readers)
 }
 
