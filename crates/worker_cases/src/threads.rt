@@ -198,30 +198,48 @@ pub fn by_four<R: Threads + Wait + Sync>(
     Ok(finish(rt, alloc, &lock, seat, count, limit))
 }
 
-// What a second seat has seen before its turn, and after one that adds nothing, and what a third turn keeps; before them a first seat feeds a
-// transaction.
-fn seen_and_kept<R: Wait>(rt: &R, alloc: Global) -> Result<(u64, u64, Store), Stop> {
+// What a second seat has seen, before its turn and behind it, and what the store has that a third turn keeps.
+#[derive(Clone, Copy)]
+struct Seats {
+    before: u64,
+    behind: u64,
+    head: u64,
+    unwritten: u32,
+}
+
+// A first seat feeds a transaction, and the turn of the second adds nothing.
+fn seats_of_two<R: Wait>(rt: &R, alloc: Global) -> Result<Seats, Stop> {
     let (lock, mut first) = made_store(alloc)?;
     let second = lock.split(&mut first)?;
     let first = feed_all(rt, alloc, &lock, first, make_input(alloc, 1)?);
     let before = second.seen();
     let second = lock.turn(rt, second).leave();
-    Ok((before, second.seen(), lock.turn(rt, first).keep()))
+    let mut store = lock.turn(rt, first).keep();
+    let unwritten = match store.write_batch(alloc, 10) {
+        Ok(wrote) => wrote.changes,
+        Err(_) => 0,
+    };
+    Ok(Seats {
+        before,
+        behind: second.seen(),
+        head: store.head().0,
+        unwritten,
+    })
 }
 
 /// A first seat feeds a transaction: what a second seat has seen before its turn, and after one that adds nothing; and what a third turn keeps.
 pub fn write_seats<R: Wait>(rt: &R, alloc: Global, out: &mut String) -> Result<(), Stop> {
-    let (before, behind, store) = seen_and_kept(rt, alloc)?;
-    let mut store = store;
-    let changes = match store.write_batch(alloc, 10) {
-        Ok(wrote) => wrote.changes,
-        Err(_) => 0,
-    };
-    let head = store.head().0;
-    Ok(write!(
+    let Seats {
+        before,
+        behind,
+        head,
+        unwritten,
+    } = seats_of_two(rt, alloc)?;
+    write!(
         out,
-        "seen {before} and {behind}, kept with head {head} and {changes} unwritten"
-    )?)
+        "seen {before} and {behind}, kept with head {head} and {unwritten} unwritten"
+    )?;
+    Ok(())
 }
 
 // One change: a row of a table is deleted.
