@@ -15,7 +15,7 @@ answer result meant x h e = subst (Reads result) e h
 
 -- ---- lines
 
-line_found : ReadsWhatIsWritten → (bytes : List ℕ) (transaction : Transaction) → line_of bytes ≡ Ok transaction → IsLine bytes transaction
+pub line_found : ReadsWhatIsWritten → (bytes : List ℕ) (transaction : Transaction) → line_of bytes ≡ Ok transaction → IsLine bytes transaction
 unfolding line_of
 line_found law bytes transaction h =
     bind (json_such is_transaction bytes) transaction_of transaction h (λ json such more.

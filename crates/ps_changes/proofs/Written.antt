@@ -27,6 +27,8 @@ use Rattle.ps_rows.specs.Rows.{is_id, rises_from, is_row}
 use Rattle.ps_changes.specs.Lines.{longest, line_of, lone_change_of}
 use Rattle.ps_changes.specs.Grammar.{AreColumns, no_columns, with_column, IsChange, AreChanges, no_changes, with_change, IsTransaction, IsTextOf}
 use Rattle.ps_changes.specs.Writing.{members_of, with_row, IsWritable, json_with, change_json, transaction_json, change_text, line_text, ReadsBack}
+use Rattle.ps_changes.specs.LongLines.{transaction_in}
+use Rattle.ps_changes.proofs.LongLines.{transaction_read}
 use Rattle.ps_changes.proofs.Spelling.{line_only, lone_change_only}
 
 both : (a b : Bool) → (a && b) ≡ true → (a ≡ true) × (b ≡ true)
@@ -62,7 +64,7 @@ changes_plain : (changes : List Change) → items_have_float (items_of (map chan
 changes_plain [] = refl
 changes_plain (change ∷ changes) = rw (change_plain change) (changes_plain changes)
 
-transaction_plain : (transaction : Transaction) → has_float (transaction_json transaction) ≡ false
+pub transaction_plain : (transaction : Transaction) → has_float (transaction_json transaction) ≡ false
 unfolding transaction_json
 transaction_plain transaction = rw (changes_plain transaction.changes) refl
 
@@ -97,7 +99,7 @@ changes_shallow : (changes : List Change) → items_depth (items_of (map change_
 changes_shallow [] = omega arith
 changes_shallow (change ∷ changes) = let here = change_shallow change in let rest = changes_shallow changes in omega (arith, here, rest)
 
-transaction_shallow : (transaction : Transaction) → depth (transaction_json transaction) ≤ max_depth
+pub transaction_shallow : (transaction : Transaction) → depth (transaction_json transaction) ≤ 4
 unfolding transaction_json
 transaction_shallow transaction = let h = changes_shallow transaction.changes in omega (arith, h)
 
@@ -212,10 +214,22 @@ text_back Is d e bytes same is shallow utf8 h fits = record {
 pub line_back : ReadsWhatIsWritten → (transaction : Transaction) (d : Json) (bytes : List ℕ) → d ≡ transaction_json transaction → IsTransaction (transaction_json transaction) transaction
     → IsUtf8 bytes → (depth d ≤ max_depth → read bytes ≡ Some d) → length bytes ≤ longest → line_of bytes ≡ Ok transaction
 line_back law transaction d bytes same is utf8 h fits =
-    line_only law bytes transaction (text_back (λ e. IsTransaction e transaction) d (transaction_json transaction) bytes same is (transaction_shallow transaction) utf8 h fits)
+    line_only law bytes transaction (text_back (λ e. IsTransaction e transaction) d (transaction_json transaction) bytes same is (let k = transaction_shallow transaction in omega (arith, k)) utf8 h fits)
 
 pub change_back : (change : Change) (d : Json) (bytes : List ℕ) → d ≡ change_json change → IsChange (change_json change) change
     → IsUtf8 bytes → (depth d ≤ max_depth → read bytes ≡ Some d) → length bytes ≤ longest → lone_change_of bytes ≡ Ok change
 change_back change d bytes same is utf8 h fits =
     let shallow : depth (change_json change) ≤ max_depth = let k = change_shallow change in omega (arith, k) in
     lone_change_only bytes change (text_back (λ e. IsChange e change) d (change_json change) bytes same is shallow utf8 h fits)
+
+-- ---- JSON of changes
+
+pub changes_plain_enough : (transaction : Transaction) (d : Json) → d ≡ transaction_json transaction → has_float d ≡ false
+changes_plain_enough transaction d e = ap has_float e ∙ transaction_plain transaction
+
+pub changes_shallow_enough : (transaction : Transaction) (d : Json) → d ≡ transaction_json transaction → depth d ≤ 4
+changes_shallow_enough transaction d e = rw e (transaction_shallow transaction)
+
+pub changes_read_again : ReadsWhatIsWritten → (transaction : Transaction) (d : Json) → d ≡ transaction_json transaction → IsTransaction (transaction_json transaction) transaction
+    → transaction_in d ≡ Ok transaction
+changes_read_again law transaction d e is = rw e (transaction_read law (transaction_json transaction) transaction is)

@@ -6,3 +6,4 @@ pub mod Lines
 pub mod Grammar
 pub mod Laws
 pub mod Writing
+pub mod LongLines

@@ -1,5 +1,6 @@
 -- The transaction that a change line is, and the first fault of a line that is none: docs/FORMATS.md, "Change lines".
-use Rattle.std.specs.Prelude.{ℕ, ◌<◌, ◌≡◌, List, [], ◌∷◌, ◌++◌, Bool, nat_lt, nat_le, length, bytes_eq, codes, Option, Some, None, is_none, option_and_then, if◌then◌else◌, Result, Ok, Err}
+use Rattle.std.specs.Prelude.{ℕ, ◌<◌, ◌≤◌, ◌≡◌, List, [], ◌∷◌, ◌++◌, Bool, nat_lt, nat_le, length, bytes_eq, codes, Option, Some, None, is_none, option_and_then, if◌then◌else◌, Result, Ok, Err}
+use Rattle.std.specs.Str.{IsUtf8}
 use Rattle.serde_json.specs.Data.{Data as Json, Items, no_items, item, Members, no_members, member}
 use Rattle.serde_json.specs.Find.{get, as_str, as_array, as_object}
 use Rattle.ps_data.specs.declared.columns.Column.{Column}
@@ -108,6 +109,10 @@ short bytes = if nat_le (length bytes) longest then Ok bytes else Err (LineTooLo
 -- what is too long is refused so, and no want of memory stands in its place: this refusal needs none
 abbrev pub RefusesLong : {X : Type 0} → List ℕ → Result X ChangeFault → Type 0
 RefusesLong bytes result = longest < length bytes → result ≡ Err (LineTooLong (length bytes))
+
+-- so it is with what is no text, of bytes that are no more than a line may have
+abbrev pub RefusesNoText : {X : Type 0} → List ℕ → Result X ChangeFault → Type 0
+RefusesNoText bytes result = length bytes ≤ longest → ¬ (IsUtf8 bytes) → result ≡ Err BadJson
 
 -- JSON of such a shape
 abbrev pub shaped : (Json → Bool) → Json → Result Json ChangeFault

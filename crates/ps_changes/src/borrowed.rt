@@ -1,6 +1,7 @@
 //! JSON whose texts are borrowed from the line that it is read from.
 
-ghost use Rattle.std.specs.Prelude.{◌≡◌, ◌==◌, ◌<◌, length, slice_index, IfOk, IsTrue, option_map, true, false};
+ghost use Rattle.std.specs.Prelude.{◌≡◌, ◌==◌, ◌<◌, length, slice_index, IfOk, IsTrue, option_map, true, false, Err};
+ghost use Rattle.std.specs.Str.{IsUtf8};
 ghost use Rattle.json.specs.Value.{value_view, items_view, members_view};
 ghost use Rattle.serde_json.specs.Data.{no_members};
 ghost use Rattle.serde_json.specs.Find.{get, as_str, as_array, as_object};
@@ -22,13 +23,15 @@ use std::collections::BTreeMap;
 // How deep arrays and objects may nest.
 const DEEPEST: usize = 127;
 
-// The JSON value that bytes hold. Its texts are those of the bytes, or stand in the room where they are escaped.
+/// The JSON value that bytes hold. Its texts are those of the bytes, or stand in the room where they are escaped.
+/// Fails with `BadJson` exactly where the bytes hold no JSON value (RFC 8259).
 pub fn read_borrowed<'a>(
     alloc: Global,
     bytes: &'a [u8],
     room: &'a mut Scratch,
 ) -> Result<Borrowed<'a>, ChangeFault>
-    ensures { Reads (seen_by seen result) (or_fault BadJson (json_of bytes.now)) }
+    ensures exact { Reads (seen_by seen result) (or_fault BadJson (json_of bytes.now)) }
+    ensures no_text { ¬ (IsUtf8 bytes.now) → result ≡ Err BadJson }
 {
     let Ok(text) = str::from_utf8(bytes) else {
         return Err(ChangeFault::BadJson);
@@ -141,7 +144,7 @@ pub fn number_in(text: &str) -> Number
     }
 }
 
-// The value of a member.
+/// The value of the member of that name; None in what is no object too.
 #[tactic(auto, using(crate::proofs::Borrowing::member_seen))]
 pub fn member<'v, 'a>(json: &'v Borrowed<'a>, name: &str) -> Option<&'v Borrowed<'a>>
     ensures { option_map (λ member. seen member.now) result ≡ get name.now (seen json.now) }
@@ -149,6 +152,7 @@ pub fn member<'v, 'a>(json: &'v Borrowed<'a>, name: &str) -> Option<&'v Borrowed
     json.get(name)
 }
 
+/// The text that a JSON value is; None where it is no string.
 pub fn as_text<'a>(json: &Borrowed<'a>) -> Option<&'a str>
     ensures { option_map (λ text. text.now) result ≡ as_str (seen json.now) }
 {

@@ -1,6 +1,15 @@
-//! The law of changes by themselves. It is the contract of a function that does nothing.
+//! The laws of lines and of changes by themselves. Each is the contract of a function that does nothing of its own.
 
-ghost use Rattle.ps_changes.specs.Laws.{ReadsLoneChanges};
+ghost use Rattle.ps_changes.specs.Laws.{ReadsLines, ReadsLoneChanges};
+
+use ps_values::decimals_read_back;
+
+/// A law: the transaction that the bytes of a line are, as a function, is the one that the grammar spells.
+pub fn lines_are_spelled()
+    ensures { ReadsLines }
+{
+    decimals_read_back();
+}
 
 /// A law: the change that a text is, as a function, is the one that the grammar spells.
 pub fn lone_changes_are_spelled()

@@ -2,7 +2,7 @@ ghost use Rattle.std.specs.Prelude.{List, IfOk, Ok};
 ghost use Rattle.ps_changes.specs.Types.{Transaction as TransactionData, Change as ChangeData};
 ghost use Rattle.ps_changes.specs.Members.{Reads, seen_by};
 ghost use Rattle.ps_changes.specs.Borrowed.{seen};
-ghost use Rattle.ps_changes.specs.Lines.{RefusesLong, json_within, line_of, body_of, lone_change_of};
+ghost use Rattle.ps_changes.specs.Lines.{RefusesLong, RefusesNoText, json_within, line_of, body_of, lone_change_of};
 ghost use Rattle.ps_changes.specs.Grammar.{IsLine, IsBody, IsLoneChange};
 
 use crate::ChangeFault;
@@ -43,6 +43,8 @@ impl LineReader {
         ensures exact { Reads result (line_of bytes.now) }
         // A line that is too long is refused before any memory is asked for.
         ensures long { RefusesLong bytes.now result }
+        // So is what is no text.
+        ensures no_text { RefusesNoText bytes.now result }
     {
         decimals_read_back();
         line(alloc, bytes, &mut self.room)
@@ -62,6 +64,8 @@ pub fn read_line(alloc: Global, bytes: &[u8]) -> Result<Transaction, ChangeFault
     ensures exact { Reads result (line_of bytes.now) }
     // A line that is too long is refused before any memory is asked for.
     ensures long { RefusesLong bytes.now result }
+    // So is what is no text.
+    ensures no_text { RefusesNoText bytes.now result }
 {
     LineReader::new(alloc).read_line(alloc, bytes)
 }
@@ -78,6 +82,8 @@ pub fn read_changes(alloc: Global, bytes: &[u8]) -> Result<Items<Change>, Change
     ensures exact { Reads result (body_of bytes.now) }
     // A line that is too long is refused before any memory is asked for.
     ensures long { RefusesLong bytes.now result }
+    // So is what is no text.
+    ensures no_text { RefusesNoText bytes.now result }
 {
     body(alloc, bytes)
 }
@@ -94,6 +100,8 @@ pub fn read_change(alloc: Global, bytes: &[u8]) -> Result<Change, ChangeFault>
     ensures exact { Reads result (lone_change_of bytes.now) }
     // A line that is too long is refused before any memory is asked for.
     ensures long { RefusesLong bytes.now result }
+    // So is what is no text.
+    ensures no_text { RefusesNoText bytes.now result }
 {
     lone_change(alloc, bytes)
 }
@@ -106,6 +114,7 @@ fn json_of_line<'a>(
 ) -> Result<Borrowed<'a>, ChangeFault>
     ensures exact { Reads (seen_by seen result) (json_within bytes.now) }
     ensures long { RefusesLong bytes.now result }
+    ensures no_text { RefusesNoText bytes.now result }
 {
     if bytes.len() > LONGEST {
         let length = bytes.len() as u64;
@@ -118,6 +127,7 @@ fn json_of_line<'a>(
 fn line(alloc: Global, bytes: &[u8], room: &mut Scratch) -> Result<Transaction, ChangeFault>
     ensures exact { Reads result (line_of bytes.now) }
     ensures long { RefusesLong bytes.now result }
+    ensures no_text { RefusesNoText bytes.now result }
 {
     let json = json_of_line(alloc, bytes, room)?;
     if is_transaction(&json) {
@@ -131,6 +141,7 @@ fn line(alloc: Global, bytes: &[u8], room: &mut Scratch) -> Result<Transaction, 
 fn body(alloc: Global, bytes: &[u8]) -> Result<Items<Change>, ChangeFault>
     ensures exact { Reads result (body_of bytes.now) }
     ensures long { RefusesLong bytes.now result }
+    ensures no_text { RefusesNoText bytes.now result }
 {
     let mut room = Scratch::new(alloc);
     let json = json_of_line(alloc, bytes, &mut room)?;
@@ -145,6 +156,7 @@ fn body(alloc: Global, bytes: &[u8]) -> Result<Items<Change>, ChangeFault>
 fn lone_change(alloc: Global, bytes: &[u8]) -> Result<Change, ChangeFault>
     ensures exact { Reads result (lone_change_of bytes.now) }
     ensures long { RefusesLong bytes.now result }
+    ensures no_text { RefusesNoText bytes.now result }
 {
     let mut room = Scratch::new(alloc);
     let json = json_of_line(alloc, bytes, &mut room)?;

@@ -1,13 +1,15 @@
-ghost use Rattle.std.specs.Prelude.{◌≡◌, ◌≢◌, ◌≤◌, [], map, length, decimal, All, IfSome, IfOk, OnOk, Ok};
-ghost use Rattle.serde_json.specs.Data.{string, object, array, put as with_member};
+ghost use Rattle.std.specs.Prelude.{◌≡◌, ◌≢◌, ◌≤◌, [], map, length, decimal, false, All, IfSome, IfOk, OnOk, Ok};
+ghost use Rattle.serde_json.specs.Data.{string, object, array, put as with_member, depth};
 ghost use Rattle.serde_json.specs.View.{view, members_view, items_of};
+ghost use Rattle.serde_json.specs.Written.{has_float};
 ghost use Rattle.ps_data.specs.Documents.{data_of};
 ghost use Rattle.ps_values.specs.ValueFaults.{IsValueOf};
 ghost use Rattle.ps_changes.specs.Lines.{longest, line_of, lone_change_of};
 ghost use Rattle.ps_changes.specs.Grammar.{AreColumns, IsChange, AreChanges, IsTransaction};
+ghost use Rattle.ps_changes.specs.LongLines.{transaction_in};
 ghost use Rattle.ps_changes.specs.Writing.{members_of, with_row, change_json as json_of_change, transaction_json as json_of_transaction, change_text, line_text, IsWritable};
 
-use ps_data::{Memory, Value};
+use ps_data::{Items, Memory, Position, Value};
 use ps_rows::{Change, Row, Transaction};
 use ps_values::{decimals_read_back, json_of_value};
 use serde_json::{Map, Value as Json, put};
@@ -22,7 +24,7 @@ pub fn write_line(alloc: Global, transaction: &Transaction) -> Result<Vec<u8>, M
     ensures read_again { IfOk result (λ bytes. length bytes.items ≤ longest → line_of bytes.items ≡ Ok transaction.now) }
 {
     decimals_read_back();
-    let json = transaction_json(alloc, transaction)?;
+    let json = transaction_json(alloc, transaction.position, &transaction.changes)?;
     Ok(json.to_vec(alloc)?)
 }
 
@@ -37,15 +39,38 @@ pub fn write_change(alloc: Global, change: &Change) -> Result<Vec<u8>, Memory>
     Ok(json.to_vec(alloc)?)
 }
 
-fn transaction_json(alloc: Global, transaction: &Transaction) -> Result<Json, Memory>
-    requires { IsWritable transaction.now }
-    ensures value { IfOk result (λ json. view json ≡ json_of_transaction transaction.now) }
-    ensures spelled { IfOk result (λ _. IsTransaction (json_of_transaction transaction.now) transaction.now) }
+/// The JSON of a position and changes, as that of a change line: docs/FORMATS.md, "Uploads and written changes". No table is empty, and the
+/// position is one that a line may have, from 1 to 9223372036854775807. It has no float, nests four deep at most, and is read as both again.
+#[tactic(auto, using(crate::proofs::Written::changes_plain_enough, crate::proofs::Written::changes_shallow_enough, crate::proofs::Written::changes_read_again))]
+pub fn json_of_changes(
+    alloc: Global,
+    position: Position,
+    changes: &Items<Change>,
+) -> Result<Json, Memory>
+    requires { IsWritable (record { position = position; changes = changes.now }) }
+    ensures value { IfOk result (λ json. view json ≡ json_of_transaction (record { position = position; changes = changes.now })) }
+    ensures read_again { IfOk result (λ json. transaction_in (view json) ≡ Ok (record { position = position; changes = changes.now })) }
+    ensures plain { IfOk result (λ json. has_float (view json) ≡ false) }
+    ensures shallow { IfOk result (λ json. depth (view json) ≤ 4) }
 {
-    let changes = list_json(alloc, transaction.changes.as_slice())?;
+    decimals_read_back();
+    let json = transaction_json(alloc, position, changes)?;
+    Ok(json)
+}
+
+fn transaction_json(
+    alloc: Global,
+    position: Position,
+    changes: &Items<Change>,
+) -> Result<Json, Memory>
+    requires { IsWritable (record { position = position; changes = changes.now }) }
+    ensures value { IfOk result (λ json. view json ≡ json_of_transaction (record { position = position; changes = changes.now })) }
+    ensures spelled { IfOk result (λ _. IsTransaction (json_of_transaction (record { position = position; changes = changes.now })) (record { position = position; changes = changes.now })) }
+{
+    let changes = list_json(alloc, changes.as_slice())?;
     let mut members = Map::new(alloc);
     put(&mut members, alloc, "changes", changes)?;
-    put_decimal(&mut members, alloc, "pos", transaction.position.0)?;
+    put_decimal(&mut members, alloc, "pos", position.0)?;
     Ok(Json::Object(members))
 }
 
@@ -73,8 +98,8 @@ fn change_json(alloc: Global, change: &Change) -> Result<Json, Memory>
     Ok(Json::Object(members))
 }
 
-// Puts a text under a name.
-fn put_text(
+/// Puts a text under a name into the members of a JSON object.
+pub fn put_text(
     members: &mut Map<String, Json>,
     alloc: Global,
     name: &str,
@@ -87,8 +112,8 @@ fn put_text(
     Ok(())
 }
 
-// Puts the decimal text of a number under a name.
-fn put_decimal(
+/// Puts the decimal text of a number under a name into the members of a JSON object.
+pub fn put_decimal(
     members: &mut Map<String, Json>,
     alloc: Global,
     name: &str,

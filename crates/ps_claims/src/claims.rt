@@ -1,4 +1,5 @@
-ghost use Rattle.std.specs.Prelude.{◌≡◌, IfOk, option_map, codes};
+ghost use Rattle.std.specs.Prelude.{◌≡◌, IfOk, Ok, None, option_map, codes};
+ghost use Rattle.std.specs.Str.{IsUtf8};
 ghost use Rattle.serde_json.specs.Find.{get};
 ghost use Rattle.serde_json.specs.View.{view};
 ghost use Rattle.ps_sql_eval.specs.Evaluated.{asker_of};
@@ -61,7 +62,9 @@ fn asker_in(alloc: Global, json: &Json) -> Result<Option<Asker>, Memory>
 /// Reads a claims file: docs/FORMATS.md, "Claims". Who asks; None exactly where the file is not of that form.
 #[tactic(auto, unfolding(crate::specs::Claims::asker_of_claims))]
 pub fn read_claims(alloc: Global, bytes: &[u8]) -> Result<Option<Asker>, Memory>
-    ensures { IfOk result (λ read. option_map asker_of read ≡ asker_of_claims bytes.now) }
+    ensures claims { IfOk result (λ read. option_map asker_of read ≡ asker_of_claims bytes.now) }
+    // What is no text is none, whatever memory there is.
+    ensures no_text { ¬ (IsUtf8 bytes.now) → result ≡ Ok None }
 {
     let Some(json) = read_json(alloc, bytes)? else {
         return Ok(None);

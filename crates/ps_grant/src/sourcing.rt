@@ -1,6 +1,6 @@
 //! The source at a position: the fold of the changes up to it.
 
-ghost use Rattle.std.specs.Prelude.{◌≡◌, IfOk, OnOk, not};
+ghost use Rattle.std.specs.Prelude.{◌≡◌, ◌+◌, ◌^◌, MatchResult, IfOk, OnOk, not};
 ghost use Rattle.std.specs.FinMap.Entries.{put, where_key};
 ghost use Rattle.std.specs.Ordering.{eq_by_cmp};
 ghost use Rattle.ps_rows.specs.Source.{key_cmp, source_at as source_at_position, after_row, after_changes};
@@ -43,6 +43,16 @@ pub fn source_at(
     Ok(SourceRows::of_rows(in_order(alloc, live)?))
 }
 
+// The place behind one. Places have 32 bits.
+fn behind(index: u32) -> Result<u32, Memory>
+    ensures { MatchResult result (λ next. next ≡ index + 1) (λ _. index + 1 ≡ 2 ^ 32) }
+{
+    match index.checked_add(1) {
+        Some(next) => Ok(next),
+        None => Err(Memory),
+    }
+}
+
 // Takes the changes of a transaction, in order.
 fn take_changes(alloc: Global, live: &mut Live, transaction: &Transaction) -> Result<(), Memory>
     ensures { OnOk result (kept_rows live.new ≡ after_changes transaction.now.position.0 0 transaction.now.changes (kept_rows live.old)) }
@@ -50,10 +60,7 @@ fn take_changes(alloc: Global, live: &mut Live, transaction: &Transaction) -> Re
     let mut index = 0u32;
     'changes: for change in transaction.changes.as_slice() {
         take_change(alloc, live, transaction.position, index, change)?;
-        let Some(next) = index.checked_add(1) else {
-            return Err(Memory);
-        };
-        index = next;
+        index = behind(index)?;
     }
     Ok(())
 }

@@ -1,4 +1,6 @@
-ghost use Rattle.std.specs.Prelude.{◌≡◌, ◌<◌, ◌≤◌, All, IfOk, Ok, IsSome, None, map, bytes_eq};
+ghost use Rattle.std.specs.Prelude.{◌≡◌, ◌<◌, ◌≤◌, All, IfOk, Ok, Err, IsSome, None, map, bytes_eq};
+ghost use Rattle.std.specs.Str.{IsUtf8};
+ghost use Rattle.ps_lines.specs.declared.faults.LineFault.TheVariants.{BadJson};
 ghost use Rattle.std.specs.List.{IsDistinct};
 ghost use Rattle.serde_json.specs.View.{view, items_view};
 ghost use Rattle.serde_json.specs.Data.{depth};
@@ -29,6 +31,8 @@ pub fn read_body(alloc: Global, bytes: &[u8]) -> Result<StreamBody, LineFault>
     ensures exact { Reads result (body_of bytes.now) }
     ensures found { IfOk result (λ body. IsBodyOf bytes.now body) }
     ensures only { (body : SomeBody) → IsBodyOf bytes.now body → Reads result (Ok body) }
+    // What is no text is refused whatever memory there is.
+    ensures no_text { ¬ (IsUtf8 bytes.now) → result ≡ Err BadJson }
     ensures is_one { IfOk result IsBody }
 {
     decimals_read_back();
@@ -38,6 +42,7 @@ pub fn read_body(alloc: Global, bytes: &[u8]) -> Result<StreamBody, LineFault>
 #[tactic(auto, unfolding(crate::specs::Bodies::body_of))]
 fn read_whole_body(alloc: Global, bytes: &[u8]) -> Result<StreamBody, LineFault>
     ensures exact { Reads result (body_of bytes.now) }
+    ensures no_text { ¬ (IsUtf8 bytes.now) → result ≡ Err BadJson }
     ensures is_one { IfOk result IsBody }
 {
     let Some(json) = read_json(alloc, bytes)? else {

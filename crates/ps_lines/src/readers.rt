@@ -1,4 +1,6 @@
-ghost use Rattle.std.specs.Prelude.{◌≡◌, IfOk, Ok};
+ghost use Rattle.std.specs.Prelude.{◌≡◌, IfOk, Ok, Err};
+ghost use Rattle.std.specs.Str.{IsUtf8};
+ghost use Rattle.ps_lines.specs.declared.faults.LineFault.TheVariants.{BadJson};
 ghost use Rattle.serde_json.specs.View.{view, items_view, members_view};
 ghost use Rattle.ps_lines.specs.declared.lines.Line.{Line as SomeLine};
 ghost use Rattle.ps_lines.specs.Grammar.{IsLine};
@@ -27,6 +29,8 @@ pub fn read_line(alloc: Global, bytes: &[u8]) -> Result<Line, LineFault>
     ensures exact { Reads result (line_of bytes.now) }
     ensures found { IfOk result (λ line. IsLine bytes.now line) }
     ensures only { (line : SomeLine) → IsLine bytes.now line → Reads result (Ok line) }
+    // What is no text is refused whatever memory there is.
+    ensures no_text { ¬ (IsUtf8 (cut_feed bytes.now)) → result ≡ Err BadJson }
 {
     decimals_read_back();
     read_whole_line(alloc, bytes)
@@ -34,7 +38,8 @@ pub fn read_line(alloc: Global, bytes: &[u8]) -> Result<Line, LineFault>
 
 #[tactic(auto, unfolding(crate::specs::Reading::line_of))]
 fn read_whole_line(alloc: Global, bytes: &[u8]) -> Result<Line, LineFault>
-    ensures { Reads result (line_of bytes.now) }
+    ensures exact { Reads result (line_of bytes.now) }
+    ensures no_text { ¬ (IsUtf8 (cut_feed bytes.now)) → result ≡ Err BadJson }
 {
     let Some(json) = read_json(alloc, without_feed(bytes))? else {
         return Err(LineFault::BadJson);

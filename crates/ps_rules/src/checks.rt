@@ -1,6 +1,6 @@
 //! The checks of a definition: parameter queries before data queries, each query at its scalar.
 
-ghost use Rattle.std.specs.Prelude.{◌≡◌, ℕ, List, [], ◌++◌, ◌<◌, ◌↔◌, not, IfOk, IsTrue, Some, None, length, map, bytes_eq, codes, if◌then◌else◌};
+ghost use Rattle.std.specs.Prelude.{◌≡◌, ℕ, ◌+◌, ◌^◌, List, [], ◌++◌, ◌<◌, ◌↔◌, not, IfOk, IsTrue, MatchResult, Some, None, length, map, bytes_eq, codes, if◌then◌else◌};
 ghost use Rattle.std.specs.List.{list_any, list_all};
 ghost use Rattle.ps_queries.specs.declared.expressions.Expr.{Expr as ExprData};
 ghost use Rattle.ps_queries.specs.declared.queries.Output.{Output as OutputData};
@@ -434,6 +434,16 @@ fn planned(
     })
 }
 
+// The number of the query behind one. Numbers have 32 bits.
+fn next_number(last: u32) -> Result<u32, Memory>
+    ensures { MatchResult result (λ number. number ≡ last + 1) (λ _. last + 1 ≡ 2 ^ 32) }
+{
+    match last.checked_add(1) {
+        Some(number) => Ok(number),
+        None => Err(Memory),
+    }
+}
+
 // The data queries of a definition, with the numbers past `before`.
 fn data_queries(
     alloc: Global,
@@ -446,9 +456,7 @@ fn data_queries(
     let mut queries = Items::new(alloc);
     let mut last = before;
     'written: for written in all {
-        let Some(number) = last.checked_add(1) else {
-            return Err(RulesFault::Memory);
-        };
+        let number = next_number(last)?;
         queries.push(planned(alloc, names, number, written)?)?;
         last = number;
     }

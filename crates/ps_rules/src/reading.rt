@@ -1,4 +1,4 @@
-ghost use Rattle.std.specs.Prelude.{◌≡◌, ◌<◌, ◌+◌, length, IfSome, IfOk, ◌++◌};
+ghost use Rattle.std.specs.Prelude.{◌≡◌, ◌≤◌, ◌<◌, ◌+◌, ◌^◌, length, MatchOption, IfOk, ◌++◌};
 ghost use Rattle.ps_yaml.specs.declared.nodes.Node.{Node as NodeData};
 ghost use Rattle.ps_yaml.specs.Grammar.{Spells};
 ghost use Rattle.ps_rules.specs.Grammar.{IsRules};
@@ -19,9 +19,9 @@ use ps_sql::queries_speak_as_they_may;
 use ps_yaml::{Node, YamlFault, places_rise, read_yaml};
 use std::alloc::Global;
 
-// A number of queries past those before, if it is a number.
+// The number of the last of so many queries past those before. Numbers have 32 bits.
 fn numbered(before: u32, count: usize) -> Option<u32>
-    ensures { IfSome result (λ last. last ≡ before + count) }
+    ensures { MatchOption result (2 ^ 32 ≤ before + count) (λ last. last ≡ before + count) }
 {
     let count = u32::try_from(count).ok()?;
     before.checked_add(count)

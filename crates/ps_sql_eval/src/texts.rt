@@ -1,4 +1,4 @@
-ghost use Rattle.std.specs.Prelude.{◌≡◌, ◌++◌, length as count, IfOk, map, option_map};
+ghost use Rattle.std.specs.Prelude.{◌≡◌, ◌≤◌, ◌^◌, ◌++◌, pos, length as length_of, MatchResult, IfOk, map, option_map};
 ghost use Rattle.std.specs.Str.{chars};
 ghost use Rattle.ps_data.specs.declared.values.Value.TheVariants as values;
 ghost use Rattle.std.specs.Char.{to_ascii_uppercase, to_ascii_lowercase};
@@ -77,17 +77,23 @@ pub(crate) fn length(alloc: Global, of: Value) -> Result<Value, Memory>
 {
     match text_of(alloc, of)? {
         None => Ok(Value::Null),
-        // a text of 2^63 characters is more than memory holds
-        Some(text) => match i64::try_from(characters(&text)) {
-            Ok(number) => Ok(Value::Int(number)),
-            Err(_) => Err(Memory),
-        },
+        Some(text) => Ok(Value::Int(number_of(characters(&text))?)),
+    }
+}
+
+/// A number of characters as a value's. A text of 2^63 characters is more than memory holds.
+fn number_of(count: usize) -> Result<i64, Memory>
+    ensures { MatchResult result (λ number. number ≡ pos count) (λ _. 2 ^ 63 ≤ count) }
+{
+    match i64::try_from(count) {
+        Ok(number) => Ok(number),
+        Err(_) => Err(Memory),
     }
 }
 
 /// The number of a text's characters.
 fn characters(text: &Text) -> usize
-    ensures { result ≡ count (chars text.now) }
+    ensures { result ≡ length_of (chars text.now) }
 {
     text.as_str().chars().count()
 }

@@ -1,7 +1,8 @@
-ghost use Rattle.std.specs.Prelude.{List, [], ◌∷◌, ◌++◌, IfOk, Ok};
+ghost use Rattle.std.specs.Prelude.{◌≡◌, List, [], ◌∷◌, ◌++◌, IfOk, Ok, Err};
+ghost use Rattle.std.specs.Str.{IsUtf8};
 ghost use Rattle.ps_token.specs.Types.{Key as KeyData};
 ghost use Rattle.serde_json.specs.View.{view, items_view};
-ghost use Rattle.ps_token.specs.declared.faults.KeysFault.TheVariants.{BadShape};
+ghost use Rattle.ps_token.specs.declared.faults.KeysFault.TheVariants.{BadJson, BadShape};
 ghost use Rattle.ps_token.specs.Members.{ReadsKeys, or_fault};
 ghost use Rattle.ps_token.specs.KeyFiles.{text_at, is_oct_key, oct_key, distinct_keys, one_more, keys_in, keys_from, keys_of_file, IsKeyFile};
 
@@ -21,13 +22,16 @@ pub fn read_keys(alloc: Global, bytes: &[u8]) -> Result<Keys, KeysFault>
     ensures only { (meant : List KeyData) → IsKeyFile bytes.now meant → ReadsKeys result (Ok meant) }
     // Which fault is the first.
     ensures exact { ReadsKeys result (keys_of_file bytes.now) }
+    // What is no text is refused whatever memory there is.
+    ensures no_text { ¬ (IsUtf8 bytes.now) → result ≡ Err BadJson }
 {
     read_file(alloc, bytes)
 }
 
 #[tactic(auto, unfolding(crate::specs::KeyFiles::keys_of_file))]
 fn read_file(alloc: Global, bytes: &[u8]) -> Result<Keys, KeysFault>
-    ensures { ReadsKeys result (keys_of_file bytes.now) }
+    ensures exact { ReadsKeys result (keys_of_file bytes.now) }
+    ensures no_text { ¬ (IsUtf8 bytes.now) → result ≡ Err BadJson }
 {
     match read_json(alloc, bytes)? {
         Some(json) => read_list(alloc, &json),

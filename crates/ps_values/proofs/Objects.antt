@@ -20,6 +20,10 @@ none_by : (bs : List ℕ) (b : Bool) → is_utf8 bs ≡ b → (IsUtf8 bs → rea
 none_by bs true e h = sym (h (IsUtf8-from_is_utf8 bs e))
 none_by bs false e h = refl
 
+-- bytes that are no text hold none
+pub json_no_text : (bs : List ℕ) → ¬ (IsUtf8 bs) → None ≡ json_of bs
+json_no_text bs not_text = none_by bs (is_utf8 bs) refl (λ is. absurd (not_text is))
+
 pub json_none : (bs : List ℕ) → (IsUtf8 bs → read bs ≡ None) → None ≡ json_of bs
 json_none bs h = none_by bs (is_utf8 bs) refl h
 

@@ -1,4 +1,5 @@
 ghost use Rattle.std.specs.Prelude.{◌≡◌, IfOk, OnOk, option_map, false, string_bytes};
+ghost use Rattle.std.specs.Str.{IsUtf8};
 ghost use Rattle.serde_json.specs.Data.{put};
 ghost use Rattle.serde_json.specs.View.{view, members_view};
 ghost use Rattle.serde_json.specs.Written.{has_float, compact_text};
@@ -12,9 +13,14 @@ use std::alloc::Global;
 
 /// The JSON value (RFC 8259) that bytes hold, None where they hold none.
 pub fn read_json(alloc: Global, bytes: &[u8]) -> Result<Option<serde_json::Value>, Memory>
-    ensures { IfOk result (λ read. option_map view read ≡ json_of bytes.now) }
+    ensures value { IfOk result (λ read. option_map view read ≡ json_of bytes.now) }
+    // Bytes that are no text hold none, whatever memory there is.
+    ensures no_text { ¬ (IsUtf8 bytes.now) → result ≡ Ok None }
 {
-    match serde_json::Value::from_slice(alloc, bytes) {
+    let Ok(text) = str::from_utf8(bytes) else {
+        return Ok(None);
+    };
+    match serde_json::Value::from_str(alloc, text) {
         Ok(value) => Ok(Some(value)),
         Err(error) => {
             if error.is_memory() {

@@ -9,11 +9,11 @@ use Rattle.ps_changes.specs.Borrowed.{data_in}
 use Rattle.ps_changes.proofs.Borrowing.{whole, more_behind, some_left, none_left, of_text, no_text}
 use Rattle.ps_changes.proofs.borrowed.read_borrowed.Goals as goal
 
-pub returns-in_default : goal.returns-in_default
-returns-in_default c = ap (or_fault BadJson) (no_text c.args.bytes.now c.in_default.ensures.cases.0)
+pub returns-in_default-clause-exact : goal.returns-in_default-clause-exact
+returns-in_default-clause-exact c = ap (or_fault BadJson) (no_text c.args.bytes.now c.in_default.ensures.cases.0)
 
-pub returns-then-is_some : goal.returns-then-is_some
-returns-then-is_some c =
+pub returns-then-is_some-clause-exact : goal.returns-then-is_some-clause-exact
+returns-then-is_some-clause-exact c =
     let bytes = c.args.bytes.now in
     let text = c.in-Ok.ensures.cases in
     let j = value_view c.in-Ok-read.json in
@@ -21,8 +21,8 @@ returns-then-is_some c =
     let read = ap (value max_depth) (ap tokens (sym text.0) ∙ sym c.in_ok-reader.ensures.ok) ∙ c.in-Ok-read.ensures.ok ∙ ap (λ ts. Some (j, ts)) left.2 in
     ap (or_fault BadJson) (of_text bytes text.1 ∙ more_behind bytes j left.0 left.1 read)
 
-pub returns-then-not-fits : goal.returns-then-not-fits
-returns-then-not-fits c =
+pub returns-then-not-fits-clause-exact : goal.returns-then-not-fits-clause-exact
+returns-then-not-fits-clause-exact c =
     let bytes = c.args.bytes.now in
     let text = c.in-Ok.ensures.cases in
     let j = value_view c.in-Ok-read.json in
@@ -30,8 +30,8 @@ returns-then-not-fits c =
     let read = ap (value max_depth) (ap tokens (sym text.0) ∙ sym c.in_ok-reader.ensures.ok) ∙ c.in-Ok-read.ensures.ok ∙ ap (λ ts. Some (j, ts)) left in
     ap (or_fault BadJson) (of_text bytes text.1 ∙ whole bytes j read ∙ ap (λ b. cond b (Some (data_in j)) None) (sym c.if-not-fits.ensures))
 
-pub returns-else-not-fits : goal.returns-else-not-fits
-returns-else-not-fits c =
+pub returns-else-not-fits-clause-exact : goal.returns-else-not-fits-clause-exact
+returns-else-not-fits-clause-exact c =
     let bytes = c.args.bytes.now in
     let text = c.in-Ok.ensures.cases in
     let j = value_view c.in-Ok-read.json in

@@ -6,5 +6,5 @@ use Rattle.ps_lines.proofs.body_readers.read_whole_body.Goals as goal
 
 pub returns-clause-is_one : goal.returns-clause-is_one
 returns-clause-is_one c =
-    let read : Some (view c.in-Some.json) ≡ json_of c.args.bytes.now = sym (ap (option_map view) c.in-Some.is) ∙ c.in_ok-json.ensures in
+    let read : Some (view c.in-Some.json) ≡ json_of c.args.bytes.now = sym (ap (option_map view) c.in-Some.is) ∙ c.in_ok-json.ensures.value in
     c.in_ok-body.ensures.is_one (json_nests c.args.bytes.now (view c.in-Some.json) read)
