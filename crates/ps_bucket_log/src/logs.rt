@@ -19,10 +19,9 @@ pub trait Log: Drop {
     /// For how many operations more there is room.
     ghost spare: { Self → ℕ };
 
-    /// Makes room for more operations. The operations stay, and no room that was there is lost.
+    /// Makes room for so many operations more. The operations stay. Of room that was there before it says nothing.
     fn reserve(&mut self, alloc: Global, more: usize) -> Result<(), Memory>
         ensures room { OnOk result (more ≤ spare self.new) }
-        ensures kept { spare self.old ≤ spare self.new }
         ensures same { ops self.new ≡ ops self.old };
 
     /// Puts an operation at the end, in room that is there.
@@ -32,6 +31,10 @@ pub trait Log: Drop {
         requires no_clear { is_clear op ≡ false }
         ensures appended { ops self.new ≡ ops self.old ++ op ∷ [] }
         ensures room_left { spare self.old ≤ spare self.new + 1 };
+
+    /// The number of the operations.
+    fn len(&self) -> usize
+        ensures { result ≡ length (ops self.now) };
 
     /// The next operations with ids past `after` and up to `upto`, as many as one batch may have: at most
     /// 1,000, with at most 1,048,576 bytes of data, but the first one whatever its size. Where a CLEAR

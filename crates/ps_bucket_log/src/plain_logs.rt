@@ -1,4 +1,4 @@
-ghost use Rattle.std.specs.Prelude.{◌≡◌, [], IsOk, OnOk, OnErr};
+ghost use Rattle.std.specs.Prelude.{◌≡◌, ◌≤◌, [], IsOk, OnOk, OnErr};
 ghost use Rattle.ps_bucket_log.specs.Logs.{IsLog};
 
 use crate::batches::{Batch, read_batch};
@@ -43,14 +43,22 @@ impl Log for BucketLog {
 
     ghost spare = { λ log. log.spare };
 
-    // A list has its allocator with it.
-    fn reserve(&mut self, _alloc: Global, more: usize) -> Result<(), Memory> {
+    // A list has its allocator with it. No room that was there is lost.
+    fn reserve(&mut self, _alloc: Global, more: usize) -> Result<(), Memory>
+        ensures room { OnOk result (more ≤ self.new.spare) }
+        ensures kept { self.old.spare ≤ self.new.spare }
+        ensures same { self.new.ops ≡ self.old.ops }
+    {
         self.ops.reserve(more)?;
         Ok(())
     }
 
     fn append(&mut self, op: Op) {
         self.ops.push_reserved(op);
+    }
+
+    fn len(&self) -> usize {
+        self.ops.len()
     }
 
     fn read(&self, alloc: Global, after: OpId, upto: OpId) -> Result<Batch, Memory> {

@@ -3,6 +3,7 @@ pub mod ShownRows
 pub mod Edits
 pub mod Requesting
 pub mod Reading
+pub mod Committing
 pub mod Uploading
 pub mod Maps
 pub mod Orders

@@ -2,6 +2,7 @@ pub mod Types
 pub mod Tables
 pub mod Clients
 pub mod Taking
+pub mod Commits
 pub mod Keepers
 pub mod Requests
 pub mod LocalWrites

@@ -1,12 +1,16 @@
-ghost use Rattle.std.specs.Prelude.{◌≡◌, ◌≢◌, ◌≤◌, [], IfOk, IfErr, IfSome, OnOk, OnErr, Ok, None, option_map};
+ghost use Rattle.std.specs.Prelude.{◌≡◌, ◌≢◌, ◌≤◌, [], IfOk, IfErr, IfSome, OnOk, OnErr, Ok, Err, option_map};
+ghost use Rattle.std.specs.Str.{IsUtf8};
 ghost use Rattle.ps_data.specs.Numbers.{greatest};
 ghost use Rattle.ps_lines.specs.Bodies.{IsBody};
-ghost use Rattle.ps_lines.specs.Reading.{line_of};
+ghost use Rattle.ps_lines.specs.Reading.{line_of, without_feed};
+ghost use Rattle.ps_lines.specs.declared.faults.LineFault.TheVariants.{BadJson};
 ghost use Rattle.ps_rows.specs.Source.{Key as Object};
 ghost use Rattle.ps_client_log.specs.Kept.{nothing_kept};
-ghost use Rattle.ps_client_log.specs.Keeping.{RoseAt, Tells};
+ghost use Rattle.ps_client_log.specs.Keeping.{RoseAt, Tells, one_more};
 ghost use Rattle.ps_client_log.specs.Rows.{AreInOrder, row_at};
 ghost use Rattle.ps_client.specs.Clients.{asked, ended, line_taken, matches_told, is_pending};
+ghost use Rattle.ps_client.specs.declared.faults.ClientFault.TheVariants.{BadLine};
+ghost use Rattle.ps_client.specs.Commits.{EditsIf, Commits, FaultsOnlyWhere, Says};
 ghost use Rattle.ps_client.specs.Keepers.{Follows, RoseWhereFaulted};
 ghost use Rattle.ps_client.specs.LocalWrites.{written, popped, aimed, keeping, FailsBelow, WantsWrites, WantsNoWrites, next_upload, oldest, IsReadAgain};
 ghost use Rattle.ps_client.specs.Requests.{IsRequest};
@@ -17,9 +21,9 @@ use crate::local_writes::{aim, next_body, pop, write};
 use crate::requests::request_for;
 use crate::showing::rows_in_order;
 use crate::streams::Stream;
-use crate::taking::{Step, take};
+use crate::taking::{self, Step};
 use crate::{ClientFault, Event};
-use ps_client_log::{ClientLog, KeepFault, Keeper, Shown, Target};
+use ps_client_log::{ClientLog, KeepFault, Keeper, Shown, Target, VolatileKeeper};
 use ps_data::{Items, Memory, Text};
 use ps_lines::{Line, LineFault, StreamBody, read_line};
 use ps_rows::Change;
@@ -49,6 +53,7 @@ fn read(alloc: Global, bytes: &[u8]) -> Result<Line, ClientFault>
     ensures line { IfOk result (λ line. line_of bytes.now ≡ Ok line) }
     ensures order { IfOk result IsInOrder }
     ensures fault { IfErr result (IsReadFault (line_of bytes.now)) }
+    ensures no_text { ¬ (IsUtf8 (without_feed bytes.now)) → result ≡ Err (BadLine BadJson) }
 {
     match read_line(alloc, bytes) {
         Ok(line) => Ok(line),
@@ -57,32 +62,9 @@ fn read(alloc: Global, bytes: &[u8]) -> Result<Line, ClientFault>
     }
 }
 
-impl<K: Keeper> Client<K> {
-    /// A client that keeps what its keeper keeps, with no stream begun, and has an id. Fails with `Failed` where the
-    /// keeper failed, which its count of faults shows, and with `Memory`. After a refusal the keeper is given back.
-    pub fn open(alloc: Global, keeper: K, client: Text) -> Result<Client<K>, (K, KeepFault)>
-        ensures opened { IfOk result (λ opened. IsOpened (state opened)) }
-        ensures kept { IfOk result (λ opened. Tells (K.held keeper) (state opened).kept) }
-        ensures name { IfOk result (λ opened. name_of opened ≡ client) }
-        ensures held { IfOk result (λ opened. K.held (keeper_of opened) ≡ K.held keeper) }
-        ensures faults { IfOk result (λ opened. K.faults (keeper_of opened) ≡ K.faults keeper) }
-        ensures refused_held { IfErr result (λ refused. K.held refused.0 ≡ K.held keeper) }
-        ensures refused_faults { IfErr result (λ refused. K.faults keeper ≤ K.faults refused.0) }
-        ensures failed { IfErr result (λ refused. RoseAt refused.1 (K.faults keeper) (K.faults refused.0)) }
-    {
-        match ClientLog::open(alloc, keeper) {
-            Ok(log) => Ok(Client {
-                log,
-                name: client,
-                stream: Stream::Over,
-            }),
-            Err(refused) => Err(refused),
-        }
-    }
-
-    /// A client that holds nothing, with no stream begun, and has an id. The keeper does not tell what it keeps, and nothing is loaded.
-    pub fn begin(alloc: Global, keeper: K, client: Text) -> Client<K>
-        requires { K.held keeper ≡ None }
+impl Client<VolatileKeeper> {
+    /// A client that holds nothing, with no stream begun, and has an id. Nothing is loaded: this keeper keeps nothing.
+    pub fn begin(alloc: Global, keeper: VolatileKeeper, client: Text) -> Client<VolatileKeeper>
         ensures opened { IsOpened (state result) }
         ensures kept { (state result).kept ≡ nothing_kept }
         ensures name { name_of result ≡ client }
@@ -92,6 +74,32 @@ impl<K: Keeper> Client<K> {
             log: ClientLog::begin(alloc, keeper),
             name: client,
             stream: Stream::Over,
+        }
+    }
+}
+
+impl<K: Keeper> Client<K> {
+    /// A client that keeps what its keeper keeps, which is loaded once, with no stream begun, and has an id. Fails with `Failed`
+    /// where the keeper failed, which its count of faults shows, and with `Memory`. After a refusal the keeper is given back.
+    pub fn open(alloc: Global, keeper: K, client: Text) -> Result<Client<K>, (K, KeepFault)>
+        ensures opened { IfOk result (λ opened. IsOpened (state opened)) }
+        ensures kept { IfOk result (λ opened. Tells (K.held keeper) (state opened).kept) }
+        ensures name { IfOk result (λ opened. name_of opened ≡ client) }
+        ensures held { IfOk result (λ opened. K.held (keeper_of opened) ≡ K.held keeper) }
+        ensures faults { IfOk result (λ opened. K.faults (keeper_of opened) ≡ K.faults keeper) }
+        ensures refused_held { IfErr result (λ refused. K.held refused.0 ≡ K.held keeper) }
+        ensures refused_faults { IfErr result (λ refused. K.faults keeper ≤ K.faults refused.0) }
+        ensures failed { IfErr result (λ refused. RoseAt refused.1 (K.faults keeper) (K.faults refused.0)) }
+        ensures loaded { IfOk result (λ opened. K.calls (keeper_of opened) ≡ one_more (K.calls keeper)) }
+        ensures refused_loaded { IfErr result (λ refused. K.calls refused.0 ≡ one_more (K.calls keeper)) }
+    {
+        match ClientLog::open(alloc, keeper) {
+            Ok(log) => Ok(Client {
+                log,
+                name: client,
+                stream: Stream::Over,
+            }),
+            Err(refused) => Err(refused),
         }
     }
 
@@ -124,7 +132,8 @@ impl<K: Keeper> Client<K> {
 
     /// Takes a line of the stream, with or without its closing line feed. All that it changes of what is kept is one commit of the
     /// keeper. Fails with `BadLine` where the bytes are no line, with `OutOfOrder` where the line does not come next, with
-    /// `KeeperFault` where the keeper failed, and for want of memory. After a fault the stream is over and what is kept is as before.
+    /// `KeeperFault` where the keeper failed, and for want of memory. The keeper is asked for a commit, and
+    /// can fail, only where a checkpoint is applied or refused, buckets go, or operations come. After a fault the stream is over and what is kept is as before.
     pub fn take_line(&mut self, alloc: Global, line: &[u8]) -> Result<Event, ClientFault>
         ensures taken { Answers (line_taken (state self.old) line.now) (state self.old) (state self.new) result }
         ensures err { OnErr result (state self.new ≡ ended (state self.old)) }
@@ -133,11 +142,32 @@ impl<K: Keeper> Client<K> {
         ensures faults { K.faults (keeper_of self.old) ≤ K.faults (keeper_of self.new) }
         ensures quiet { OnOk result (K.faults (keeper_of self.new) ≡ K.faults (keeper_of self.old)) }
         ensures name { name_of self.new ≡ name_of self.old }
+        // The keeper's fault comes only where the plain client's answer is one that commits.
+        ensures commits { FaultsOnlyWhere (Commits (EditsIf (state self.old).kept (line_of line.now)) (line_taken (state self.old) line.now).answer) result }
+        // Where the plain client says something, so does this one, but for want of memory and for its keeper.
+        ensures says { Says (line_taken (state self.old) line.now).answer result (K.faults (keeper_of self.old)) (K.faults (keeper_of self.new)) }
+        // What is no text is no line, whatever memory there is.
+        ensures no_text { ¬ (IsUtf8 (without_feed line.now)) → result ≡ Err (BadLine BadJson) }
+    {
+        self.take(alloc, line)
+    }
+
+    // Takes a line of the stream.
+    fn take(&mut self, alloc: Global, line: &[u8]) -> Result<Event, ClientFault>
+        ensures taken { Answers (line_taken (state self.old) line.now) (state self.old) (state self.new) result }
+        ensures err { OnErr result (state self.new ≡ ended (state self.old)) }
+        ensures follows { Follows (K.held (keeper_of self.old)) (K.held (keeper_of self.new)) (state self.new).kept }
+        ensures failed { RoseWhereFaulted result (K.faults (keeper_of self.old)) (K.faults (keeper_of self.new)) }
+        ensures faults { K.faults (keeper_of self.old) ≤ K.faults (keeper_of self.new) }
+        ensures quiet { OnOk result (K.faults (keeper_of self.new) ≡ K.faults (keeper_of self.old)) }
+        ensures name { name_of self.new ≡ name_of self.old }
+        ensures commits { FaultsOnlyWhere (Commits (EditsIf (state self.old).kept (line_of line.now)) (line_taken (state self.old) line.now).answer) result }
+        ensures no_text { ¬ (IsUtf8 (without_feed line.now)) → result ≡ Err (BadLine BadJson) }
     {
         let _target = self.log.target();
         let stream = mem::replace(&mut self.stream, Stream::Over);
         let line = read(alloc, line)?;
-        let Step { event, stream } = take(alloc, &mut self.log, stream, line)?;
+        let Step { event, stream } = taking::take(alloc, &mut self.log, stream, line)?;
         self.stream = stream;
         Ok(event)
     }

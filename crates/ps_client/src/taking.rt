@@ -1,4 +1,4 @@
-ghost use Rattle.std.specs.Prelude.{◌≡◌, ◌≤◌, OnOk, OnErr, IfOk, map, filter, not, nat_le, unwrap_or};
+ghost use Rattle.std.specs.Prelude.{◌≡◌, ◌≢◌, ◌≤◌, [], OnOk, OnErr, IfOk, IsOk, map, filter, not, nat_le, unwrap_or};
 ghost use Rattle.std.specs.List.{list_all};
 ghost use Rattle.ps_data.specs.Numbers.{greatest};
 ghost use Rattle.ps_bucket_log.specs.Ops.{newest, id_of};
@@ -9,8 +9,9 @@ ghost use Rattle.ps_client_log.specs.Logs.{kept, keeper_of};
 ghost use Rattle.ps_client_log.specs.declared.edits.Edit.TheVariants as edits_of;
 ghost use Rattle.ps_client.specs.declared.events.Event.TheVariants as events;
 ghost use Rattle.ps_client.specs.Clients.{only_told, without_buckets, checkpoint_taken, diff_taken, data_taken, complete_taken, applied as applied_by, comes_next as comes_next_to, held_by as held_for, freed, refused as refused_for, taken_in, first_taken, next_taken};
+ghost use Rattle.ps_client.specs.Commits.{KeepsUntold, Edits, Commits, FailsOnlyWhere, FaultsOnlyWhere};
 ghost use Rattle.ps_client.specs.Keepers.{Follows, RoseWhereFaulted};
-ghost use Rattle.ps_client.specs.Tables.{is_told, names_of as names_in};
+ghost use Rattle.ps_client.specs.Tables.{is_told, with_entries, names_of as names_in};
 ghost use Rattle.ps_client.specs.Taking.{AreHeld, Takes, IsInOrder};
 
 use crate::streams::Stream;
@@ -53,6 +54,8 @@ pub fn commit<K: Keeper>(
     ensures failed { RoseWhereFailed result (K.faults (keeper_of log.old)) (K.faults (keeper_of log.new)) }
     ensures faults { K.faults (keeper_of log.old) ≤ K.faults (keeper_of log.new) }
     ensures quiet { OnOk result (K.faults (keeper_of log.new) ≡ K.faults (keeper_of log.old)) }
+    ensures none { edits.items ≡ [] → IsOk result }
+    ensures untouched { edits.items ≡ [] → keeper_of log.new ≡ keeper_of log.old }
 {
     let _target = log.target();
     if edits.is_empty() {
@@ -84,6 +87,7 @@ fn delete_all<K: Keeper>(
     ensures failed { RoseWhereFailed result (K.faults (keeper_of log.old)) (K.faults (keeper_of log.new)) }
     ensures faults { K.faults (keeper_of log.old) ≤ K.faults (keeper_of log.new) }
     ensures quiet { OnOk result (K.faults (keeper_of log.new) ≡ K.faults (keeper_of log.old)) }
+    ensures some { FailsOnlyWhere (names.items ≢ []) result }
 {
     edits_leave_what_is_sound();
     let _target = log.target();
@@ -108,6 +112,7 @@ fn keep_told<K: Keeper>(alloc: Global, log: &mut ClientLog<K>, told: &Told) -> R
     ensures failed { RoseWhereFailed result (K.faults (keeper_of log.old)) (K.faults (keeper_of log.new)) }
     ensures faults { K.faults (keeper_of log.old) ≤ K.faults (keeper_of log.new) }
     ensures quiet { OnOk result (K.faults (keeper_of log.new) ≡ K.faults (keeper_of log.old)) }
+    ensures some { FailsOnlyWhere (KeepsUntold told.now (kept log.old)) result }
 {
     let _target = log.target();
     let names = log.names(alloc)?;
@@ -128,6 +133,7 @@ fn take_checkpoint<K: Keeper>(
     ensures failed { RoseWhereFaulted result (K.faults (keeper_of log.old)) (K.faults (keeper_of log.new)) }
     ensures faults { K.faults (keeper_of log.old) ≤ K.faults (keeper_of log.new) }
     ensures quiet { OnOk result (K.faults (keeper_of log.new) ≡ K.faults (keeper_of log.old)) }
+    ensures commits { FaultsOnlyWhere (KeepsUntold (with_entries [] buckets) (kept log.old)) result }
 {
     let _target = log.target();
     let mut told = Told::new(alloc);
@@ -156,6 +162,7 @@ fn take_diff<K: Keeper>(
     ensures failed { RoseWhereFaulted result (K.faults (keeper_of log.old)) (K.faults (keeper_of log.new)) }
     ensures faults { K.faults (keeper_of log.old) ≤ K.faults (keeper_of log.new) }
     ensures quiet { OnOk result (K.faults (keeper_of log.new) ≡ K.faults (keeper_of log.old)) }
+    ensures commits { FaultsOnlyWhere (Commits (removed ≢ []) (diff_taken (kept log.old) table last_op number removed updated).answer) result }
 {
     let _target = log.target();
     let mut told = table.told;
@@ -211,6 +218,7 @@ fn take_data<K: Keeper>(
     ensures failed { RoseWhereFaulted result (K.faults (keeper_of log.old)) (K.faults (keeper_of log.new)) }
     ensures faults { K.faults (keeper_of log.old) ≤ K.faults (keeper_of log.new) }
     ensures quiet { OnOk result (K.faults (keeper_of log.new) ≡ K.faults (keeper_of log.old)) }
+    ensures commits { FaultsOnlyWhere (Commits (Unit {0}) (data_taken (kept log.old) table bucket after ops).answer) result }
 {
     let _target = log.target();
     if !comes_next(log, &table, &bucket, after, ops.as_slice()) {
@@ -304,6 +312,7 @@ fn settle<K: Keeper>(
     ensures failed { RoseWhereFaulted result (K.faults (keeper_of log.old)) (K.faults (keeper_of log.new)) }
     ensures faults { K.faults (keeper_of log.old) ≤ K.faults (keeper_of log.new) }
     ensures quiet { OnOk result (K.faults (keeper_of log.new) ≡ K.faults (keeper_of log.old)) }
+    ensures commits { FaultsOnlyWhere (Commits ⊥ (applied_by (held_for (kept log.old).queue (kept log.old).target (unwrap_or table.number 0)) (kept log.old) table).answer) result }
 {
     let _target = log.target();
     if let Some(why) = held_by(log, table.number) {
@@ -331,6 +340,7 @@ fn take_complete<K: Keeper>(
     ensures failed { RoseWhereFaulted result (K.faults (keeper_of log.old)) (K.faults (keeper_of log.new)) }
     ensures faults { K.faults (keeper_of log.old) ≤ K.faults (keeper_of log.new) }
     ensures quiet { OnOk result (K.faults (keeper_of log.new) ≡ K.faults (keeper_of log.old)) }
+    ensures commits { FaultsOnlyWhere (Commits ⊥ (complete_taken (kept log.old) table last_op).answer) result }
 {
     let _target = log.target();
     if last_op.0 != table.last_op.0 {
@@ -355,6 +365,7 @@ fn take_first<K: Keeper>(
     ensures failed { RoseWhereFaulted result (K.faults (keeper_of log.old)) (K.faults (keeper_of log.new)) }
     ensures faults { K.faults (keeper_of log.old) ≤ K.faults (keeper_of log.new) }
     ensures quiet { OnOk result (K.faults (keeper_of log.new) ≡ K.faults (keeper_of log.old)) }
+    ensures commits { FaultsOnlyWhere (Commits (Edits (kept log.old) line) (first_taken (kept log.old) line).answer) result }
 {
     let _target = log.target();
     match line {
@@ -387,6 +398,7 @@ fn take_next<K: Keeper>(
     ensures failed { RoseWhereFaulted result (K.faults (keeper_of log.old)) (K.faults (keeper_of log.new)) }
     ensures faults { K.faults (keeper_of log.old) ≤ K.faults (keeper_of log.new) }
     ensures quiet { OnOk result (K.faults (keeper_of log.new) ≡ K.faults (keeper_of log.old)) }
+    ensures commits { FaultsOnlyWhere (Commits (Edits (kept log.old) line) (next_taken (kept log.old) table line).answer) result }
 {
     let _target = log.target();
     match line {
@@ -430,6 +442,7 @@ pub fn take<K: Keeper>(
     ensures failed { RoseWhereFaulted result (K.faults (keeper_of log.old)) (K.faults (keeper_of log.new)) }
     ensures faults { K.faults (keeper_of log.old) ≤ K.faults (keeper_of log.new) }
     ensures quiet { OnOk result (K.faults (keeper_of log.new) ≡ K.faults (keeper_of log.old)) }
+    ensures commits { FaultsOnlyWhere (Commits (Edits (kept log.old) line) (taken_in stream (kept log.old) line).answer) result }
 {
     let _target = log.target();
     match stream {

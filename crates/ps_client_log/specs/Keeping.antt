@@ -1,5 +1,6 @@
 -- What a keeper answers.
-use Rattle.std.specs.Prelude.{◌≡◌, ℕ, Bool, true, false, Option, Result, Ok, Err, IfSome}
+use Rattle.std.specs.Prelude.{◌≡◌, ℕ, ◌+◌, ◌-◌, ◌^◌, min, Bool, true, false, Option, Result, Ok, Err, IfSome}
+use Rattle.std.specs.Option.{option_map}
 use Rattle.ps_io.specs.declared.calls.Calls.{Calls}
 use Rattle.ps_io.specs.Counts.{Rose}
 use Rattle.ps_client_log.specs.declared.holdings.Holdings.{Holdings}
@@ -15,6 +16,10 @@ RoseAt Memory before now = Unit {0}
 abbrev pub RoseWhereFailed : {X : Type 0} → Result X KeepFault → ℕ → ℕ → Type 0
 RoseWhereFailed (Ok x) before now = Unit {0}
 RoseWhereFailed (Err fault) before now = RoseAt fault before now
+
+-- one call more, where calls are counted; a count that would pass 64 bits stands still
+abbrev pub one_more : Option ℕ → Option ℕ
+one_more calls = option_map (λ made. min (made + 1) (2 ^ 64 - 1)) calls
 
 -- a keeper that tells what it keeps keeps this
 abbrev pub Tells : Option Kept → Kept → Type 0

@@ -10,13 +10,13 @@ ghost use Rattle.ps_bucket_log.specs.Buckets.{bucket_of};
 ghost use Rattle.ps_client_log.specs.Kept.{bucket_at, nothing_kept, shown_in};
 ghost use Rattle.ps_client_log.specs.Soundness.{IsSound, same_row};
 ghost use Rattle.ps_client_log.specs.Edits.{CanTake, CanMakeAll, with_bucket, with_taken, with_edits};
-ghost use Rattle.ps_client_log.specs.Keeping.{RoseAt, RoseWhereFailed, Tells};
+ghost use Rattle.ps_client_log.specs.Keeping.{RoseAt, RoseWhereFailed, Tells, one_more};
 ghost use Rattle.ps_client_log.specs.Logs.{keeper_of, kept};
 ghost use Rattle.ps_client_log.specs.Rows.{HeldCopy, Holds, object_of, IsLatestContent, AreInOrder, row_at};
 
 use crate::holdings::Holdings;
 use crate::rows::{bucket_names, held_rows};
-use crate::{Edit, KeepFault, Keeper, Shown, Target};
+use crate::{Edit, KeepFault, Keeper, Shown, Target, VolatileKeeper};
 use ps_bucket_log::Op;
 use ps_checksum::Sum;
 use ps_data::{Items, Memory, OpId, Text};
@@ -47,8 +47,22 @@ impl<K: Keeper> Model for ClientLog<K> {
     ghost invariant = { λ log. Stands (K.held log.keeper) log.holdings };
 }
 
+impl ClientLog<VolatileKeeper> {
+    /// Holds nothing, and takes no memory for it. Nothing is loaded: this keeper keeps nothing.
+    pub fn begin(alloc: Global, keeper: VolatileKeeper) -> ClientLog<VolatileKeeper>
+        ensures kept { kept result ≡ nothing_kept }
+        ensures sound { IsSound (kept result) }
+        ensures keeper { keeper_of result ≡ keeper }
+    {
+        ClientLog {
+            keeper,
+            holdings: Holdings::new(alloc),
+        }
+    }
+}
+
 impl<K: Keeper> ClientLog<K> {
-    /// Holds the state that a keeper keeps. Fails with `Failed` where the keeper failed, which its count of faults
+    /// Holds the state that a keeper keeps, which is loaded once. Fails with `Failed` where the keeper failed, which its count of faults
     /// shows, and with `Memory`. After a refusal the keeper is given back.
     pub fn open(alloc: Global, keeper: K) -> Result<ClientLog<K>, (K, KeepFault)>
         ensures kept { IfOk result (λ log. Tells (K.held keeper) (kept log)) }
@@ -58,6 +72,8 @@ impl<K: Keeper> ClientLog<K> {
         ensures refused_held { IfErr result (λ refused. K.held refused.0 ≡ K.held keeper) }
         ensures refused_faults { IfErr result (λ refused. K.faults keeper ≤ K.faults refused.0) }
         ensures failed { IfErr result (λ refused. RoseAt refused.1 (K.faults keeper) (K.faults refused.0)) }
+        ensures loaded { IfOk result (λ log. K.calls (keeper_of log) ≡ one_more (K.calls keeper)) }
+        ensures refused_loaded { IfErr result (λ refused. K.calls refused.0 ≡ one_more (K.calls keeper)) }
     {
         let mut keeper = keeper;
         match keeper.load(alloc) {
@@ -66,19 +82,6 @@ impl<K: Keeper> ClientLog<K> {
                 Err(Memory) => Err((keeper, KeepFault::Memory)),
             },
             Err(fault) => Err((keeper, fault)),
-        }
-    }
-
-    /// Holds nothing, and takes no memory for it. The keeper does not tell what it keeps, and nothing is loaded.
-    pub fn begin(alloc: Global, keeper: K) -> ClientLog<K>
-        requires { K.held keeper ≡ None }
-        ensures kept { kept result ≡ nothing_kept }
-        ensures sound { IsSound (kept result) }
-        ensures keeper { keeper_of result ≡ keeper }
-    {
-        ClientLog {
-            keeper,
-            holdings: Holdings::new(alloc),
         }
     }
 
@@ -107,6 +110,7 @@ impl<K: Keeper> ClientLog<K> {
         ensures failed { RoseWhereFailed result (K.faults (keeper_of self.old)) (K.faults (keeper_of self.new)) }
         ensures faults { K.faults (keeper_of self.old) ≤ K.faults (keeper_of self.new) }
         ensures quiet { OnOk result (K.faults (keeper_of self.new) ≡ K.faults (keeper_of self.old)) }
+        ensures called { OnOk result (K.calls (keeper_of self.new) ≡ one_more (K.calls (keeper_of self.old))) }
     {
         let rooms = self.holdings.prepare(alloc, edits.as_slice())?;
         match self.keeper.commit(alloc, edits.as_slice()) {
@@ -138,6 +142,7 @@ impl<K: Keeper> ClientLog<K> {
         ensures failed { RoseWhereFailed result (K.faults (keeper_of self.old)) (K.faults (keeper_of self.new)) }
         ensures faults { K.faults (keeper_of self.old) ≤ K.faults (keeper_of self.new) }
         ensures quiet { OnOk result (K.faults (keeper_of self.new) ≡ K.faults (keeper_of self.old)) }
+        ensures called { OnOk result (K.calls (keeper_of self.new) ≡ one_more (K.calls (keeper_of self.old))) }
     {
         let _target = self.target();
         let bucket = bucket.copy(alloc)?;
@@ -158,6 +163,7 @@ impl<K: Keeper> ClientLog<K> {
         ensures failed { RoseWhereFailed result (K.faults (keeper_of self.old)) (K.faults (keeper_of self.new)) }
         ensures faults { K.faults (keeper_of self.old) ≤ K.faults (keeper_of self.new) }
         ensures quiet { OnOk result (K.faults (keeper_of self.new) ≡ K.faults (keeper_of self.old)) }
+        ensures called { OnOk result (K.calls (keeper_of self.new) ≡ one_more (K.calls (keeper_of self.old))) }
     {
         let _target = self.target();
         let bucket = bucket.copy(alloc)?;

@@ -3,7 +3,7 @@ ghost use Rattle.std.specs.Option.{option_map};
 ghost use Rattle.ps_client_log.specs.Kept.{Kept, kept_of};
 ghost use Rattle.ps_client_log.specs.Soundness.{IsSound, IsSoundState};
 ghost use Rattle.ps_client_log.specs.Edits.{CanMakeAll, with_edits};
-ghost use Rattle.ps_client_log.specs.Keeping.{RoseWhereFailed};
+ghost use Rattle.ps_client_log.specs.Keeping.{RoseWhereFailed, one_more};
 
 use crate::{Edit, KeepFault, State};
 use std::alloc::Global;
@@ -16,6 +16,9 @@ pub trait Keeper {
     /// How often it has failed.
     ghost faults: { Self → ℕ };
 
+    /// How many calls of `load` and `commit` were made, where they are counted.
+    ghost calls: { Self → Option ℕ };
+
     /// The state that it keeps, which is sound. `Failed` comes only where the count of faults rose; a success leaves it as it was.
     fn load(&mut self, alloc: Global) -> Result<State, KeepFault>
         ensures state { IfOk result (λ state. IfSome (held self.old) (λ kept. kept_of state ≡ kept)) }
@@ -24,7 +27,8 @@ pub trait Keeper {
         ensures held { held self.new ≡ held self.old }
         ensures failed { RoseWhereFailed result (faults self.old) (faults self.new) }
         ensures faults { faults self.old ≤ faults self.new }
-        ensures quiet { OnOk result (faults self.new ≡ faults self.old) };
+        ensures quiet { OnOk result (faults self.new ≡ faults self.old) }
+        ensures called { calls self.new ≡ one_more (calls self.old) };
 
     /// Makes all the edits, one after another, or none. `Failed` comes only where the count of faults rose; a success leaves it as it was.
     fn commit(&mut self, alloc: Global, edits: &[Edit]) -> Result<(), KeepFault>
@@ -34,7 +38,8 @@ pub trait Keeper {
         ensures told { IfSome (held self.new) IsSound }
         ensures failed { RoseWhereFailed result (faults self.old) (faults self.new) }
         ensures faults { faults self.old ≤ faults self.new }
-        ensures quiet { OnOk result (faults self.new ≡ faults self.old) };
+        ensures quiet { OnOk result (faults self.new ≡ faults self.old) }
+        ensures called { calls self.new ≡ one_more (calls self.old) };
 
     /// How often it has failed. It never falls.
     fn keep_faults(&self) -> u64

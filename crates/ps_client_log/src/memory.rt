@@ -1,4 +1,4 @@
-ghost use Rattle.std.specs.Prelude.{◌≡◌, ◌≤◌, Some, IfOk, OnOk, OnErr};
+ghost use Rattle.std.specs.Prelude.{◌≡◌, ◌≤◌, Some, None, IfOk, OnOk, OnErr};
 ghost use Rattle.ps_io.specs.Calls.{fails_next, Begins, IsCounted};
 ghost use Rattle.ps_client_log.specs.Kept.{kept_of, nothing_kept};
 ghost use Rattle.ps_client_log.specs.Soundness.{IsSound, IsSoundState};
@@ -56,6 +56,8 @@ impl Keeper for MemoryKeeper {
     ghost held = { λ keeper. Some (kept_by keeper.0) };
 
     ghost faults = { λ keeper. keeper.1.faults };
+
+    ghost calls = { λ keeper. Some keeper.1.made };
 
     fn load(&mut self, alloc: Global) -> Result<State, KeepFault>
         ensures state { IfOk result (λ state. kept_of state ≡ kept_by self.old.0) }
@@ -137,6 +139,8 @@ impl Keeper for SureKeeper {
     ghost held = { λ keeper. Some (kept_by keeper) };
 
     ghost faults = { λ _. 0 };
+
+    ghost calls = { λ _. None };
 
     fn load(&mut self, alloc: Global) -> Result<State, KeepFault> {
         Ok(state_of(alloc, &self.holdings)?)

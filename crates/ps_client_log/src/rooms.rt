@@ -1,12 +1,22 @@
 //! How much room a list of edits wants in each bucket that it names.
 
-ghost use Rattle.std.specs.Prelude.{◌≡◌, ℕ, ◌+◌, List, OnOk, IfOk, bytes_eq, if◌then◌else◌, sum_by};
+ghost use Rattle.std.specs.Prelude.{◌≡◌, ◌≤◌, ◌^◌, ℕ, ◌+◌, List, MatchResult, OnOk, IfOk, bytes_eq, if◌then◌else◌, sum_by};
 ghost use Rattle.ps_client_log.specs.Rooms.{brings, given};
 
 use crate::Edit;
 use indexmap::IndexMap;
 use ps_data::{Memory, Text};
 use std::alloc::Global;
+
+// Room for both. Where no number of 64 bits is so great, there is no memory for it.
+fn both(room: usize, count: usize) -> Result<usize, Memory>
+    ensures { MatchResult result (λ sum. sum ≡ room + count) (λ _. 2 ^ 64 ≤ room + count) }
+{
+    match room.checked_add(count) {
+        Some(sum) => Ok(sum),
+        None => Err(Memory),
+    }
+}
 
 // Gives more room to a name.
 fn give(
@@ -18,7 +28,7 @@ fn give(
     ensures { OnOk result ((other : List ℕ) → given rooms.new other ≡ given rooms.old other + (if bytes_eq name.now other then count else 0)) }
 {
     if let Some(room) = rooms.get_mut(name) {
-        *room = room.checked_add(count).ok_or(Memory)?;
+        *room = both(*room, count)?;
         return Ok(());
     }
     rooms.insert(name.copy(alloc)?, count)?;

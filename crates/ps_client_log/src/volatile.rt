@@ -15,6 +15,8 @@ impl Keeper for VolatileKeeper {
 
     ghost faults = { λ _. 0 };
 
+    ghost calls = { λ _. None };
+
     fn load(&mut self, alloc: Global) -> Result<State, KeepFault>
         ensures loaded { IsOk result }
         ensures nothing { IfOk result (λ state. kept_of state ≡ nothing_kept) }
