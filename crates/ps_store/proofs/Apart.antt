@@ -45,7 +45,7 @@ found_after position index key row source k v h = go (eq_by_cmp key_cmp k key) r
   go true e g = let m = version_of position index row v g in changed (same_key k key e) m.0 m.1
   go false e g = before g
 
-moments_after : (position index : ℕ) (key : Key) (row : Option (List Column)) (source : Source) → HaveMoments position index source → HaveMoments position (index + 1) (after_row position index key row source)
+pub moments_after : (position index : ℕ) (key : Key) (row : Option (List Column)) (source : Source) → HaveMoments position index source → HaveMoments position (index + 1) (after_row position index key row source)
 moments_after position index key row source have = record {
   older = λ k v h. older_of k v (found_after position index key row source k v h);
   differ = λ k l v w h g p i. both_of k l v w (found_after position index key row source k v h) (found_after position index key row source l w g) p i;
@@ -61,7 +61,7 @@ moments_after position index key row source have = record {
   both_of k l v w (before h) (before g) e f = have.differ k l v w h g e f
 
 -- a later moment
-moments_past : (position index later place : ℕ) (source : Source) → IsReached position index later place → HaveMoments position index source → HaveMoments later place source
+pub moments_past : (position index later place : ℕ) (source : Source) → IsReached position index later place → HaveMoments position index source → HaveMoments later place source
 moments_past position index later place source reached have = record {
   older = λ k v h.
       let r = have.older k v h in record {
@@ -83,7 +83,7 @@ moments_steps definitions next position index source (s ∷ ss) h have =
     moments_steps definitions (s.first + length (change_ops definitions source s.first t)) t.position (t.index + 1) (after source t) ss h.2
     (moments_after t.position t.index (key_of t) t.change.row source (moments_past position index t.position t.index source h.1 have))
 
-moments_of_none : HaveMoments 0 0 []
+pub moments_of_none : HaveMoments 0 0 []
 moments_of_none = record { older = λ k v h. absurd (cc); differ = λ k l v w h g p i. absurd (cc) }
 
 -- two rows that stand have different moments
@@ -94,7 +94,7 @@ moments_tell_rows definitions ss rise k l v w h g p i =
     m.2.differ k l v w h g p i
 
 -- the source of steps is in the order of its keys
-sorted_steps : (source : Source) (ss : List Step) → T (is_sorted key_cmp source) → T (is_sorted key_cmp (source_after source ss))
+pub sorted_steps : (source : Source) (ss : List Step) → T (is_sorted key_cmp source) → T (is_sorted key_cmp (source_after source ss))
 sorted_steps source [] h = h
 sorted_steps source (s ∷ ss) h = sorted_steps (after source s.timed) ss (sorted-after_row s.timed.position s.timed.index (key_of s.timed) s.timed.change.row source h)
 

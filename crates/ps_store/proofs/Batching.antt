@@ -12,6 +12,7 @@ use Rattle.ps_store.specs.declared.stores.Store.{Store}
 use Rattle.ps_store.specs.declared.stores.Wrote.{Wrote}
 use Rattle.ps_store.specs.declared.totals.Totals.{Totals}
 use Rattle.ps_store.specs.Ledgers.{Ledger, unwritten, head_of, write_next, ledger_of}
+use Rattle.ps_store.specs.Histories.{TellsOne}
 use Rattle.ps_store.specs.Limits.{greatest, AreWithin}
 use Rattle.ps_store.specs.Originals.{Timed, timed}
 use Rattle.ps_store.specs.Plans.{IsStart, IsRun}
@@ -25,6 +26,7 @@ use Rattle.ps_store.specs.Totals.{HaveRoom}
 use Rattle.ps_store.proofs.Counting.{low_names}
 use Rattle.ps_store.proofs.Advancing.{not_falling}
 use Rattle.ps_store.proofs.Coming.{stands_event, stands_still}
+use Rattle.ps_store.proofs.OneGeneration.{tells_one}
 use Rattle.ps_store.proofs.Refusing.{refused_is, refusal_there}
 use Rattle.ps_store.proofs.StoreStands.{stands_same, is_start, narrow_rows, newer, counted, rows_are_there, stands_written, last_of_run, within_limit, count_there, ops_count, low_of_run, ops_low, count_low}
 
@@ -40,6 +42,9 @@ module _ (fixed : Fixed) (old : Store) (history : List Event) (h : StoreStandsFo
   abbrev l : Ledger
   l = ledger_of fixed.rules history
 
+  one : TellsOne fixed.rules l
+  one = tells_one fixed.rules history h.legal h.plain
+
   abbrev run : Run
   run = run_from old.fixed.limits l 0 (take limit (unwritten l))
 
@@ -47,7 +52,7 @@ module _ (fixed : Fixed) (old : Store) (history : List Event) (h : StoreStandsFo
   entries_low = (usual fixed old history h).entries
 
   is_run : IsRun old.fixed.rules old.rows l planned (take limit (unwritten l)) run
-  is_run = subst (λ (us : List Timed). IsRun old.fixed.rules old.rows l planned (take limit us) (run_from old.fixed.limits l 0 (take limit us))) h.stands.changes (said l (is_start old l h.stands))
+  is_run = subst (λ (us : List Timed). IsRun old.fixed.rules old.rows l planned (take limit us) (run_from old.fixed.limits l 0 (take limit us))) h.stands.changes (said l (is_start old l one.number one.wrote h.stands))
 
   next_is : next_run fixed history limit ≡ run
   next_is = ap (λ (f : Fixed). run_from f.limits l 0 (take limit (unwritten l))) (sym h.fixed_is)
@@ -138,12 +143,12 @@ module _ (fixed : Fixed) (old : Store) (history : List Event) (h : StoreStandsFo
         subst (λ (n : ℕ). (fold write_next l (take n (unwritten l))).last ≤ greatest) (sym count)
         (omega (arith, within_limit old l h.stands entries_low limit planned is_run mid same new filled, (usual fixed old history h).ops)) in
         let there_are : wrote.changes ≤ length (unwritten l) = omega (arith, count, count_there old l h.stands entries_low limit planned is_run mid same new filled) in
-        let one : 1 ≤ wrote.changes = not_none wrote.changes (λ e. some (sym changes ∙ e)) in (
-          one,
+        let some_there : 1 ≤ wrote.changes = not_none wrote.changes (λ e. some (sym changes ∙ e)) in (
+          some_there,
           count ∙ ap (λ (r : Run). r.count) (sym next),
           last_is ∙ ap (λ (r : Run). r.ledger.last) (sym next),
           ap (λ (n : ℕ). l.last + n) ops ∙ ops_count old l h.stands entries_low limit planned is_run ∙ sym last_is,
-          stands_event fixed old new history (Write wrote.changes) h (filled.fixed ∙ same.fixed) (one, there_are, within)
+          stands_event fixed old new history (Write wrote.changes) h refl (filled.fixed ∙ same.fixed) (some_there, there_are, within)
               (subst (λ (n : ℕ). Stands new (fold write_next l (take n (unwritten l)))) (sym count) (stands_written old l h.stands entries_low limit planned is_run mid same new filled)),
         )
       where

@@ -21,6 +21,9 @@ use Rattle.ps_store.specs.declared.stores.Checkpoint.{Checkpoint}
 use Rattle.ps_store.specs.declared.stores.Store.{Store}
 use Rattle.ps_store.specs.declared.tails.Tail.{Tail}
 use Rattle.ps_store.specs.declared.totals.Totals.{Totals}
+use Rattle.ps_definitions.specs.RuleSets.{AreRules}
+use Rattle.ps_store.specs.Histories.{TellsOne}
+use Rattle.ps_store.specs.Laws.{HaveNumbers}
 use Rattle.ps_store.specs.Ledgers.{Ledger, timed_of, end_of, head_of, ledger_of, last_number, made_by}
 use Rattle.ps_store.specs.Limits.{greatest, AreWithin}
 use Rattle.ps_store.specs.Originals.{Timed}
@@ -30,19 +33,23 @@ use Rattle.ps_store.specs.StoreLogs.{log_at}
 use Rattle.ps_store.specs.Totals.{totals_of, with_transaction}
 use Rattle.ps_store.specs.Stores.{StoreStandsFor, Feeds, Commits, IsKept, Uploads, MakesNumber}
 use Rattle.ps_store.proofs.Coming.{stands_event, stands_still}
+use Rattle.ps_store.proofs.OneGeneration.{tells_one}
 use Rattle.ps_store.proofs.StoreStands.{unwritten_fed, head_fed, kept_fed, index_fed, kept_commit, index_commit, kept_fresh, numbers_later}
 
 -- nothing is fed
-pub stands_fresh : (store : Store) → AreWithin store.fixed.limits → ((bucket : List ℕ) → log_at store.logs bucket ≡ []) → ((key : Key) → row_at store.rows key ≡ None)
+pub stands_fresh : (store : Store) → AreWithin store.fixed.limits → AreRules store.fixed.rules → HaveNumbers store.fixed.rules.definitions → ((bucket : List ℕ) → log_at store.logs bucket ≡ []) → ((key : Key) → row_at store.rows key ≡ None)
     → store.tail.changes.items ≡ [] → reached store.tail.reach ≡ record { position = 0; op = 0; over = 0; left = [] }
     → store.index.rules ≡ store.fixed.rules → store.index.notes ≡ [] → store.index.last ≡ 0 → store.index.forgotten ≡ 0
     → store.last.0 ≡ 0 → store.totals ≡ record { transactions = 0; changes = 0; operations = 0; buckets = 0; sum = record { 0 = 0 } } → store.checkpoint.position.0 ≡ 0 → store.checkpoint.op.0 ≡ 0 → store.head.0 ≡ 0 → store.closed ≡ false
     → StandsFor store.numbers [] → store.numbers.top ≡ store.fixed.limits.numbers → store.numbers.head ≡ 0
     → StoreStandsFor store.fixed store []
-stands_fresh store limits logs rows changes reach rules notes index_last forgotten last totals position op head closed made top number_head = record {
+stands_fresh store limits are query_numbers logs rows changes reach rules notes index_last forgotten last totals position op head closed made top number_head = record {
   fixed_is = refl;
   limits = limits;
+  rules = are;
+  query_numbers = query_numbers;
   legal = tt;
+  plain = refl;
   stands = record {
     rules = refl;
     logs = logs;
@@ -69,6 +76,9 @@ stands_fresh store limits logs rows changes reach rules notes index_last forgott
 module _ (fixed : Fixed) (old : Store) (history : List Event) (h : StoreStandsFor fixed old history) where
   abbrev l : Ledger
   l = ledger_of fixed.rules history
+
+  one : TellsOne fixed.rules l
+  one = tells_one fixed.rules history h.legal h.plain
 
   -- ---- a transaction is fed
 
@@ -107,14 +117,14 @@ module _ (fixed : Fixed) (old : Store) (history : List Event) (h : StoreStandsFo
   feed_done t tail totals few counted is later low changes reach =
       let past : head_of l.fed < t.position.0 = omega (arith, later, h.stands.head) in
       let within = h.stands.kept.within in
-      stands_event fixed old (record old { tail = tail; totals = totals; head = t.position }) history (Feed t) h refl (sym h.stands.closed ∙ is, past, low) (record {
+      stands_event fixed old (record old { tail = tail; totals = totals; head = t.position }) history (Feed t) h refl refl (sym h.stands.closed ∙ is, past, low) (record {
         rules = h.stands.rules;
         logs = h.stands.logs;
         changes = changes ∙ ap (λ (us : List Timed). us ++ timed_of t) h.stands.changes ∙ sym (unwritten_fed l t within);
         reach =
             reach
             ∙ ap (λ (r : Reached). settled old.last.0 (record r { left = r.left ++ end_of t ∷ [] })) h.stands.reach
-            ∙ ap (λ (n : ℕ). settled n (record l.reach { left = l.reach.left ++ end_of t ∷ [] })) h.stands.last;
+            ∙ ap (λ (n : ℕ). settled n (record l.reach { left = l.reach.left ++ end_of t ∷ [] })) (h.stands.last ∙ sym one.wrote);
         rows = h.stands.rows;
         index = index_fed old.fixed.limits l t past low few old.index within h.stands.index;
         last = h.stands.last;
@@ -162,7 +172,7 @@ module _ (fixed : Fixed) (old : Store) (history : List Event) (h : StoreStandsFo
   -- ---- nothing more is fed
 
   pub close_done : StoreStandsFor fixed (record old { closed = true }) (history ++ Close ∷ [])
-  close_done = stands_event fixed old (record old { closed = true }) history Close h refl tt (record {
+  close_done = stands_event fixed old (record old { closed = true }) history Close h refl refl tt (record {
     rules = h.stands.rules;
     logs = h.stands.logs;
     changes = h.stands.changes;
@@ -206,13 +216,14 @@ module _ (fixed : Fixed) (old : Store) (history : List Event) (h : StoreStandsFo
       → Commits fixed history (record old { index = index; checkpoint = checkpoint }) (Ok checkpoint)
   commit_done checkpoint index position op apart rules last forgotten notes =
       let at : checkpoint.position.0 ≡ l.reach.position = position ∙ ap (λ (r : Reached). r.position) h.stands.reach in
-      let op_at : checkpoint.op.0 ≡ l.reach.op = op ∙ ap (λ (r : Reached). r.op) h.stands.reach in
+      let same : l.reach.op ≡ max l.op l.reach.op = omega (arith, one.op) in
+      let op_at : checkpoint.op.0 ≡ max l.op l.reach.op = op ∙ ap (λ (r : Reached). r.op) h.stands.reach ∙ same in
       let up : l.position ≤ l.reach.position = h.stands.kept.checkpoint in
       let can : l.position < l.reach.position = past l.position l.reach.position up (λ e. apart (sym position ∙ at ∙ sym e ∙ sym h.stands.position)) in
       let floor : index.forgotten ≡ max old.index.forgotten l.reach.position = forgotten ∙ ap (λ (n : ℕ). max old.index.forgotten n) at in (
         at,
         op_at,
-        stands_event fixed old (record old { index = index; checkpoint = checkpoint }) history Commit h refl can (record {
+        stands_event fixed old (record old { index = index; checkpoint = checkpoint }) history Commit h refl refl can (record {
           rules = h.stands.rules;
           logs = h.stands.logs;
           changes = h.stands.changes;
@@ -274,7 +285,7 @@ module _ (fixed : Fixed) (old : Store) (history : List Event) (h : StoreStandsFo
       let low : last_number l user client < greatest = omega (arith, less, h.limits.numbers) in
       let one : (record { user = user; client = client; head = old.head }) ≡ made_by user client l.fed =
       ap (λ (n : ℕ). record { user = user; client = client; head = record { 0 = n } }) h.stands.head in
-      stands_event fixed old (record old { numbers = numbers }) history (WriteCheckpoint user client) h refl low (record {
+      stands_event fixed old (record old { numbers = numbers }) history (WriteCheckpoint user client) h refl refl low (record {
         rules = h.stands.rules;
         logs = h.stands.logs;
         changes = h.stands.changes;

@@ -19,12 +19,16 @@ use Rattle.ps_store.specs.declared.fixed.Limits.{Limits}
 use Rattle.ps_store.specs.declared.logs.Logs.{Logs}
 use Rattle.ps_store.specs.declared.stores.Store.{Store}
 use Rattle.ps_store.specs.Ledgers.{Ledger, fresh, ledger_after, ledger_of, compacted_in, IsLegal}
+use Rattle.ps_store.specs.Generations.{is_of}
+use Rattle.ps_store.specs.Readings.{log_length_of}
 use Rattle.ps_store.specs.LogLaws.{LogStands, LogsStand}
 use Rattle.ps_store.specs.Originals.{in_bucket}
 use Rattle.ps_store.specs.StoreLogs.{log_at, has_ops}
 use Rattle.ps_store.specs.Stores.{IsKept, StoreStandsFor, Compacts}
 use Rattle.ps_store.proofs.Coming.{ledger_push, legal_push, stands_event, stands_still}
 use Rattle.ps_store.proofs.Counting.{has_ops_append}
+use Rattle.ps_store.proofs.Marks.{some_in}
+use Rattle.ps_store.proofs.OneGeneration.{reads_one, own_entered}
 use Rattle.ps_store.proofs.Upto.{newest_up, all_upto}
 
 -- ---- a compacted log has operations where the log has
@@ -135,6 +139,10 @@ some_from : (ops : List Op) → has_ops ops ≡ true → ops ≢ []
 some_from [] h = absurd (cc)
 some_from (op ∷ ops) h = λ e. cc
 
+none_forced : (b : Bool) (ops : List Op) → ops ≡ [] → (if b then ops else []) ≡ []
+none_forced true ops h = h
+none_forced false ops h = refl
+
 some_ops : (ops : List Op) → (length ops ≡ 0 → ⊥) → has_ops ops ≡ true
 some_ops [] h = absurd (h refl)
 some_ops (op ∷ ops) h = refl
@@ -143,16 +151,30 @@ module _ (fixed : Fixed) (old : Store) (history : List Event) (h : StoreStandsFo
   abbrev l : Ledger
   l = ledger_of fixed.rules history
 
-  pub compact_none : length (l.log name) ≡ 0 → Compacts fixed history name old (Err compacting.NoBucket)
-  compact_none none = (none_from (in_bucket name l.entered) (sym (h.stands.kept.filled name) ∙ ap has_ops (no_ops (l.log name) none)), h)
+  -- what is told of the log's length is it, with one generation
+  length_is : log_length_of l name ≡ length (l.log name)
+  length_is = (reads_one fixed.rules history h.legal h.plain).length_is name
 
-  can : (length (l.log name) ≡ 0 → ⊥) → in_bucket name l.entered ≢ []
-  can some = some_from (in_bucket name l.entered) (sym (h.stands.kept.filled name) ∙ some_ops (l.log name) some)
+  pub compact_none : log_length_of l name ≡ 0 → Compacts fixed history name old (Err compacting.NoBucket)
+  compact_none none = (
+    none_forced (is_of l.force.number name) (in_bucket name l.entered)
+        (none_from (in_bucket name l.entered) (sym (h.stands.kept.filled name) ∙ ap has_ops (no_ops (l.log name) (sym length_is ∙ none)))),
+    h,
+  )
 
-  pub compact_wants : (length (l.log name) ≡ 0 → ⊥) → (logs : Logs) → ((bucket : List ℕ) → log_at logs bucket ≡ log_at old.logs bucket)
+  has_some : (log_length_of l name ≡ 0 → ⊥) → in_bucket name l.entered ≢ []
+  has_some some = some_from (in_bucket name l.entered) (sym (h.stands.kept.filled name) ∙ some_ops (l.log name) (λ none. some (length_is ∙ none)))
+
+  is_own : (log_length_of l name ≡ 0 → ⊥) → is_of l.force.number name ≡ true
+  is_own some = some_in l.force.number name l.entered (own_entered fixed.rules history h.rules h.legal h.plain) (has_some some)
+
+  can : (log_length_of l name ≡ 0 → ⊥) → (is_of l.force.number name ≡ true) × (in_bucket name l.entered ≢ [])
+  can some = (is_own some, has_some some)
+
+  pub compact_wants : (log_length_of l name ≡ 0 → ⊥) → (logs : Logs) → ((bucket : List ℕ) → log_at logs bucket ≡ log_at old.logs bucket)
       → Compacts fixed history name (record old { logs = logs }) (Err compacting.Memory)
   compact_wants some logs same = (
-    can some,
+    subst (λ (b : Bool). (if b then in_bucket name l.entered else []) ≢ []) (sym (is_own some)) (has_some some),
     stands_still fixed old (record old { logs = logs }) history h refl (record {
       rules = h.stands.rules;
       logs = λ bucket. same bucket ∙ h.stands.logs bucket;
@@ -172,12 +194,12 @@ module _ (fixed : Fixed) (old : Store) (history : List Event) (h : StoreStandsFo
   )
 
   -- whichever fault is told, it is the want of memory
-  pub compact_faults : (length (l.log name) ≡ 0 → ⊥) → (logs : Logs) → ((bucket : List ℕ) → log_at logs bucket ≡ log_at old.logs bucket)
+  pub compact_faults : (log_length_of l name ≡ 0 → ⊥) → (logs : Logs) → ((bucket : List ℕ) → log_at logs bucket ≡ log_at old.logs bucket)
       → (result : Result Report CompactFault) → IsErrAnd result (λ fault. fault ≡ compacting.Memory) → Compacts fixed history name (record old { logs = logs }) result
   compact_faults some logs same (Ok report) is = absurd is
   compact_faults some logs same (Err fault) is = subst (λ (f : CompactFault). Compacts fixed history name (record old { logs = logs }) (Err f)) (sym is) (compact_wants some logs same)
 
-  pub compact_done : LogsStand → StandingIsLog → SameSums → (length (l.log name) ≡ 0 → ⊥) → (logs : Logs) (report : Report)
+  pub compact_done : LogsStand → StandingIsLog → SameSums → (log_length_of l name ≡ 0 → ⊥) → (logs : Logs) (report : Report)
       → ((bucket : List ℕ) → log_at logs bucket ≡ compacted_in name old.checkpoint.op.0 (log_at old.logs) bucket) → report ≡ report_of old.checkpoint.op.0 (log_at old.logs name)
       → Compacts fixed history name (record old { logs = logs }) (Ok report)
   compact_done law is_log sums some logs report said counted =
@@ -185,7 +207,7 @@ module _ (fixed : Fixed) (old : Store) (history : List Event) (h : StoreStandsFo
       let stand : (bucket : List ℕ) → LogStands (ledger_after l (Compact name)) bucket = λ bucket.
       subst (λ (n : Ledger). LogStands n bucket) (ledger_push fixed.rules history (Compact name)) (law fixed.rules (history ++ Compact name ∷ []) legal bucket) in (
         counted ∙ ap (λ (n : ℕ). report_of n (log_at old.logs name)) h.stands.op ∙ ap (report_of l.op) (h.stands.logs name),
-        stands_event fixed old (record old { logs = logs }) history (Compact name) h refl (can some) (record {
+        stands_event fixed old (record old { logs = logs }) history (Compact name) h refl refl (can some) (record {
           rules = h.stands.rules;
           logs = λ bucket.
               said bucket

@@ -5,9 +5,11 @@ use Rattle.std.specs.List.{AllByRecursion}
 use Rattle.std.proofs.lemmas.Bool.{and_from}
 use Rattle.std.proofs.lemmas.List.Sums.{fold-append}
 use Rattle.std.specs.List.Sorted.{IsStrictlySortedBy}
-use Rattle.std.specs.Ordering.{nat_cmp}
+use Rattle.std.specs.Ordering.{nat_cmp, ordering_then}
+use Rattle.std.specs.Cmp.{tied_itself, nat_cmp_total}
 use Rattle.std.specs.Cmp.Lexicographic.{slice_cmp}
-use Rattle.std.specs.declared.cmp.Ordering.TheVariants.{Less}
+use Rattle.std.specs.declared.cmp.Ordering.{Ordering}
+use Rattle.std.specs.declared.cmp.Ordering.TheVariants.{Less, Equal}
 use Rattle.std.proofs.lemmas.Slice.Eq.{bytes_eq-Decides}
 use Rattle.ps_data.specs.declared.ids.Position.{Position}
 use Rattle.ps_bucket_log.specs.declared.ops.Key.{Key}
@@ -25,7 +27,7 @@ use Rattle.ps_queries.specs.Vectors.{SourceRow}
 use Rattle.ps_definitions.specs.Vectors.{parameter_vectors}
 use Rattle.ps_granted.specs.Sources.{rows_in}
 use Rattle.ps_definitions.specs.Buckets.{bucket_name_of}
-use Rattle.ps_params.specs.Names.{definition_names, bucket_names, IsTold, AreTold}
+use Rattle.ps_params.specs.Names.{definition_names, bucket_names}
 use Rattle.ps_store.specs.declared.events.Event.{Event}
 use Rattle.ps_store.specs.declared.events.Event.TheVariants.{WriteCheckpoint}
 use Rattle.ps_bucket_log.specs.declared.takes.TakenBucket.{TakenBucket}
@@ -35,17 +37,19 @@ use Rattle.ps_store.specs.Laws.{Rises as RisesFrom, HaveNumbers, AreSqlVectors, 
 use Rattle.ps_store.specs.Ledgers.{Ledger, fresh, head_of, heads_in, last_number, made_by, ledger_after, ledger_of, IsLegalFrom, IsLegal}
 use Rattle.ps_store.specs.Limits.{greatest}
 use Rattle.ps_store.specs.LedgerLaws.{checkpoint_held, checkpoint_source, CommittedRowsAreDue}
-use Rattle.ps_store.specs.Readings.{names_of, bucket_upto, covered_of, heads_for}
+use Rattle.ps_store.specs.Generations.{mark_of, is_of as in_generation, Ending, Ended, Switched, Abandoned, ending_of}
+use Rattle.ps_store.specs.Readings.{with_mark, names_of, IsToldBehindMark, AreTold, bucket_upto, covered_of, heads_for}
 use Rattle.ps_store.specs.Standing.{Holding}
 use Rattle.ps_store.specs.StepLaws.{HoldsLaneBuckets, transactions_upto}
-use Rattle.ps_store.proofs.Committing.{whole_ledger}
-use Rattle.ps_store.proofs.Growing.{IsSound, IsLater, entries_lower, sound_fresh, heads_push, sound_after, sound_at, later_at, later_whole, later_end, legal_at, legal_parts}
-use Rattle.ps_store.proofs.Lawful.{BucketLaws, KeepsLogs, KeepsTakes, lawful}
+use Rattle.ps_store.proofs.Committed.{asked_of}
+use Rattle.ps_store.proofs.Endings.{well_at, GoesOn, goes_at, lives, ends_later}
+use Rattle.ps_store.proofs.Going.{IsWell, well_fresh}
+use Rattle.ps_store.proofs.Growing.{IsSound, IsLater, entries_lower, sound_fresh, heads_push, sound_after, sound_at, later_at, later_whole, later_end, legal_at, legal_parts, last_at, rises_at}
+use Rattle.ps_store.proofs.Lawful.{BucketLaws, EndsWithin, EndsPast, KeepsLogs, KeepsTakes, lawful}
 use Rattle.ps_store.proofs.Fronts.{is_le, le_from}
 use Rattle.ps_store.proofs.Members.{Has, has_left, has_right, has_cases, has_filter, from_filter, has_map, from_map, has_flat, from_flat, has_contains, contains_has}
 use Rattle.ps_store.proofs.Ordered.{NamesRise, in_order_rise, has_in_order, from_in_order, names_sorted, never_below}
-use Rattle.ps_store.proofs.Taking.{names_kept}
-use Rattle.ps_store.proofs.Telling.{take_append, head_above}
+use Rattle.ps_store.proofs.Reaching.{take_append, head_above}
 
 -- ---- places
 
@@ -58,6 +62,11 @@ places_stay rules history more n within = ap (ledger_of rules) (take_append n hi
 
 pub ends_are_whole : EndsAreWhole
 ends_are_whole rules history = ap (ledger_of rules) (take_whole history)
+
+-- what is taken of buckets has their names
+names_kept : (op : ℕ) (log : List ℕ → List Op) (names : List (List ℕ)) → names ≡ map (λ (b : TakenBucket). b.name) (map (λ (name : List ℕ). bucket_upto op name (log name)) names)
+names_kept op log [] = refl
+names_kept op log (name ∷ names) = ap (λ ns. name ∷ ns) (names_kept op log names)
 
 -- ---- the buckets of names
 
@@ -121,15 +130,35 @@ module _ (definitions : List Definition) (asker : Asker) (rows : List SourceRow)
       (has_map (bucket_name_of b.0.name) (parameter_vectors b.0 asker rows) b.1 (contains_has (parameter_vectors b.0 asker rows) b.1 b.3))))
 
   -- their names tell that the vectors are of integers of 64 bits
-  vectors_told : AllByRecursion IsSoundDefinition definitions → AreTold (bucket_names definitions asker rows) → AreSqlVectors definitions asker rows
-  vectors_told sound names definition values i j =
-      let name = bucket_name_of definition.name values in
-      let one : IsTold name = at_name IsTold (bucket_names definitions asker rows) name names (has_bucket name (definition, values, i, j, refl)) in
-      one definition.name values (at_name IsSoundDefinition definitions definition sound (contains_has definitions definition i)).name refl
+  vectors_told : (number : ℕ) → number ≤ greatest → AllByRecursion IsSoundDefinition definitions → AreTold (with_mark number (bucket_names definitions asker rows)) → AreSqlVectors definitions asker rows
+  vectors_told number low sound names definition values i j =
+      let plain = bucket_name_of definition.name values in
+      let there : Has (with_mark number (bucket_names definitions asker rows)) (mark_of number ++ plain) =
+      has_map (λ (name : List ℕ). mark_of number ++ name) (bucket_names definitions asker rows) plain (has_bucket plain (definition, values, i, j, refl)) in
+      let one : IsToldBehindMark (mark_of number ++ plain) = at_name IsToldBehindMark (with_mark number (bucket_names definitions asker rows)) (mark_of number ++ plain) names there in
+      one number plain low refl definition.name values (at_name IsSoundDefinition definitions definition sound (contains_has definitions definition i)).name refl
     where
       at_name : {X : Type 0} (P : X → Type 0) (xs : List X) (x : X) → AllByRecursion P xs → Has xs x → P x
       at_name P [] x h i = absurd i
       at_name P (y ∷ ys) x h i = elim i [ inl e ↦ subst P e h.0 | inr t ↦ at_name P ys x h.1 t ]
+
+-- ---- names behind a mark
+
+nat_itself : (n : ℕ) → nat_cmp n n ≡ Equal
+nat_itself n = tied_itself nat_cmp_total n
+
+behind_mark : (mark a b : List ℕ) → slice_cmp nat_cmp (mark ++ a) (mark ++ b) ≡ slice_cmp nat_cmp a b
+behind_mark [] a b = refl
+behind_mark (n ∷ mark) a b = ap (λ (o : Ordering). ordering_then o (slice_cmp nat_cmp (mark ++ a) (mark ++ b))) (nat_itself n) ∙ behind_mark mark a b
+
+marked_rise : (number : ℕ) (names : List (List ℕ)) → NamesRise names → NamesRise (with_mark number names)
+marked_rise number [] h = tt
+marked_rise number (x ∷ xs) h = (
+  λ y i.
+      let r = from_map (λ (name : List ℕ). mark_of number ++ name) xs y i in
+      subst (λ (z : List ℕ). slice_cmp nat_cmp (mark_of number ++ x) z ≡ Less) r.2 (behind_mark (mark_of number) x r.0 ∙ h.0 r.0 r.1),
+  marked_rise number xs h.1,
+)
 
 -- ---- a course
 
@@ -278,52 +307,103 @@ module _ (laws : StoreLaws) (rules : RuleSet) (history : List Event) (asker : As
   legal_place : (n : ℕ) → IsLegal rules (take n history)
   legal_place n = legal_at history (fresh rules) n legal
 
-  keeps_logs : KeepsLogs course (λ n bucket. (place n).log bucket) (λ n bucket. (place n).level bucket)
+  well : (n : ℕ) → IsWell (place n)
+  well n = well_at history (fresh rules) n legal (well_fresh rules are numbers)
+
+  goes : (n m : ℕ) → n ≤ m → GoesOn (place n) (place m)
+  goes n m low = goes_at history (fresh rules) n m legal (well_fresh rules are numbers) low
+
+  last_low : (n : ℕ) → (place n).last ≤ greatest
+  last_low n = last_at history (fresh rules) n legal (omega arith)
+
+  -- ---- names
+
+  abbrev rows : ℕ → List SourceRow
+  rows n = rows_in (checkpoint_source rules (take n history))
+
+  abbrev plain_names : ℕ → List (List ℕ)
+  plain_names n = bucket_names (place n).force.rules.definitions asker (rows n)
+
+  -- a name of a take is of the generation in force
+  named_of : (n : ℕ) (name : List ℕ) → Has (names_of (place n) asker) name → in_generation (place n).force.number name ≡ true
+  named_of n name h =
+      let r = from_map (λ (x : List ℕ). mark_of (place n).force.number ++ x) (plain_names n) name h in
+      subst (λ (x : List ℕ). in_generation (place n).force.number x ≡ true) r.2
+      (asked_of (place n).force.rules (place n).force.number asker (rows n) r.0 (well n).force.are (is_bucket (place n).force.rules.definitions asker (rows n) r.0 r.1))
+
+  taken_of : (n : ℕ) (name : List ℕ) (bucket : TakenBucket) → bucket_in name (course.take n).buckets ≡ Some bucket → in_generation (place n).force.number name ≡ true
+  taken_of n name bucket is = named_of n name (from_told (place n).op (place n).log (names_of (place n) asker) name (ap is_some is))
+
+  within_op : (n : ℕ) (name : List ℕ) → EndsWithin (place n).op (ending_of name (place n).ended)
+  within_op n name = find (place n).ended (sound n).ended
+    where
+      find : (es : List Ended) → ((e : Ended) → Has es e → EndsWithin (place n).op (Some e.ending)) → EndsWithin (place n).op (ending_of name es)
+      find [] h = tt
+      find (e ∷ es) h = by (in_generation e.lane.number name) (find es (λ x i. h x (inr i)))
+        where
+          by : (b : Bool) → EndsWithin (place n).op (ending_of name es) → EndsWithin (place n).op (if b then Some e.ending else ending_of name es)
+          by true rest = h e (inl refl)
+          by false rest = rest
+
+  past_lower : (p q : ℕ) (o : Option Ending) → p ≤ q → EndsPast q o → EndsPast p o
+  past_lower p q None le h = tt
+  past_lower p q (Some (Switched id)) le h = omega (arith, le, h)
+  past_lower p q (Some Abandoned) le h = h
+
+  abbrev ending : ℕ → List ℕ → Option Ending
+  ending n name = ending_of name (place n).ended
+
+  keeps_logs : KeepsLogs course (λ n bucket. (place n).log bucket) (λ n bucket. (place n).level bucket) ending
   keeps_logs = record {
     op = λ n m low. (later n m low).op;
-    greatest_op = λ n. omega (arith, (sound n).op_low, (sound n).reach_low, (sound n).last_low);
+    greatest_op = λ n. omega (arith, (sound n).op_low, last_low n);
     entries = λ n name. (sound n).entries name;
     grows = λ n m name low.
         let grown = (later n m low).grows name in
         record {
           more = grown.more;
           is = grown.is;
-          past_op = entries_lower (place n).op (place n).last grown.more (omega (arith, (sound n).op_low, (sound n).reach_low)) grown.past_op;
+          past_op = entries_lower (place n).op (place n).last grown.more (sound n).op_low grown.past_op;
         };
     stands = λ n name. (sound n).stands name;
     level_low = λ n name. (sound n).level_low name;
     batch = λ n low high name. refl;
+    within = within_op;
     takes = λ n name bucket is.
         let told_is = told_by (place n).op (place n).log (names_of (place n) asker) name bucket is in
-        record { sum = ap (λ (b : TakenBucket). b.sum.0) told_is; newest_is = ap (λ (b : TakenBucket). b.newest.0) told_is };
+        record {
+          lives = lives (place n) name (well n) (taken_of n name bucket is);
+          sum = ap (λ (b : TakenBucket). b.sum.0) told_is;
+          newest_is = ap (λ (b : TakenBucket). b.newest.0) told_is;
+        };
+    ends = λ n m name bucket low is.
+        past_lower (place n).op (place n).last (ending m name) (sound n).op_low (ends_later (place n) (place m) name (well n) (well m) (goes n m low) (taken_of n name bucket is));
   }
 
-  -- the names of a place are those of the asker's buckets
-  names_at : (n : ℕ) → names_of (place n) asker ≡ bucket_names rules.definitions asker (rows_in (checkpoint_source rules (take n history)))
-  names_at n = ap (λ (r : RuleSet). bucket_names r.definitions asker (rows_in (checkpoint_source rules (take n history)))) (whole_ledger rules (take n history) (legal_place n)).keeps.rules_are
-
   module _ (n : ℕ) (held : Holding) (holds : HoldsTaken course n held) where
-    abbrev rows : List SourceRow
-    rows = rows_in (checkpoint_source rules (take n history))
+    abbrev number : ℕ
+    number = (place n).force.number
 
-    holds_buckets : HoldsLaneBuckets [] rules.definitions asker rows (checkpoint_held rules (take n history)) held
+    abbrev definitions : List Definition
+    definitions = (place n).force.rules.definitions
+
+    holds_buckets : HoldsLaneBuckets (mark_of number) definitions asker (rows n) (checkpoint_held rules (take n history)) held
     holds_buckets = record {
-      own = λ bucket is key. holds.own bucket
-          (is_told (place n).op (place n).log (names_of (place n) asker) bucket (subst (λ (ns : List (List ℕ)). Has ns bucket) (sym (names_at n)) (has_bucket rules.definitions asker rows bucket is))) key;
+      own = λ bucket is key. holds.own (mark_of number ++ bucket)
+          (is_told (place n).op (place n).log (names_of (place n) asker) (mark_of number ++ bucket)
+          (has_map (λ (name : List ℕ). mark_of number ++ name) (plain_names n) bucket (has_bucket definitions asker (rows n) bucket is))) key;
       only = λ bucket key some. by bucket key some (is_in (course.take n).buckets bucket) refl;
     }
       where
         by : (bucket : List ℕ) (key : Key) → held bucket key ≢ None → (b : Bool) → is_in (course.take n).buckets bucket ≡ b
-            → (name : List ℕ) × (bucket ≡ [] ++ name) × IsBucketOf rules.definitions asker rows name
-        by bucket key some true is = (
-          bucket,
-          refl,
-          is_bucket rules.definitions asker rows bucket (subst (λ (ns : List (List ℕ)). Has ns bucket) (names_at n) (from_told (place n).op (place n).log (names_of (place n) asker) bucket is)),
-        )
+            → (name : List ℕ) × (bucket ≡ mark_of number ++ name) × IsBucketOf definitions asker (rows n) name
+        by bucket key some true is =
+            let r = from_map (λ (name : List ℕ). mark_of number ++ name) (plain_names n) bucket (from_told (place n).op (place n).log (names_of (place n) asker) bucket is) in
+            (r.0, sym r.2, is_bucket definitions asker (rows n) r.0 r.1)
         by bucket key some false is = absurd (some (holds.only bucket is key))
 
   names_rise : (n : ℕ) → NamesRise (names_of (place n) asker)
-  names_rise n = in_order_rise (flat_map (definition_names asker (rows_in (checkpoint_source rules (take n history)))) (place n).force.rules.definitions)
+  names_rise n = marked_rise (place n).force.number (plain_names n) (in_order_rise (flat_map (definition_names asker (rows n)) (place n).force.rules.definitions))
 
   keeps_takes : KeepsTakes course
   keeps_takes = record {
@@ -331,17 +411,18 @@ module _ (laws : StoreLaws) (rules : RuleSet) (history : List Event) (asker : As
     number = λ n. numbers_low laws.grows laws.stands laws.buckets.itself laws.compacted rules history asker n legal laws.greatest;
     rise = λ n. subst (IsStrictlySortedBy (slice_cmp nat_cmp)) (names_kept (place n).op (place n).log (names_of (place n) asker)) (names_sorted (names_of (place n) asker) (names_rise n));
     apart = λ n. told_apart (place n).op (place n).log (names_of (place n) asker) (names_rise n);
-    position = λ n m low. (later n m low).position;
+    position = λ n m low. (goes n m low).position;
     rows = λ n held shown told holds shows.
-        let read : List SourceRow = rows_in (checkpoint_source rules (take n history)) in
-        let wide : AreSqlVectors rules.definitions asker read =
-        vectors_told rules.definitions asker read are.sound (subst AreTold (sym (names_kept (place n).op (place n).log (names_of (place n) asker)) ∙ names_at n) told) in
+        let w = well n in
+        let wide : AreSqlVectors (place n).force.rules.definitions asker (rows n) =
+        vectors_told (place n).force.rules.definitions asker (rows n) (place n).force.number (omega (arith, w.force.begun_is, w.begun_low)) w.force.are.sound
+        (subst AreTold (sym (names_kept (place n).op (place n).log (names_of (place n) asker))) told) in
         laws.rows rules (take n history) asker held shown are numbers (legal_place n) wide (holds_buckets n held holds) shows;
     covers = λ n upload is. uploads_covered laws.grows laws.stands laws.buckets.itself laws.compacted rules history asker n legal laws.greatest laws.before upload is;
   }
 
   pub course_lawful : IsLawful course
-  course_lawful = lawful laws.buckets course (λ n bucket. (place n).log bucket) (λ n bucket. (place n).level bucket) keeps_logs keeps_takes
+  course_lawful = lawful laws.buckets course (λ n bucket. (place n).log bucket) (λ n bucket. (place n).level bucket) ending keeps_logs keeps_takes
 
 module _ (grows : GrowsLater) (stands : StandsLater) (itself : StandsForItself) (compacts : CompactedStands) (rules : RuleSet) (front back : List Event) (asker : Asker) (client : List ℕ) where
   abbrev early : Ledger
@@ -371,7 +452,7 @@ module _ (grows : GrowsLater) (stands : StandsLater) (itself : StandsForItself) 
       ∙ append_assoc heads (head ∷ []) more.0 in
       let at : slice_get (heads_in (fold ledger_after asked back) asker.user client) (length heads) ≡ Some head = ap (λ (hs : List Position). slice_get hs (length heads)) all_heads ∙ next_head heads more.0 head in
       let there : Has (fold ledger_after asked back).fed t = subst (λ (fed : List Transaction). Has fed t) (sym later.fed.1) (has_left early.fed later.fed.0 t (contains_has early.fed t is)) in
-      let low : t.position.0 ≤ head.0 = fed_low early.fed 0 t (whole_ledger rules front parts.0).rises (contains_has early.fed t is) in
+      let low : t.position.0 ≤ head.0 = fed_low early.fed 0 t (rises_at front (fresh rules) parts.0 tt) (contains_has early.fed t is) in
       let number : 1 + length heads ≡ length heads + 1 = omega arith in
       has_contains (uploads_of (ledger_of rules all) asker) (upload_of (length heads + 1) t)
       (subst (λ (l : Ledger). Has (uploads_of l asker) (upload_of (length heads + 1) t)) (sym end)

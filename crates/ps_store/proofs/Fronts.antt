@@ -62,7 +62,7 @@ abbrev pub Climbs : ℕ → List Timed → Type 0
 Climbs q [] = Unit {0}
 Climbs q (t ∷ ts) = (q ≤ t.position) × Climbs t.position ts
 
-climbs_rise : (position index : ℕ) (ts : List Timed) → MomentsRise position index ts → Climbs position ts
+pub climbs_rise : (position index : ℕ) (ts : List Timed) → MomentsRise position index ts → Climbs position ts
 climbs_rise position index [] h = tt
 climbs_rise position index (t ∷ ts) h = (h.0.within, climbs_rise t.position (t.index + 1) ts h.1)
 

@@ -1,5 +1,5 @@
 -- Changes that are written next, one after the other.
-use Rattle.std.proofs.Common.{◌≡◌, ℕ, zero, suc, ◌+◌, ◌*◌, ◌≤◌, ◌<◌, Bool, true, false, not, cond, Option, Some, None, List, [], ◌∷◌, ◌++◌, refl, sym, ap, ◌∙◌, subst, length, filter, take, drop, fold, arith, append_assoc, append-nil, length-append}
+use Rattle.std.proofs.Common.{◌≡◌, ℕ, zero, suc, ◌+◌, ◌*◌, ◌≤◌, ◌<◌, Bool, true, false, not, cond, max, Option, Some, None, List, [], ◌∷◌, ◌++◌, refl, sym, ap, ◌∙◌, subst, length, filter, take, drop, fold, arith, append_assoc, append-nil, length-append}
 use Rattle.std.specs.Prelude.{bytes_eq, if◌then◌else◌, nat_lt}
 use Rattle.std.specs.FinMap.Entries.{find}
 use Rattle.std.specs.Ordering.{eq_by_cmp}
@@ -14,8 +14,10 @@ use Rattle.ps_bucket_eval.specs.declared.placed.Placed.{Placed}
 use Rattle.ps_store.specs.declared.fixed.Limits.{Limits}
 use Rattle.ps_store.specs.declared.plans.Refusal.{Refusal}
 use Rattle.ps_store.specs.declared.plans.Refusal.TheVariants.{TooWide, OpsFull}
-use Rattle.ps_store.specs.Ledgers.{Ledger, entries_after, next_ops, write_next}
-use Rattle.ps_store.specs.Originals.{Entered, Timed, key_of, after, entries_at, columns_of, standing_entries, stays, removed, put, leaving, numbered, in_bucket}
+use Rattle.ps_store.specs.Ledgers.{Ledger, entries_after, next_ops, newest_of, write_next}
+use Rattle.ps_store.specs.Originals.{Entered, Timed, key_of, after, entries_at, columns_of, standing_entries, stays, removed, put, leaving, numbered, change_ops, in_bucket}
+use Rattle.ps_store.specs.Steps.{marked}
+use Rattle.ps_store.specs.Generations.{mark_of}
 use Rattle.ps_store.specs.Runs.{Run, refusal_of, stopped, run_from, ops_from, lasts_from}
 use Rattle.ps_store.specs.StoreLogs.{with_op, Continue}
 use Rattle.ps_store.specs.Tails.{reach_after, with_row, rows_after}
@@ -39,13 +41,37 @@ ops_push (x ∷ ts) t l =
     ap (λ es. next_ops l x ++ es) (ops_push ts t (write_next l x))
     ∙ sym (append_assoc (next_ops l x) (ops_from (write_next l x) ts) (next_ops (fold write_next (write_next l x) ts) t))
 
-pub lasts_push : (ts : List Timed) (t : Timed) (l : Ledger) → lasts_from l (ts ++ t ∷ []) ≡ lasts_from l ts ++ (write_next (fold write_next l ts) t).last ∷ []
+pub lasts_push : (ts : List Timed) (t : Timed) (l : Ledger) → lasts_from l (ts ++ t ∷ []) ≡ lasts_from l ts ++ (write_next (fold write_next l ts) t).wrote ∷ []
 lasts_push [] t l = refl
-lasts_push (x ∷ ts) t l = ap (λ ns. (write_next l x).last ∷ ns) (lasts_push ts t (write_next l x))
+lasts_push (x ∷ ts) t l = ap (λ ns. (write_next l x).wrote ∷ ns) (lasts_push ts t (write_next l x))
 
 pub next_rules : (ts : List Timed) (l : Ledger) → (fold write_next l ts).force.rules ≡ l.force.rules
 next_rules [] l = refl
 next_rules (t ∷ ts) l = next_rules ts (write_next l t)
+
+pub next_number : (ts : List Timed) (l : Ledger) → (fold write_next l ts).force.number ≡ l.force.number
+next_number [] l = refl
+next_number (t ∷ ts) l = next_number ts (write_next l t)
+
+-- the operations of the first generation have no mark
+pub unmarked : (es : List Entered) → marked [] es ≡ es
+unmarked [] = refl
+unmarked (e ∷ es) = ap (λ rest. e ∷ rest) (unmarked es)
+
+first_unmarked : (number : ℕ) (es : List Entered) → number ≡ 1 → marked (mark_of number) es ≡ es
+first_unmarked number es first = ap (λ (n : ℕ). marked (mark_of n) es) first ∙ unmarked es
+
+pub next_plain : (l : Ledger) (t : Timed) → l.force.number ≡ 1 → next_ops l t ≡ change_ops l.force.rules.definitions l.force.source (l.last + 1) t
+next_plain l t first = first_unmarked l.force.number (change_ops l.force.rules.definitions l.force.source (l.last + 1) t) first
+
+-- where every id is of a Write, so is the last one
+pub greater : (last : ℕ) (ops : List Entered) → max last (newest_of last ops) ≡ last + length ops
+greater last [] = omega arith
+greater last (e ∷ es) = omega arith
+
+pub next_wrote : (ts : List Timed) (l : Ledger) → l.wrote ≡ l.last → (fold write_next l ts).wrote ≡ (fold write_next l ts).last
+next_wrote [] l h = h
+next_wrote (t ∷ ts) l h = next_wrote ts (write_next l t) (ap (λ (n : ℕ). max n (newest_of l.last (next_ops l t))) h ∙ greater l.last (next_ops l t))
 
 pub next_log : (bucket : List ℕ) (ts : List Timed) (l : Ledger) → (fold write_next l ts).log bucket ≡ l.log bucket ++ in_bucket bucket (ops_from l ts)
 next_log bucket [] l = sym (append-nil (l.log bucket))
@@ -121,13 +147,22 @@ before_of l t = standing_entries l.force.rules.definitions l.force.source (key_o
 abbrev gone_of : Ledger → Timed → List Placed
 gone_of l t = leaving (before_of l t) (entries_after l t)
 
+length_marked : (mark : List ℕ) (es : List Entered) → length (marked mark es) ≡ length es
+length_marked mark [] = refl
+length_marked mark (e ∷ es) = ap suc (length_marked mark es)
+
 length_change : (l : Ledger) (t : Timed) → length (next_ops l t) ≡ length (gone_of l t) + length (entries_after l t)
 length_change l t = omega (
   arith,
+  length_marked (mark_of l.force.number) (numbered removed (l.last + 1) (gone_of l t) ++ numbered put (l.last + 1 + length (gone_of l t)) (entries_after l t)),
   length-append (numbered removed (l.last + 1) (gone_of l t)) (numbered put (l.last + 1 + length (gone_of l t)) (entries_after l t)),
   length_numbered removed (l.last + 1) (gone_of l t),
   length_numbered put (l.last + 1 + length (gone_of l t)) (entries_after l t),
 )
+
+rises_marked : (mark : List ℕ) (es : List Entered) (p q : ℕ) → Rises p es q → Rises p (marked mark es) q
+rises_marked mark [] p q h = h
+rises_marked mark (e ∷ es) p q h = (h.0, h.1, rises_marked mark es (id_of e.op) q h.2)
 
 rises_change : (l : Ledger) (t : Timed) → Rises l.last (next_ops l t) (write_next l t).last
 rises_change l t =
@@ -138,7 +173,9 @@ rises_change l t =
     let b : Rises (l.last + length gone) (numbered put (l.last + 1 + length gone) left) (l.last + length gone + length left) =
     subst (λ n. Rises (l.last + length gone) (numbered put n left) (l.last + length gone + length left)) first (rises_numbered put (λ n x. (refl, refl)) left (l.last + length gone)) in
     let n : l.last + length gone + length left ≡ l.last + length (next_ops l t) = omega (arith, length_change l t) in
-    subst (λ q. Rises l.last (next_ops l t) q) n (rises_append (numbered removed (l.last + 1) gone) (numbered put (l.last + 1 + length gone) left) l.last (l.last + length gone) (l.last + length gone + length left) a b)
+    subst (λ q. Rises l.last (next_ops l t) q) n
+    (rises_marked (mark_of l.force.number) (numbered removed (l.last + 1) gone ++ numbered put (l.last + 1 + length gone) left) l.last (l.last + length gone + length left)
+    (rises_append (numbered removed (l.last + 1) gone) (numbered put (l.last + 1 + length gone) left) l.last (l.last + length gone) (l.last + length gone + length left) a b))
 
 pub rises_ops : (ts : List Timed) (l : Ledger) → Rises l.last (ops_from l ts) (fold write_next l ts).last
 rises_ops [] l = omega arith

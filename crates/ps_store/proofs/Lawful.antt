@@ -1,5 +1,5 @@
--- A course whose logs stand for their originals is lawful, by the laws of one bucket.
-use Rattle.std.proofs.Common.{◌≡◌, ◌≢◌, ℕ, ◌<◌, ◌≤◌, ◌⊎◌, inl, inr, Option, Some, None, IfSome, List, [], ◌++◌, sym, ◌∙◌, arith}
+-- A course whose logs stand for their originals is lawful, by the laws of one bucket; also where generations end.
+use Rattle.std.proofs.Common.{refl, ◌≡◌, ◌≢◌, ℕ, ◌<◌, ◌≤◌, ◌⊎◌, inl, inr, Option, Some, None, IfSome, List, [], ◌++◌, sym, ◌∙◌, arith}
 use Rattle.std.specs.Cmp.Lexicographic.{slice_cmp}
 use Rattle.std.specs.List.Sorted.{IsStrictlySortedBy}
 use Rattle.std.specs.Ordering.{nat_cmp}
@@ -10,16 +10,15 @@ use Rattle.ps_bucket_log.specs.declared.batches.Batch.{Batch}
 use Rattle.ps_bucket_log.specs.Ops.{greatest_target, upto, past, newest, sum_of}
 use Rattle.ps_bucket_log.specs.Logs.{IsRising, IsLog, AreEntries, cleared}
 use Rattle.ps_bucket_log.specs.Standing.{StandsFor}
-use Rattle.ps_bucket_log.specs.Batches.{batch_of}
 use Rattle.ps_bucket_log.specs.Laws.{StaysHonest, StaysHonestUpTo, WholeAtNewest, FreshIsHonest, HonestLater, AddsNothing, StandsForItself, StandingIsLog, WithinLevel, TargetWithinLevel, SameSums, TotalIsSum, BatchRises, ReadsLongestFront, ReadsOn}
 use Rattle.ps_rows.specs.declared.shown.Shown.{Shown}
-use Rattle.ps_params.specs.Names.{AreTold}
 use Rattle.ps_bucket_log.specs.declared.takes.TakenBucket.{TakenBucket}
 use Rattle.ps_store.specs.Courses.{Course, bucket_in}
 use Rattle.ps_store.specs.CourseLaws.{IsLawful, StayHonest, BatchesKeepHonest, Stays, Covers, AreApart, HoldsTaken, due_bucket}
+use Rattle.ps_store.specs.Generations.{Ending, Switched, Abandoned}
 use Rattle.ps_store.specs.Latest.{ShowsLatest}
 use Rattle.ps_store.specs.Limits.{greatest}
-use Rattle.ps_store.specs.Readings.{taken_names}
+use Rattle.ps_store.specs.Readings.{taken_names, AreTold, batch_in}
 use Rattle.ps_store.specs.Standing.{Holding}
 
 -- the laws of one bucket
@@ -48,21 +47,36 @@ pub record Grown (old new : List Op) (op : ℕ) : Type 0 where
   pub is : new ≡ old ++ more
   pub past_op : AreEntries op more
 
--- a bucket tells of a log up to an op
-pub record TellsLog (op : ℕ) (log : List Op) (bucket : TakenBucket) : Type 0 where
+-- a bucket whose generation goes on tells of a log up to an op
+pub record TellsLog (ended : Option Ending) (op : ℕ) (log : List Op) (bucket : TakenBucket) : Type 0 where
+  pub lives : ended ≡ None
   pub sum : bucket.sum.0 ≡ sum_of (upto op log)
   pub newest_is : bucket.newest.0 ≡ newest (upto op log)
 
--- the logs of a course at each place, and their levels
-pub record KeepsLogs (course : Course) (log : ℕ → List ℕ → List Op) (level : ℕ → List ℕ → ℕ) : Type 0 where
+-- a generation ended by no Switch past an op
+abbrev pub EndsWithin : ℕ → Option Ending → Type 0
+EndsWithin op None = Unit {0}
+EndsWithin op (Some (Switched id)) = id ≤ op
+EndsWithin op (Some Abandoned) = Unit {0}
+
+-- it goes on, or was ended by a Switch past an op
+abbrev pub EndsPast : ℕ → Option Ending → Type 0
+EndsPast op None = Unit {0}
+EndsPast op (Some (Switched id)) = op < id
+EndsPast op (Some Abandoned) = ⊥
+
+-- the logs of a course at each place, their levels, and how their generations ended
+pub record KeepsLogs (course : Course) (log : ℕ → List ℕ → List Op) (level : ℕ → List ℕ → ℕ) (ended : ℕ → List ℕ → Option Ending) : Type 0 where
   pub op : (n m : ℕ) → n ≤ m → course.op n ≤ course.op m
   pub greatest_op : (n : ℕ) → course.op n ≤ greatest
   pub entries : (n : ℕ) (name : List ℕ) → AreEntries 0 (course.original n name)
   pub grows : (n m : ℕ) (name : List ℕ) → n ≤ m → Grown (course.original n name) (course.original m name) (course.op n)
   pub stands : (n : ℕ) (name : List ℕ) → StandsFor (log n name) (course.original n name) (level n name)
   pub level_low : (n : ℕ) (name : List ℕ) → level n name ≤ course.op n
-  pub batch : (n low high : ℕ) (name : List ℕ) → course.batch n name low high ≡ batch_of low high (log n name)
-  pub takes : (n : ℕ) (name : List ℕ) (bucket : TakenBucket) → bucket_in name (course.take n).buckets ≡ Some bucket → TellsLog (course.op n) (log n name) bucket
+  pub batch : (n low high : ℕ) (name : List ℕ) → course.batch n name low high ≡ batch_in (ended n name) (log n name) low high
+  pub within : (n : ℕ) (name : List ℕ) → EndsWithin (course.op n) (ended n name)
+  pub takes : (n : ℕ) (name : List ℕ) (bucket : TakenBucket) → bucket_in name (course.take n).buckets ≡ Some bucket → TellsLog (ended n name) (course.op n) (log n name) bucket
+  pub ends : (n m : ℕ) (name : List ℕ) (bucket : TakenBucket) → n ≤ m → bucket_in name (course.take n).buckets ≡ Some bucket → EndsPast (course.op n) (ended m name)
 
 -- what is said of takes besides
 pub record KeepsTakes (course : Course) : Type 0 where
@@ -80,23 +94,25 @@ higher : (c d : ℕ) (o : Option OpId) → c ≤ d → IfSome o (λ t. t.0 ≤ c
 higher c d None low some = tt
 higher c d (Some t) low some = omega arith
 
--- what is read of a log: a CLEAR past what was asked for, or a front of the operations past one id and up to another
+-- what is read of a log: nothing, or a front of the operations past one id and up to another
 pub data Reads (log : List Op) (low high : ℕ) (batch : Batch) : Type 0 where
-  nothing : batch.ops ≡ [] → Reads log low high batch
-  front : (left : List Op) → upto high (past low log) ≡ batch.ops ++ left → Reads log low high batch
+  nothing : batch.ops ≡ [] → batch.target ≡ None → Reads log low high batch
+  front : (left : List Op) → batch.target ≡ greatest_target batch.ops → upto high (past low log) ≡ batch.ops ++ left → Reads log low high batch
 
-module _ (laws : BucketLaws) (course : Course) (log : ℕ → List ℕ → List Op) (level : ℕ → List ℕ → ℕ) (keeps : KeepsLogs course log level) where
-  reads : (ops : List Op) (low high : ℕ) → Reads ops low high (batch_of low high ops)
-  reads ops low high = elim (cases_lt high (cleared ops)) [
-    | inl above ↦ nothing ((laws.longest low high ops).passed above).1
-    | inr within ↦ let is = ((laws.longest low high ops).taken within).1.front in front is.0 is.1
+module _ (laws : BucketLaws) (course : Course) (log : ℕ → List ℕ → List Op) (level : ℕ → List ℕ → ℕ) (ended : ℕ → List ℕ → Option Ending) (keeps : KeepsLogs course log level ended) where
+  reads : (e : Option Ending) (ops : List Op) (low high : ℕ) → Reads ops low high (batch_in e ops low high)
+  reads None ops low high = elim (cases_lt high (cleared ops)) [
+    | inl above ↦ rw (lt-ltb high (cleared ops) above) (nothing refl refl)
+    | inr within ↦ let is = ((laws.longest low high ops).taken within).1.front in front is.0 (laws.longest low high ops).target is.1
   ]
+  reads (Some (Switched id)) ops low high = elim (cases_lt high id) [
+    | inl above ↦ rw (lt-ltb high id above) (nothing refl refl)
+    | inr within ↦ rw (le-ltb high id within) (nothing refl refl)
+  ]
+  reads (Some Abandoned) ops low high = nothing refl refl
 
   reads_at : (n low high : ℕ) (name : List ℕ) → Reads (log n name) low high (course.batch n name low high)
-  reads_at n low high name = rw (keeps.batch n low high name) (reads (log n name) low high)
-
-  target_is : (n low high : ℕ) (name : List ℕ) → (course.batch n name low high).target ≡ greatest_target (course.batch n name low high).ops
-  target_is n low high name = rw (keeps.batch n low high name) (laws.longest low high (log n name)).target
+  reads_at n low high name = rw (keeps.batch n low high name) (reads (ended n name) (log n name) low high)
 
   -- ---- honesty
   stay_honest : StayHonest course
@@ -110,16 +126,16 @@ module _ (laws : BucketLaws) (course : Course) (log : ℕ → List ℕ → List 
   batches_keep : BatchesKeepHonest course
   batches_keep = record {
     honest = λ n c name bucket low honest. elim (reads_at n bucket.position c name) [
-      | nothing none ↦ rw none honest
-      | front left split ↦
+      | nothing none no_target ↦ rw none honest
+      | front left target split ↦
           laws.honest (log n name) (course.original n name) (level n name) (course.op n) c bucket _ left
           (keeps.stands n name) (keeps.entries n name) (keeps.level_low n name) low split honest
     ];
     up_to = λ n c name bucket low targets honest. elim (reads_at n bucket.position c name) [
-      | nothing none ↦ rw none honest
-      | front left split ↦
+      | nothing none no_target ↦ rw none honest
+      | front left target split ↦
           laws.up_to (log n name) (course.original n name) (level n name) c c c bucket _ left
-          (keeps.stands n name) (keeps.entries n name) (omega arith) split (rw (target_is n bucket.position c name) at targets) honest
+          (keeps.stands n name) (keeps.entries n name) (omega arith) split (rw target at targets) honest
     ];
     whole = λ n name bucket newest_low honest.
         laws.whole (course.original n name) (course.op n) (course.op n) bucket (keeps.entries n name) newest_low honest.reached honest;
@@ -140,21 +156,40 @@ module _ (laws : BucketLaws) (course : Course) (log : ℕ → List ℕ → List 
       let low = (laws.within (log n name) (course.original n name) (level n name) 0 0 (keeps.entries n name) (keeps.stands n name)).0 in
       omega (arith, low, keeps.level_low n name)
 
-  target_low : (n low high : ℕ) (name : List ℕ) → IfSome (course.batch n name low high).target (λ t. t.0 ≤ course.op n)
-  target_low n low high name = rw (keeps.batch n low high name)
-      (higher (level n name) (course.op n) _ (keeps.level_low n name) (laws.target (log n name) (course.original n name) (level n name) low high (keeps.entries n name) (keeps.stands n name)))
+  target_low : (n low high : ℕ) (name : List ℕ) → IfSome (course.batch n name low high).target (λ target. target.0 ≤ course.op n)
+  target_low n low high name = rw (keeps.batch n low high name) (by (ended n name))
+    where
+      by : (e : Option Ending) → IfSome (batch_in e (log n name) low high).target (λ target. target.0 ≤ course.op n)
+      by None = higher (level n name) (course.op n) _ (keeps.level_low n name) (laws.target (log n name) (course.original n name) (level n name) low high (keeps.entries n name) (keeps.stands n name))
+      by (Some (Switched id)) = elim (cases_lt high id) [ inl above ↦ rw (lt-ltb high id above) tt | inr below ↦ rw (le-ltb high id below) tt ]
+      by (Some Abandoned) = tt
 
   passed_low : (n low high : ℕ) (name : List ℕ) → IfSome (course.batch n name low high).passed (λ p. (high < p.0) × (p.0 ≤ course.op n))
-  passed_low n low high name = rw (keeps.batch n low high name) (elim (cases_lt high (cleared (log n name))) [
-    | inl above ↦ rw (lt-ltb high (cleared (log n name)) above) (above, cleared_low n name)
-    | inr below ↦ rw (le-ltb high (cleared (log n name)) below) tt
-  ])
+  passed_low n low high name = rw (keeps.batch n low high name) (by (ended n name) (keeps.within n name))
+    where
+      by : (e : Option Ending) → EndsWithin (course.op n) e → IfSome (batch_in e (log n name) low high).passed (λ p. (high < p.0) × (p.0 ≤ course.op n))
+      by None within = elim (cases_lt high (cleared (log n name))) [
+        | inl above ↦ rw (lt-ltb high (cleared (log n name)) above) (above, cleared_low n name)
+        | inr below ↦ rw (le-ltb high (cleared (log n name)) below) tt
+      ]
+      by (Some (Switched id)) within = elim (cases_lt high id) [ inl above ↦ rw (lt-ltb high id above) (above, within) | inr below ↦ rw (le-ltb high id below) tt ]
+      by (Some Abandoned) within = tt
 
   rises : (n low high : ℕ) (name : List ℕ) → IsRising low (course.batch n name low high).ops
-  rises n low high name = rw (keeps.batch n low high name) (laws.rising low high (log n name) (log_is n name)).0
+  rises n low high name = rw (keeps.batch n low high name) (by (ended n name))
+    where
+      by : (e : Option Ending) → IsRising low (batch_in e (log n name) low high).ops
+      by None = (laws.rising low high (log n name) (log_is n name)).0
+      by (Some (Switched id)) = elim (cases_lt high id) [ inl above ↦ rw (lt-ltb high id above) tt | inr below ↦ rw (le-ltb high id below) tt ]
+      by (Some Abandoned) = tt
 
   fits_within : (n low high : ℕ) (name : List ℕ) → upto high (course.batch n name low high).ops ≡ (course.batch n name low high).ops
-  fits_within n low high name = rw (keeps.batch n low high name) (laws.rising low high (log n name) (log_is n name)).1
+  fits_within n low high name = rw (keeps.batch n low high name) (by (ended n name))
+    where
+      by : (e : Option Ending) → upto high (batch_in e (log n name) low high).ops ≡ (batch_in e (log n name) low high).ops
+      by None = (laws.rising low high (log n name) (log_is n name)).1
+      by (Some (Switched id)) = elim (cases_lt high id) [ inl above ↦ rw (lt-ltb high id above) refl | inr below ↦ rw (le-ltb high id below) refl ]
+      by (Some Abandoned) = refl
 
   -- ---- what a take tells
   sums_are : (n : ℕ) (name : List ℕ) (bucket : TakenBucket) → bucket_in name (course.take n).buckets ≡ Some bucket
@@ -168,10 +203,16 @@ module _ (laws : BucketLaws) (course : Course) (log : ℕ → List ℕ → List 
 
   reads_on : (n m low : ℕ) (bucket : TakenBucket) → n ≤ m → bucket_in bucket.name (course.take n).buckets ≡ Some bucket → low < bucket.newest.0
       → ((course.batch m bucket.name low (course.op n)).ops ≢ []) ⊎ ((course.batch m bucket.name low (course.op n)).passed ≢ None)
-  reads_on n m low bucket late is below =
-      let ahead : low < newest (upto (course.op n) (course.original m bucket.name)) = rw (stays n m bucket.name late) (omega (arith, below, (sums_are n bucket.name bucket is).1)) in
-      rw (keeps.batch m low (course.op n) bucket.name)
-      (laws.on (log m bucket.name) (course.original m bucket.name) (level m bucket.name) low (course.op n) (keeps.stands m bucket.name) (keeps.entries m bucket.name) ahead)
+  reads_on n m low bucket late is below = rw (keeps.batch m low (course.op n) bucket.name) (by (ended m bucket.name) (keeps.ends n m bucket.name bucket late is))
+    where
+      ahead : low < newest (upto (course.op n) (course.original m bucket.name))
+      ahead = rw (stays n m bucket.name late) (omega (arith, below, (sums_are n bucket.name bucket is).1))
+
+      by : (e : Option Ending) → EndsPast (course.op n) e
+          → ((batch_in e (log m bucket.name) low (course.op n)).ops ≢ []) ⊎ ((batch_in e (log m bucket.name) low (course.op n)).passed ≢ None)
+      by None past_op = laws.on (log m bucket.name) (course.original m bucket.name) (level m bucket.name) low (course.op n) (keeps.stands m bucket.name) (keeps.entries m bucket.name) ahead
+      by (Some (Switched id)) past_op = rw (lt-ltb (course.op n) id past_op) (inr (λ no. cc))
+      by (Some Abandoned) past_op = absurd past_op
 
   pub lawful : KeepsTakes course → IsLawful course
   lawful takes = record {

@@ -23,7 +23,7 @@ use Rattle.ps_store.specs.Plans.{PlanStands, IsStart, seen_at}
 use Rattle.ps_store.specs.Rows.{row_at}
 use Rattle.ps_store.specs.Runs.{refusal_of, lasts_from}
 use Rattle.ps_store.specs.Tails.{ids, AreRowsOf}
-use Rattle.ps_store.proofs.Lanes.{fold_push, length_lasts, ops_push, lasts_push, next_rules, length_numbered}
+use Rattle.ps_store.proofs.Lanes.{fold_push, length_lasts, ops_push, lasts_push, next_rules, next_number, next_plain, next_wrote, length_numbered}
 use Rattle.ps_store.proofs.Maps.{equal_rows}
 use Rattle.ps_store.proofs.Sources.{columns_after}
 
@@ -104,6 +104,8 @@ stands_none rules rows base plan start seen entered made = record {
   entered = entered;
   lasts = ap ids made;
   rows_are = subst (λ (ms : List Made). AreRowsOf rules.definitions ms []) (sym made) tt;
+  number = start.number;
+  wrote = start.wrote;
 }
 
 module _ (limits : Limits) (rules : RuleSet) (base : Ledger) (ts : List Timed) (t : Timed) (rules_are : base.force.rules ≡ rules) where
@@ -141,7 +143,7 @@ module _ (limits : Limits) (rules : RuleSet) (base : Ledger) (ts : List Timed) (
     left_is = is_left ∙ ap (λ (q : Key). entries_at rules.definitions q t.change.row) is_key ∙ ap (λ (r : RuleSet). entries_at r.definitions (key_of t) t.change.row) (sym now_rules)
 
     change_is : next_ops now t ≡ removed_all (now.last + 1) gone ++ numbered put (now.last + 1 + length gone) left
-    change_is = sym (ap (λ g. removed_all (now.last + 1) g ++ numbered put (now.last + 1 + length g) left) gone_is
+    change_is = next_plain now t (next_number ts base ∙ h.number) ∙ sym (ap (λ g. removed_all (now.last + 1) g ++ numbered put (now.last + 1 + length g) left) gone_is
         ∙ ap (λ es. es ++ numbered put (now.last + 1 + length (map place_of (leaving standing left))) left) (removed_by_places (now.last + 1) (leaving standing left))
         ∙ ap (λ n. numbered removed (now.last + 1) (leaving standing left) ++ numbered put (now.last + 1 + n) left) (length_map place_of (leaving standing left))
         ∙ ap (λ a. (let g = leaving standing a in numbered removed (now.last + 1) g ++ numbered put (now.last + 1 + length g) a)) left_is)
@@ -174,6 +176,7 @@ module _ (limits : Limits) (rules : RuleSet) (base : Ledger) (ts : List Timed) (
     stands_more new made seen last row same entered made_is =
         let next : fold write_next base (ts ++ t ∷ []) ≡ write_next now t = fold_push write_next ts t base in
         let last_is : made.last.0 ≡ (write_next now t).last = omega (arith, last, h.last, change_length) in
+        let wrote_is : made.last.0 ≡ (write_next now t).wrote = last_is ∙ sym (next_wrote (t ∷ []) now (next_wrote ts base h.wrote)) in
         let count : length old.made.items ≡ length ts = sym (length_map (λ (m : Made). m.last.0) old.made.items) ∙ ap length h.lasts ∙ length_lasts ts base in
         record {
           rules_are = rules_are;
@@ -189,9 +192,11 @@ module _ (limits : Limits) (rules : RuleSet) (base : Ledger) (ts : List Timed) (
               ap ids made_is
               ∙ map_more (λ (m : Made). m.last.0) old.made.items made
               ∙ ap (λ ns. ns ++ made.last.0 ∷ []) h.lasts
-              ∙ ap (λ n. lasts_from base ts ++ n ∷ []) last_is
+              ∙ ap (λ n. lasts_from base ts ++ n ∷ []) wrote_is
               ∙ sym (lasts_push ts t base);
           rows_are = subst (λ (ms : List Made). AreRowsOf rules.definitions ms (ts ++ t ∷ [])) (sym made_is) (rows_push rules.definitions old.made.items ts made t count h.rows_are row);
+          number = h.number;
+          wrote = h.wrote;
         }
       where
         there : (other : Key) → eq_by_cmp key_cmp other (key_of t) ≡ true → left ≡ entries_at rules.definitions other t.change.row

@@ -7,8 +7,10 @@ use Rattle.ps_store.specs.declared.fixed.Fixed.{Fixed}
 use Rattle.ps_store.specs.declared.stores.Store.{Store}
 use Rattle.ps_store.specs.Ledgers.{Ledger, ledger_of}
 use Rattle.ps_store.specs.StoreLogs.{log_at, has_ops}
-use Rattle.ps_store.specs.Totals.{bucket_names_of}
+use Rattle.ps_store.specs.Readings.{log_length_of}
+use Rattle.ps_store.specs.Totals.{bucket_names_of, names_of as buckets_in}
 use Rattle.ps_store.specs.Stores.{StoreStandsFor}
+use Rattle.ps_store.proofs.OneGeneration.{reads_one}
 use Rattle.ps_store.proofs.Upto.{all_upto}
 use Rattle.ps_store.proofs.Counting.{order, has, has_names, sorted_names, same_names}
 
@@ -21,12 +23,13 @@ whole_log fixed store history h bucket =
     ∙ all_upto 0 store.last.0 (l.log bucket) (h.stands.kept.rising bucket) (subst (λ (n : ℕ). newest (l.log bucket) ≤ n) (sym h.stands.last) (h.stands.kept.newest bucket))
 
 pub log_length : (fixed : Fixed) (store : Store) (history : List Event) → StoreStandsFor fixed store history → (bucket : List ℕ)
-    → length (upto store.last.0 (log_at store.logs bucket)) ≡ length ((ledger_of fixed.rules history).log bucket)
-log_length fixed store history h bucket = ap length (whole_log fixed store history h bucket)
+    → length (upto store.last.0 (log_at store.logs bucket)) ≡ log_length_of (ledger_of fixed.rules history) bucket
+log_length fixed store history h bucket = ap length (whole_log fixed store history h bucket) ∙ sym ((reads_one fixed.rules history h.legal h.plain).length_is bucket)
 
 pub names_are : (fixed : Fixed) (store : Store) (history : List Event) → StoreStandsFor fixed store history → (names : List (List ℕ))
     → IsStrictlySortedBy order names → ((bucket : List ℕ) → has names bucket ≡ has_ops (upto store.last.0 (log_at store.logs bucket))) → names ≡ bucket_names_of (ledger_of fixed.rules history)
 names_are fixed store history h names sorted held =
     let l : Ledger = ledger_of fixed.rules history in
-    same_names names (bucket_names_of l) sorted (sorted_names l.entered)
+    same_names names (buckets_in l.entered) sorted (sorted_names l.entered)
     (λ bucket. held bucket ∙ ap has_ops (whole_log fixed store history h bucket) ∙ h.stands.kept.filled bucket ∙ sym (has_names l.entered bucket))
+    ∙ sym ((reads_one fixed.rules history h.legal h.plain).buckets h.rules)

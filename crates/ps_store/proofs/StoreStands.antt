@@ -124,11 +124,13 @@ narrow_rows store l h = λ key.
     subst (λ (r : RuleSet). length (entries_at r.definitions key (columns_of (row_at store.rows key))) ≤ store.fixed.limits.entries) h.rules
     (subst (λ (o : Option Version). length (entries_at l.force.rules.definitions key (columns_of o)) ≤ store.fixed.limits.entries) (sym (h.rows key)) (h.kept.narrow key))
 
-pub is_start : (store : Store) (l : Ledger) → Stands store l → IsStart store.fixed.rules store.rows store.last.0 l
-is_start store l h = record {
+pub is_start : (store : Store) (l : Ledger) → l.force.number ≡ 1 → l.wrote ≡ l.last → Stands store l → IsStart store.fixed.rules store.rows store.last.0 l
+is_start store l number wrote h = record {
   rules_are = h.rules;
   entries = λ key. ap (λ (o : Option Version). entries_at store.fixed.rules.definitions key (columns_of o)) (h.rows key);
   last = h.last;
+  number = number;
+  wrote = wrote;
 }
 
 length_map : {A B : Type 0} (f : A → B) (xs : List A) → length (map f xs) ≡ length xs
@@ -437,15 +439,15 @@ ascend_at position index (c ∷ changes) = (omega arith, ascend_at position (ind
 module _ (limits : Limits) (l : Ledger) (t : Transaction) (later : head_of l.fed < t.position.0) (usual : t.position.0 ≤ greatest) (few : length t.changes ≤ 2 ^ 64) where
   -- the ledger with the transaction
   abbrev pub fed_ledger : Ledger
-  fed_ledger = record l { fed = l.fed ++ t ∷ []; reach = settled l.last (record l.reach { left = l.reach.left ++ end_of t ∷ [] }) }
+  fed_ledger = record l { fed = l.fed ++ t ∷ []; reach = settled l.wrote (record l.reach { left = l.reach.left ++ end_of t ∷ [] }) }
 
   pub kept_fed : IsKept limits l → IsKept limits fed_ledger
   kept_fed h =
       let rise : EndsRise l.reach.position (l.reach.left ++ end_of t ∷ []) = ends_push l.reach.left (end_of t) l.reach.position h.ends_rise (omega (arith, h.last_is_head, later)) in
-      let on : IsOn l.reach.position (l.reach.left ++ end_of t ∷ []) fed_ledger.reach = settled_on (l.reach.left ++ end_of t ∷ []) l.last l.reach.position l.reach.op l.reach.over rise in
+      let on : IsOn l.reach.position (l.reach.left ++ end_of t ∷ []) fed_ledger.reach = settled_on (l.reach.left ++ end_of t ∷ []) l.wrote l.reach.position l.reach.op l.reach.over rise in
       record {
         within = within_fed l t h.within;
-        tied = subst (λ (us : List Timed). Tied us fed_ledger.reach) (sym (unwritten_fed l t h.within)) (tied_fed (unwritten l) l.reach t l.last h.tied);
+        tied = subst (λ (us : List Timed). Tied us fed_ledger.reach) (sym (unwritten_fed l t h.within)) (tied_fed (unwritten l) l.reach t l.wrote h.tied);
         ends_rise = on.rise;
         last_is_head = on.same_end ∙ end_push l.reach.left (end_of t) l.reach.position ∙ sym (head_fed l.fed t);
         checkpoint = omega (arith, on.up, h.checkpoint);
@@ -472,7 +474,7 @@ module _ (limits : Limits) (l : Ledger) (t : Transaction) (later : head_of l.fed
 
 -- ---- what is reached is committed
 
-pub kept_commit : (limits : Limits) (l : Ledger) → IsKept limits l → IsKept limits (record l { position = l.reach.position; op = l.reach.op })
+pub kept_commit : (limits : Limits) (l : Ledger) → IsKept limits l → IsKept limits (record l { position = l.reach.position; op = max l.op l.reach.op })
 kept_commit limits l h = record {
   within = h.within;
   tied = h.tied;
@@ -491,7 +493,7 @@ kept_commit limits l h = record {
 }
 
 pub index_commit : (old new : Index) (l : Ledger) → l.position ≤ l.reach.position → new.rules ≡ old.rules → new.last ≡ old.last → new.forgotten ≡ max old.forgotten l.reach.position
-    → SameFrom new.forgotten old.notes new.notes → IndexStands old l → IndexStands new (record l { position = l.reach.position; op = l.reach.op })
+    → SameFrom new.forgotten old.notes new.notes → IndexStands old l → IndexStands new (record l { position = l.reach.position; op = max l.op l.reach.op })
 index_commit old new l up rules last forgotten notes h =
     let floor : new.forgotten ≤ l.reach.position = omega (arith, forgotten, h.forgotten, up) in
     record {

@@ -20,7 +20,7 @@ use Rattle.ps_granted.specs.Sources.{rows_in}
 use Rattle.ps_definitions.specs.Tables.{is_read}
 use Rattle.ps_params.specs.Indexes.{StandsAt}
 use Rattle.ps_params.specs.Laws.{note_of_change, notes_of_transaction, notes_of, notes_read, NotesReadAreTheSource}
-use Rattle.ps_params.specs.Names.{definition_names, bucket_names, AreTold}
+use Rattle.ps_params.specs.Names.{definition_names, bucket_names, AreTold as ArePlainTold}
 use Rattle.ps_params.specs.Notes.{Note, counts_for, row_after, row_at}
 use Rattle.ps_store.specs.declared.events.Event.{Event}
 use Rattle.ps_store.specs.declared.fixed.Fixed.{Fixed}
@@ -30,12 +30,14 @@ use Rattle.ps_store.specs.declared.stores.Store.{Store}
 use Rattle.ps_store.specs.Ledgers.{Ledger, ledger_of}
 use Rattle.ps_store.specs.Noting.{noted}
 use Rattle.ps_store.specs.Originals.{Timed, timed_from, timed}
-use Rattle.ps_store.specs.Readings.{names_of, bucket_upto, Takes, batch_of, covered_of}
+use Rattle.ps_store.specs.Readings.{AreTold, names_of, bucket_upto, Takes, batch_of, covered_of}
 use Rattle.ps_store.specs.StoreLogs.{log_at}
 use Rattle.ps_store.specs.Stores.{StoreStandsFor}
 use Rattle.ps_store.specs.Tails.{notes_after}
-use Rattle.ps_store.proofs.Committing.{Whole, whole_ledger}
+use Rattle.ps_store.proofs.Telling.{counts_history}
 use Rattle.ps_store.proofs.Fronts.{upto_timed, upto-timed, written_upto}
+use Rattle.ps_store.proofs.Marks.{all_told}
+use Rattle.ps_store.proofs.OneGeneration.{reads_one}
 use Rattle.ps_store.proofs.Ordered.{in_order_rise, names_sorted}
 
 -- ---- notes of changes
@@ -109,9 +111,9 @@ module _ (fixed : Fixed) (store : Store) (history : List Event) (h : StoreStands
   -- at the checkpoint's position rows stand by the index as by the changes of all that is fed
   rows_same : (table id : List ℕ) → row_at store.index.notes table id l.position ≡ row_at (notes_read definitions l.fed) table id l.position
   rows_same table id =
-      let w : Whole fixed.rules l = whole_ledger fixed.rules history h.legal in
+      let w = counts_history fixed.rules history h.legal in
       let written : List Timed = take l.written (timed l.fed) in
-      let front : upto_timed l.position written ≡ upto_timed l.position (timed l.fed) = written_upto l.fed l.written l.position w.rises w.checkpoint.written ∙ sym (upto-timed l.position l.fed) in
+      let front : upto_timed l.position written ≡ upto_timed l.position (timed l.fed) = written_upto l.fed l.written l.position w.rises w.whole.all ∙ sym (upto-timed l.position l.fed) in
       sym (h.stands.index.notes table id l.position (omega arith))
       ∙ ap (λ (ns : List Note). row_at ns table id l.position) (noted_more definitions [] written)
       ∙ unseen definitions table id l.position None written
@@ -135,9 +137,15 @@ module _ (fixed : Fixed) (store : Store) (history : List Event) (h : StoreStands
 
   module _ (asker : Asker) (names : List (List ℕ)) (law : NotesReadAreTheSource)
       (tells : (source : List SourceRow) → StandsAt store.index.rules.definitions store.index.notes store.checkpoint.position.0 source → names ≡ bucket_names store.fixed.rules.definitions asker source) where
+    abbrev rows : List SourceRow
+    rows = rows_in (source_at l.fed l.position)
+
+    -- without a mark
+    plain_are : names ≡ bucket_names fixed.rules.definitions asker rows
+    plain_are = tells rows (stands_at law) ∙ ap (λ (f : Fixed). bucket_names f.rules.definitions asker rows) h.fixed_is
+
     names_are : names ≡ names_of l asker
-    names_are = tells (rows_in (source_at l.fed l.position)) (stands_at law)
-        ∙ ap (λ (r : RuleSet). bucket_names r.definitions asker (rows_in (source_at l.fed l.position))) (sym h.stands.rules)
+    names_are = plain_are ∙ sym ((reads_one fixed.rules history h.legal h.plain).names asker)
 
     limit_is : store.fixed.limits.buckets ≡ fixed.limits.buckets
     limit_is = ap (λ (f : Fixed). f.limits.buckets) h.fixed_is
@@ -148,7 +156,7 @@ module _ (fixed : Fixed) (store : Store) (history : List Event) (h : StoreStands
       above = omega (arith, is, above, limit_is);
     }
 
-    pub take_done : (buckets : List TakenBucket) (number : Option ℕ) → number ≡ covered_of l asker → AreTold names → length names ≤ store.fixed.limits.buckets
+    pub take_done : (buckets : List TakenBucket) (number : Option ℕ) → number ≡ covered_of l asker → ArePlainTold names → length names ≤ store.fixed.limits.buckets
         → buckets ≡ map (λ (name : List ℕ). bucket_upto store.checkpoint.op.0 name (log_at store.logs name)) names
         → Takes fixed history asker (Ok (record {
           position = store.checkpoint.position;
@@ -163,7 +171,6 @@ module _ (fixed : Fixed) (store : Store) (history : List Event) (h : StoreStands
         are ∙ (λ i. map (λ (name : List ℕ). bucket_upto (h.stands.op i) name (h.stands.logs name i)) (names_are i)) in
         let named : names ≡ map (λ (b : TakenBucket). b.name) buckets =
         names_kept store.checkpoint.op.0 (log_at store.logs) names ∙ ap (map (λ (b : TakenBucket). b.name)) (sym are) in
-        let rows : List SourceRow = rows_in (source_at l.fed l.position) in
         record {
           value = λ i. record {
             position = record { 0 = h.stands.position i };
@@ -174,13 +181,14 @@ module _ (fixed : Fixed) (store : Store) (history : List Event) (h : StoreStands
             buckets = all i;
           };
           few = omega (arith, few, limit_is, ap length are, length_map (λ (name : List ℕ). bucket_upto store.checkpoint.op.0 name (log_at store.logs name)) names);
-          rise = subst (IsStrictlySortedBy (slice_cmp nat_cmp)) (sym names_are ∙ named)
-              (names_sorted (names_of l asker) (in_order_rise (flat_map (definition_names asker rows) definitions)));
-          told = subst AreTold named told;
+          rise = subst (IsStrictlySortedBy (slice_cmp nat_cmp)) (sym plain_are ∙ named)
+              (names_sorted (bucket_names fixed.rules.definitions asker rows) (in_order_rise (flat_map (definition_names asker rows) fixed.rules.definitions)));
+          told = subst AreTold (sym plain_are ∙ named) (all_told fixed.rules asker rows h.rules (subst ArePlainTold plain_are told));
         }
 
   -- ---- a batch
 
   pub batch_done : (bucket : List ℕ) (after upto : ℕ) (result : Result Batch Memory) → IfOk result (λ batch. batch ≡ logs.batch_of after upto (log_at store.logs bucket))
       → IfOk result (λ batch. batch ≡ batch_of l bucket after upto)
-  batch_done bucket after upto result is = subst (λ (ops : List Op). IfOk result (λ batch. batch ≡ logs.batch_of after upto ops)) (h.stands.logs bucket) is
+  batch_done bucket after upto result is = subst (λ (b : Batch). IfOk result (λ batch. batch ≡ b))
+      (ap (logs.batch_of after upto) (h.stands.logs bucket) ∙ sym ((reads_one fixed.rules history h.legal h.plain).batch bucket after upto)) is

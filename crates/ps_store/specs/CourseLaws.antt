@@ -12,7 +12,6 @@ use Rattle.ps_rows.specs.declared.changes.Transaction.{Transaction}
 use Rattle.ps_rows.specs.declared.shown.Shown.{Shown}
 use Rattle.ps_queries.specs.Meaning.{Asker}
 use Rattle.ps_definitions.specs.RuleSets.{RuleSet, AreRules}
-use Rattle.ps_params.specs.Names.{AreTold}
 use Rattle.ps_store.specs.declared.events.Event.{Event}
 use Rattle.ps_store.specs.declared.events.Event.TheVariants.{WriteCheckpoint}
 use Rattle.ps_bucket_log.specs.declared.takes.Taken.{Taken}
@@ -22,7 +21,7 @@ use Rattle.ps_store.specs.Latest.{ShowsLatest}
 use Rattle.ps_store.specs.Laws.{HaveNumbers}
 use Rattle.ps_store.specs.Ledgers.{ledger_of, last_number, IsLegal}
 use Rattle.ps_store.specs.Limits.{greatest}
-use Rattle.ps_store.specs.Readings.{covered_of, taken_names}
+use Rattle.ps_store.specs.Readings.{covered_of, taken_names, AreTold}
 use Rattle.ps_store.specs.Standing.{Holding}
 
 -- what readers of a bucket hold that took all its original operations up to the op of a place

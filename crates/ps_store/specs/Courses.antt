@@ -29,7 +29,7 @@ pub record Course : Type 0 where
   pub take : ℕ → Taken
   -- what is read of a bucket past one id and up to another
   pub batch : ℕ → List ℕ → ℕ → ℕ → Batch
-  -- the rows that are due to the asker at the checkpoint's position
+  -- the rows that are due to the asker at the checkpoint's position, by the rules in force
   pub due : ℕ → List Shown
   -- what the asker's client may have uploaded before each of its write checkpoints in the whole history
   pub uploads : List Upload
@@ -55,7 +55,7 @@ course_of rules history asker = record {
   original = λ n bucket. in_bucket bucket (ledger_at rules history n).entered;
   take = λ n. take_of (ledger_at rules history n) asker;
   batch = λ n bucket after upto. batch_of (ledger_at rules history n) bucket after upto;
-  due = λ n. grants.due rules.definitions asker (ledger_at rules history n).fed (ledger_at rules history n).position;
+  due = λ n. grants.due (ledger_at rules history n).force.rules.definitions asker (ledger_at rules history n).fed (ledger_at rules history n).position;
   uploads = uploads_of (ledger_of rules history) asker;
 }
 

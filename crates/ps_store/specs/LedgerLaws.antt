@@ -1,5 +1,5 @@
 -- What a ledger says of its history, and what readers hold at its checkpoints, in the subject's words.
-use Rattle.std.specs.Prelude.{◌≡◌, ℕ, ◌≤◌, Bool, true, false, List, [], ◌∷◌, ◌++◌, length}
+use Rattle.std.specs.Prelude.{◌≡◌, ℕ, ◌+◌, ◌≤◌, Bool, true, false, if◌then◌else◌, max, None, List, [], ◌∷◌, ◌++◌, length}
 use Rattle.ps_bucket_log.specs.declared.ops.Op.{Op}
 use Rattle.ps_bucket_log.specs.Ops.{upto}
 use Rattle.ps_bucket_log.specs.Buckets.{bucket_of}
@@ -11,13 +11,19 @@ use Rattle.ps_definitions.specs.RuleSets.{RuleSet, AreRules}
 use Rattle.ps_granted.specs.Latest.{due}
 use Rattle.ps_granted.specs.Sources.{rows_in}
 use Rattle.ps_store.specs.declared.events.Event.{Event}
-use Rattle.ps_store.specs.declared.events.Event.TheVariants.{Feed, Close, Write, Commit, Compact, WriteCheckpoint}
+use Rattle.ps_store.specs.declared.events.Event.TheVariants.{Feed, Close, Write, Commit, Compact, WriteCheckpoint, Deploy, Build, Switch, Abandon}
 use Rattle.ps_store.specs.Originals.{timed, original, in_bucket}
 use Rattle.ps_store.specs.Standing.{Holding, HoldsStanding}
 use Rattle.ps_store.specs.Steps.{StepsRise}
 use Rattle.ps_store.specs.Latest.{ShowsLatest}
 use Rattle.ps_store.specs.Laws.{Rises, HaveNumbers, AreSqlVectors}
 use Rattle.ps_store.specs.StepLaws.{HoldsLaneBuckets, transactions_upto}
+use Rattle.ps_store.specs.Generations.{mark_of, is_of, Lane}
+use Rattle.ps_store.specs.Histories.{has_deploy}
+use Rattle.ps_bucket_log.specs.Batches as logs
+use Rattle.ps_params.specs.Names.{bucket_names}
+use Rattle.ps_store.specs.Readings.{names_of, batch_of, log_length_of}
+use Rattle.ps_store.specs.Totals.{bucket_names_of, names_of as buckets_in}
 use Rattle.ps_store.specs.Ledgers.{Ledger, head_of, ledger_of, IsLegal}
 
 -- ---- what is fed and committed
@@ -31,8 +37,12 @@ fed_in (Write n ∷ history) = fed_in history
 fed_in (Commit ∷ history) = fed_in history
 fed_in (Compact bucket ∷ history) = fed_in history
 fed_in (WriteCheckpoint user client ∷ history) = fed_in history
+fed_in (Deploy rules ∷ history) = fed_in history
+fed_in (Build n ∷ history) = fed_in history
+fed_in (Switch ∷ history) = fed_in history
+fed_in (Abandon ∷ history) = fed_in history
 
--- a history has a Close, and a Commit
+-- a history has a Close
 abbrev pub has_close : List Event → Bool
 has_close [] = false
 has_close (Feed t ∷ history) = has_close history
@@ -41,15 +51,24 @@ has_close (Write n ∷ history) = has_close history
 has_close (Commit ∷ history) = has_close history
 has_close (Compact bucket ∷ history) = has_close history
 has_close (WriteCheckpoint user client ∷ history) = has_close history
+has_close (Deploy rules ∷ history) = has_close history
+has_close (Build n ∷ history) = has_close history
+has_close (Switch ∷ history) = has_close history
+has_close (Abandon ∷ history) = has_close history
 
-abbrev pub has_commit : List Event → Bool
-has_commit [] = false
-has_commit (Feed t ∷ history) = has_commit history
-has_commit (Close ∷ history) = has_commit history
-has_commit (Write n ∷ history) = has_commit history
-has_commit (Commit ∷ history) = true
-has_commit (Compact bucket ∷ history) = has_commit history
-has_commit (WriteCheckpoint user client ∷ history) = has_commit history
+-- a history has a Commit or a Switch, which move the checkpoint
+abbrev pub moves_checkpoint : List Event → Bool
+moves_checkpoint [] = false
+moves_checkpoint (Feed t ∷ history) = moves_checkpoint history
+moves_checkpoint (Close ∷ history) = moves_checkpoint history
+moves_checkpoint (Write n ∷ history) = moves_checkpoint history
+moves_checkpoint (Commit ∷ history) = true
+moves_checkpoint (Compact bucket ∷ history) = moves_checkpoint history
+moves_checkpoint (WriteCheckpoint user client ∷ history) = moves_checkpoint history
+moves_checkpoint (Deploy rules ∷ history) = moves_checkpoint history
+moves_checkpoint (Build n ∷ history) = moves_checkpoint history
+moves_checkpoint (Switch ∷ history) = true
+moves_checkpoint (Abandon ∷ history) = moves_checkpoint history
 
 -- what is fed is the transactions of the Feeds, and it is closed where there is a Close
 pub record TellsFeeds (history : List Event) (l : Ledger) : Type 0 where
@@ -59,35 +78,48 @@ pub record TellsFeeds (history : List Event) (l : Ledger) : Type 0 where
 abbrev pub LedgersTellFeeds : Type 0
 LedgersTellFeeds = (rules : RuleSet) (history : List Event) → TellsFeeds history (ledger_of rules history)
 
--- before any Commit the checkpoint is (0, 0)
+-- before any Commit and Switch the checkpoint is (0, 0)
 abbrev pub CheckpointsBegin : Type 0
-CheckpointsBegin = (rules : RuleSet) (history : List Event) → has_commit history ≡ false
+CheckpointsBegin = (rules : RuleSet) (history : List Event) → moves_checkpoint history ≡ false
     → ((ledger_of rules history).position ≡ 0) × ((ledger_of rules history).op ≡ 0)
 
--- the last Commit makes it what was reached before it
+-- a Commit makes it what was reached before it, with the greater of the former op and that of what was reached
 abbrev pub CheckpointsAreReached : Type 0
-CheckpointsAreReached = (rules : RuleSet) (front back : List Event) → has_commit back ≡ false
+CheckpointsAreReached = (rules : RuleSet) (front back : List Event) → moves_checkpoint back ≡ false
     → ((ledger_of rules (front ++ Commit ∷ back)).position ≡ (ledger_of rules front).reach.position)
-    × ((ledger_of rules (front ++ Commit ∷ back)).op ≡ (ledger_of rules front).reach.op)
+    × ((ledger_of rules (front ++ Commit ∷ back)).op ≡ max (ledger_of rules front).op (ledger_of rules front).reach.op)
+
+-- and so does a Switch, with its own id
+abbrev pub SwitchesAreReached : Type 0
+SwitchesAreReached = (rules : RuleSet) (front back : List Event) → IsLegal rules (front ++ Switch ∷ back) → moves_checkpoint back ≡ false
+    → ((ledger_of rules (front ++ Switch ∷ back)).position ≡ (ledger_of rules front).reach.position)
+    × ((ledger_of rules (front ++ Switch ∷ back)).op ≡ (ledger_of rules front).last + 1)
 
 -- ---- ops
 
--- all changes of the transactions up to a position are written, and an op is the number of their original operations
-pub record IsWhole (rules : RuleSet) (l : Ledger) (position op : ℕ) : Type 0 where
+-- all changes of the transactions up to a position are written
+pub record IsWhole (l : Ledger) (position : ℕ) : Type 0 where
   pub fed : position ≤ head_of l.fed
   pub written : length (timed (transactions_upto position l.fed)) ≤ l.written
-  pub op_is : op ≡ length (original rules.definitions (transactions_upto position l.fed))
 
--- positions of transactions rise, and so do the steps of what is written; up to what is reached all is written, with the op that a
--- commit would give there, and up to the checkpoint, with its op
-pub record TellsOps (rules : RuleSet) (l : Ledger) : Type 0 where
+-- positions of transactions rise; up to what is reached all is written, and up to the checkpoint
+pub record TellsReach (l : Ledger) : Type 0 where
   pub rises : Rises 0 l.fed
+  pub reached : IsWhole l l.reach.position
+  pub checkpoint : IsWhole l l.position
+
+abbrev pub LedgersTellReach : Type 0
+LedgersTellReach = (rules : RuleSet) (history : List Event) → IsLegal rules history → TellsReach (ledger_of rules history)
+
+-- with no new rules the op of a checkpoint is the number of original operations of the transactions up to it, and so is that which a commit
+-- would give
+pub record TellsOps (rules : RuleSet) (l : Ledger) : Type 0 where
   pub steps : StepsRise rules.definitions [] l.force.steps
-  pub reached : IsWhole rules l l.reach.position l.reach.op
-  pub checkpoint : IsWhole rules l l.position l.op
+  pub reached : l.reach.op ≡ length (original rules.definitions (transactions_upto l.reach.position l.fed))
+  pub checkpoint : l.op ≡ length (original rules.definitions (transactions_upto l.position l.fed))
 
 abbrev pub LedgersTellOps : Type 0
-LedgersTellOps = (rules : RuleSet) (history : List Event) → IsLegal rules history → TellsOps rules (ledger_of rules history)
+LedgersTellOps = (rules : RuleSet) (history : List Event) → IsLegal rules history → has_deploy history ≡ false → TellsOps rules (ledger_of rules history)
 
 -- ---- what readers hold
 
@@ -103,15 +135,34 @@ checkpoint_held rules history bucket key = (bucket_of (upto (ledger_of rules his
 abbrev pub checkpoint_source : RuleSet → List Event → Source
 checkpoint_source rules history = source_at (ledger_of rules history).fed (ledger_of rules history).position
 
--- readers hold the entries of the rows that stand at the checkpoint's position, and ids rise with moments
+-- the generation in force
+abbrev pub force_of : RuleSet → List Event → Lane
+force_of rules history = (ledger_of rules history).force
+
+-- what is held in the buckets of a generation, by their names without the mark
+abbrev pub held_in : ℕ → Holding → Holding
+held_in number held bucket key = if is_of number (mark_of number ++ bucket) then held (mark_of number ++ bucket) key else None
+
+-- readers of the generation in force hold the entries of the rows that stand at the checkpoint's position, and ids rise with moments
 abbrev pub ReadersHoldCommitted : Type 0
 ReadersHoldCommitted = (rules : RuleSet) (history : List Event) → AreRules rules → HaveNumbers rules.definitions → IsLegal rules history
-    → HoldsStanding rules.definitions (checkpoint_source rules history) (checkpoint_held rules history)
+    → HoldsStanding (force_of rules history).rules.definitions (checkpoint_source rules history) (held_in (force_of rules history).number (checkpoint_held rules history))
 
--- the rows of a client that holds what readers hold of an asker's buckets are those that are due to the asker at the checkpoint's position
+-- the rows of a client that holds what readers hold of an asker's buckets in the generation in force are those that are due to the asker at
+-- the checkpoint's position, by the rules in force
 abbrev pub CommittedRowsAreDue : Type 0
 CommittedRowsAreDue = (rules : RuleSet) (history : List Event) (asker : Asker) (kept : Holding) (rows : List Shown) → AreRules rules → HaveNumbers rules.definitions → IsLegal rules history
-    → AreSqlVectors rules.definitions asker (rows_in (checkpoint_source rules history))
-    → HoldsLaneBuckets [] rules.definitions asker (rows_in (checkpoint_source rules history)) (checkpoint_held rules history) kept
+    → AreSqlVectors (force_of rules history).rules.definitions asker (rows_in (checkpoint_source rules history))
+    → HoldsLaneBuckets (mark_of (force_of rules history).number) (force_of rules history).rules.definitions asker (rows_in (checkpoint_source rules history)) (checkpoint_held rules history) kept
     → ShowsLatest kept rows
-    → rows ≡ due rules.definitions asker (ledger_of rules history).fed (ledger_of rules history).position
+    → rows ≡ due (force_of rules history).rules.definitions asker (ledger_of rules history).fed (ledger_of rules history).position
+
+-- with no new rules names have no mark, what is read of a bucket is what its log has, and all buckets are of the generation in force
+pub record ReadsOne (rules : RuleSet) (l : Ledger) : Type 0 where
+  pub names : (asker : Asker) → names_of l asker ≡ bucket_names rules.definitions asker (rows_in (source_at l.fed l.position))
+  pub batch : (bucket : List ℕ) (after upto : ℕ) → batch_of l bucket after upto ≡ logs.batch_of after upto (l.log bucket)
+  pub length_is : (bucket : List ℕ) → log_length_of l bucket ≡ length (l.log bucket)
+  pub buckets : AreRules rules → bucket_names_of l ≡ buckets_in l.entered
+
+abbrev pub OneGenerationReads : Type 0
+OneGenerationReads = (rules : RuleSet) (history : List Event) → IsLegal rules history → has_deploy history ≡ false → ReadsOne rules (ledger_of rules history)

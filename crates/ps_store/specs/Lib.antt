@@ -7,6 +7,7 @@ pub mod Standing
 pub mod Latest
 pub mod Laws
 pub mod Steps
+pub mod Generations
 pub mod StepLaws
 pub mod Reach
 pub mod Ledgers
@@ -25,3 +26,4 @@ pub mod TotalsLaws
 pub mod LogLaws
 pub mod Courses
 pub mod CourseLaws
+pub mod Worked

@@ -24,11 +24,13 @@ abbrev pub with_change : Option Refusal → List Timed → Timed → List Timed
 with_change None ts t = ts ++ t ∷ []
 with_change (Some refusal) ts t = ts
 
--- the ledger begins with the rows, the rules and the last id
+-- the ledger begins with the rows, the rules and the last id; its generation is the first one, which alone took ids so far
 pub record IsStart (rules : RuleSet) (rows : Rows) (newest : ℕ) (base : Ledger) : Type 0 where
   pub rules_are : base.force.rules ≡ rules
   pub entries : (key : Key) → entries_at rules.definitions key (columns_of (row_at rows key)) ≡ standing_entries rules.definitions base.force.source key
   pub last : newest ≡ base.last
+  pub number : base.force.number ≡ 1
+  pub wrote : base.wrote ≡ base.last
 
 -- the plan has what these changes make, behind a ledger
 pub record PlanStands (rules : RuleSet) (rows : Rows) (plan : Plan) (base : Ledger) (ts : List Timed) : Type 0 where
@@ -38,6 +40,8 @@ pub record PlanStands (rules : RuleSet) (rows : Rows) (plan : Plan) (base : Ledg
   pub entered : plan.entered.items ≡ ops_from base ts
   pub lasts : ids plan.made.items ≡ lasts_from base ts
   pub rows_are : AreRowsOf rules.definitions plan.made.items ts
+  pub number : base.force.number ≡ 1
+  pub wrote : base.wrote ≡ base.last
 
 -- the plan is that of a run over changes
 pub record IsRun (rules : RuleSet) (rows : Rows) (base : Ledger) (planned : Planned) (ts : List Timed) (run : Run) : Type 0 where

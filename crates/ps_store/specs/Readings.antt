@@ -1,5 +1,6 @@
 -- What readers are given, as functions of the ledger.
-use Rattle.std.specs.Prelude.{◌≡◌, ℕ, ◌<◌, ◌≤◌, List, length, map, Option, Some, None, [], Result, Ok, Err}
+use Rattle.std.specs.Prelude.{◌≡◌, ℕ, ◌<◌, ◌≤◌, false, if◌then◌else◌, nat_lt, List, length, map, ◌++◌, Option, Some, None, option_map, is_some, [], Result, Ok, Err}
+use Rattle.std.specs.List.{AllByRecursion}
 use Rattle.std.specs.List.Sorted.{IsStrictlySortedBy}
 use Rattle.std.specs.Cmp.Lexicographic.{slice_cmp}
 use Rattle.std.specs.Ordering.{nat_cmp}
@@ -12,7 +13,7 @@ use Rattle.ps_write_cp.specs.Numbers.{covered}
 use Rattle.ps_rows.specs.Source.{source_at}
 use Rattle.ps_queries.specs.Meaning.{Asker}
 use Rattle.ps_granted.specs.Sources.{rows_in}
-use Rattle.ps_params.specs.Names.{bucket_names, AreTold}
+use Rattle.ps_params.specs.Names.{bucket_names, IsTold}
 use Rattle.ps_store.specs.declared.events.Event.{Event}
 use Rattle.ps_store.specs.declared.fixed.Fixed.{Fixed}
 use Rattle.ps_store.specs.declared.fixed.Limits.{Limits}
@@ -20,14 +21,28 @@ use Rattle.ps_bucket_log.specs.declared.takes.Taken.{Taken}
 use Rattle.ps_bucket_log.specs.declared.takes.TakenBucket.{TakenBucket}
 use Rattle.ps_store.specs.declared.readings.TakeFault.{TakeFault}
 use Rattle.ps_store.specs.declared.readings.TakeFault.TheVariants.{TooManyBuckets, Memory}
+use Rattle.ps_store.specs.Generations.{mark_of, Coming, Ending, Switched, Abandoned, ending_of}
 use Rattle.ps_store.specs.Ledgers.{Ledger, head_of, heads_in, ledger_of}
+use Rattle.ps_store.specs.Limits.{greatest}
+use Rattle.ps_store.specs.StepLaws.{transactions_upto}
 
 -- ---- a checkpoint of one asker's buckets
 
--- the buckets of an asker: those that the parameter vectors name over the source at the checkpoint's position, each once, in the order
--- of their names' bytes
+-- names with the mark of a generation
+abbrev pub with_mark : ℕ → List (List ℕ) → List (List ℕ)
+with_mark number names = map (λ (name : List ℕ). mark_of number ++ name) names
+
+-- the buckets of an asker: those that the parameter vectors of the rules in force name over the source at the checkpoint's position, each
+-- once, in the order of their names' bytes, with the mark of the generation in force
 abbrev pub names_of : Ledger → Asker → List (List ℕ)
-names_of l asker = bucket_names l.force.rules.definitions asker (rows_in (source_at l.fed l.position))
+names_of l asker = with_mark l.force.number (bucket_names l.force.rules.definitions asker (rows_in (source_at l.fed l.position)))
+
+-- behind whatever mark, a bucket's name is of a vector of integers of signed 64 bits
+abbrev pub IsToldBehindMark : List ℕ → Type 0
+IsToldBehindMark name = (number : ℕ) (plain : List ℕ) → number ≤ greatest → name ≡ mark_of number ++ plain → IsTold plain
+
+abbrev pub AreTold : List (List ℕ) → Type 0
+AreTold names = AllByRecursion IsToldBehindMark names
 
 -- a bucket: the sum, the count and the newest id of its log up to an op
 abbrev pub bucket_upto : ℕ → List ℕ → List Op → TakenBucket
@@ -81,6 +96,29 @@ Takes fixed history asker (Err Memory) = Unit {0}
 
 -- ---- a batch of a bucket's operations
 
--- what is read of a bucket's log past one id and up to another
+abbrev pub nothing_read : Batch
+nothing_read = record { ops = []; has_more = false; target = None; passed = None }
+
+-- what is read of a log past one id and up to another; where a Switch ended the bucket's generation past what is asked for, a reader learns
+-- of that, and where it ended otherwise, of nothing
+abbrev pub batch_in : Option Ending → List Op → ℕ → ℕ → Batch
+batch_in None log after upto = logs.batch_of after upto log
+batch_in (Some (Switched id)) log after upto = if nat_lt upto id then logs.passed_by id else nothing_read
+batch_in (Some Abandoned) log after upto = nothing_read
+
 abbrev pub batch_of : Ledger → List ℕ → ℕ → ℕ → Batch
-batch_of l bucket after upto = logs.batch_of after upto (l.log bucket)
+batch_of l bucket after upto = batch_in (ending_of bucket l.ended) (l.log bucket) after upto
+
+-- ---- counts
+
+-- how many operations the log of a bucket has, none where its generation ended
+abbrev pub log_length_of : Ledger → List ℕ → ℕ
+log_length_of l bucket = if is_some (ending_of bucket l.ended) then 0 else length (l.log bucket)
+
+-- the number of the generation that is being built
+abbrev pub building_of : Ledger → Option ℕ
+building_of l = option_map (λ (c : Coming). c.lane.number) l.building
+
+-- how many transactions are committed
+abbrev pub committed_of : Ledger → ℕ
+committed_of l = length (transactions_upto l.position l.fed)

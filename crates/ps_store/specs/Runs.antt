@@ -26,11 +26,11 @@ abbrev pub run_from : Limits → Ledger → ℕ → List Timed → Run
 run_from limits l count [] = record { ledger = l; count = count; refusal = None }
 run_from limits l count (t ∷ ts) = stopped l count (refusal_of limits l t) (run_from limits (write_next l t) (count + 1) ts)
 
--- the operations of changes that are written next, and the last id after each
+-- the operations of changes that are written next, and the last id of a Write after each
 abbrev pub ops_from : Ledger → List Timed → List Entered
 ops_from l [] = []
 ops_from l (t ∷ ts) = next_ops l t ++ ops_from (write_next l t) ts
 
 abbrev pub lasts_from : Ledger → List Timed → List ℕ
 lasts_from l [] = []
-lasts_from l (t ∷ ts) = (write_next l t).last ∷ lasts_from (write_next l t) ts
+lasts_from l (t ∷ ts) = (write_next l t).wrote ∷ lasts_from (write_next l t) ts

@@ -1,5 +1,5 @@
 -- The store stands for a history.
-use Rattle.std.specs.Prelude.{◌≡◌, ◌≢◌, ℕ, ◌+◌, ◌*◌, ◌^◌, ◌≤◌, ◌<◌, ◌⊎◌, true, false, List, [], ◌∷◌, ◌++◌, length, take, drop, Option, Some, None, Result, Ok, Err}
+use Rattle.std.specs.Prelude.{◌≡◌, ◌≢◌, ℕ, ◌+◌, ◌*◌, ◌^◌, ◌≤◌, ◌<◌, ◌⊎◌, max, true, false, List, [], ◌∷◌, ◌++◌, length, take, drop, Option, Some, None, Result, Ok, Err}
 use Rattle.std.specs.FinMap.Entries.{find}
 use Rattle.ps_bucket_log.specs.Logs.{IsRising}
 use Rattle.ps_bucket_log.specs.Ops.{newest}
@@ -7,6 +7,7 @@ use Rattle.ps_data.specs.declared.ids.Position.{Position}
 use Rattle.ps_rows.specs.declared.changes.Change.{Change}
 use Rattle.ps_rows.specs.declared.changes.Transaction.{Transaction}
 use Rattle.ps_rows.specs.Source.{Key, key_cmp}
+use Rattle.ps_definitions.specs.RuleSets.{AreRules}
 use Rattle.ps_params.specs.Indexes.{Index}
 use Rattle.ps_params.specs.Notes.{SameFrom}
 use Rattle.ps_compact.specs.declared.reports.Report.{Report}
@@ -32,7 +33,9 @@ use Rattle.ps_store.specs.declared.plans.Refusal.TheVariants as refusals
 use Rattle.ps_store.specs.declared.stores.Checkpoint.{Checkpoint}
 use Rattle.ps_store.specs.declared.stores.Store.{Store}
 use Rattle.ps_store.specs.declared.stores.Wrote.{Wrote}
-use Rattle.ps_store.specs.Ledgers.{Ledger, head_of, unwritten, entries_after, next_ops, ledger_of, IsLegal, last_number}
+use Rattle.ps_store.specs.Ledgers.{Ledger, head_of, unwritten, entries_after, next_ops, ledger_of, IsLegal, last_number, force_ops}
+use Rattle.ps_store.specs.Histories.{has_deploy}
+use Rattle.ps_store.specs.Laws.{HaveNumbers}
 use Rattle.ps_store.specs.Limits.{greatest, AreWithin}
 use Rattle.ps_store.specs.Originals.{Timed, timed, standing_entries, in_bucket}
 use Rattle.ps_store.specs.Reach.{reached}
@@ -93,11 +96,14 @@ pub record Stands (store : Store) (l : Ledger) : Type 0 where
   pub numbers : NumbersStand store.fixed.limits.numbers store.numbers l.numbers (head_of l.fed)
   pub kept : IsKept store.fixed.limits l
 
--- the store stands for a history that is legal, under its first rules and its limits
+-- the store stands for a history that is legal, under its first rules and its limits; no new rules come in it
 pub record StoreStandsFor (fixed : Fixed) (store : Store) (history : List Event) : Type 0 where
   pub fixed_is : store.fixed ≡ fixed
   pub limits : AreWithin fixed.limits
+  pub rules : AreRules fixed.rules
+  pub query_numbers : HaveNumbers fixed.rules.definitions
   pub legal : IsLegal fixed.rules history
+  pub plain : has_deploy history ≡ false
   pub stands : Stands store (ledger_of fixed.rules history)
 
 -- ---- within a call
@@ -199,18 +205,18 @@ Writes fixed history limit new (Ok wrote) =
     × StoreStandsFor fixed new (history ++ Write wrote.changes ∷ [])
 Writes fixed history limit new (Err fault) = IsRefused fixed.limits (ledger_of fixed.rules history) fault × StoreStandsFor fixed new history
 
--- a bucket's log was compacted at the checkpoint's op, or why it was not
+-- the log of a bucket was compacted at the checkpoint's op, or why it was not: it is no bucket of the generation in force that has an operation
 abbrev pub Compacts : Fixed → List Event → List ℕ → Store → Result Report CompactFault → Type 0
 Compacts fixed history bucket new (Ok report) =
     (report ≡ report_of (ledger_of fixed.rules history).op ((ledger_of fixed.rules history).log bucket))
     × StoreStandsFor fixed new (history ++ Compact bucket ∷ [])
-Compacts fixed history bucket new (Err compacting.NoBucket) = (in_bucket bucket (ledger_of fixed.rules history).entered ≡ []) × StoreStandsFor fixed new history
-Compacts fixed history bucket new (Err compacting.Memory) = (in_bucket bucket (ledger_of fixed.rules history).entered ≢ []) × StoreStandsFor fixed new history
+Compacts fixed history bucket new (Err compacting.NoBucket) = (force_ops (ledger_of fixed.rules history) bucket ≡ []) × StoreStandsFor fixed new history
+Compacts fixed history bucket new (Err compacting.Memory) = (force_ops (ledger_of fixed.rules history) bucket ≢ []) × StoreStandsFor fixed new history
 
 -- what was reached is the checkpoint, or was before
 abbrev pub Commits : Fixed → List Event → Store → Result Checkpoint NothingToCommit → Type 0
 Commits fixed history new (Ok checkpoint) =
-    (checkpoint.position.0 ≡ (ledger_of fixed.rules history).reach.position) × (checkpoint.op.0 ≡ (ledger_of fixed.rules history).reach.op)
+    (checkpoint.position.0 ≡ (ledger_of fixed.rules history).reach.position) × (checkpoint.op.0 ≡ max (ledger_of fixed.rules history).op (ledger_of fixed.rules history).reach.op)
     × StoreStandsFor fixed new (history ++ Commit ∷ [])
 Commits fixed history new (Err nothing) = ((ledger_of fixed.rules history).reach.position ≡ (ledger_of fixed.rules history).position) × StoreStandsFor fixed new history
 

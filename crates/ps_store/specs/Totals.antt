@@ -1,5 +1,5 @@
 -- What a history counts: its totals, and the names of its buckets. No compaction occurs in them.
-use Rattle.std.specs.Prelude.{ℕ, ◌+◌, ◌^◌, ◌≤◌, ◌<◌, List, [], fold, length, map}
+use Rattle.std.specs.Prelude.{ℕ, ◌+◌, ◌^◌, ◌≤◌, ◌<◌, List, [], filter, fold, length, map}
 use Rattle.std.specs.BTreeSet.{insert_key}
 use Rattle.std.specs.Cmp.Lexicographic.{slice_cmp}
 use Rattle.std.specs.Ordering.{nat_cmp}
@@ -7,6 +7,7 @@ use Rattle.ps_checksum.specs.Sums.{add_sums}
 use Rattle.ps_bucket_log.specs.declared.ops.Op.{Op}
 use Rattle.ps_bucket_log.specs.Ops.{sum_of}
 use Rattle.ps_store.specs.declared.totals.Totals.{Totals}
+use Rattle.ps_store.specs.Generations.{is_of}
 use Rattle.ps_store.specs.Ledgers.{Ledger}
 use Rattle.ps_store.specs.Originals.{Entered}
 
@@ -20,18 +21,22 @@ names_of entered = fold (λ names (e : Entered). insert_key (slice_cmp nat_cmp) 
 abbrev pub ops_of : List Entered → List Op
 ops_of entered = map (λ (e : Entered). e.op) entered
 
--- the names of the buckets that ever had an operation
-abbrev pub bucket_names_of : Ledger → List (List ℕ)
-bucket_names_of l = names_of l.entered
+-- the operations in the buckets of a generation
+abbrev pub in_generation : ℕ → List Entered → List Entered
+in_generation number entered = filter (λ (e : Entered). is_of number e.bucket) entered
 
--- the transactions that were fed, the changes that were written, and of all operations that were ever made how many they are, in how
--- many buckets, and the sum of their checksums modulo 2 ^ 32
+-- the names of the buckets of the generation in force that ever had an operation
+abbrev pub bucket_names_of : Ledger → List (List ℕ)
+bucket_names_of l = names_of (in_generation l.force.number l.entered)
+
+-- the transactions that were fed, the changes that were written, and of all operations that were ever made, of whatever generation, how
+-- many they are, in how many buckets, and the sum of their checksums modulo 2 ^ 32
 abbrev pub totals_of : Ledger → Totals
 totals_of l = record {
   transactions = length l.fed;
   changes = l.written;
   operations = length l.entered;
-  buckets = length (bucket_names_of l);
+  buckets = length (names_of l.entered);
   sum = record { 0 = sum_of (ops_of l.entered) };
 }
 

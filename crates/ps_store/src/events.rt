@@ -1,4 +1,5 @@
 use ps_data::Text;
+use ps_definitions::Rules;
 use ps_rows::Transaction;
 
 /// One accepted changing call of a store. A history is a list of them.
@@ -30,4 +31,18 @@ pub enum Event {
         /// Its client.
         client: Text,
     },
+    /// A generation of buckets begins, by new rules.
+    Deploy {
+        /// The rules.
+        rules: Rules,
+    },
+    /// The generation that is being built takes the next changes of its queue.
+    Build {
+        /// How many, at least one.
+        changes: u64,
+    },
+    /// The generation that is being built comes into force.
+    Switch,
+    /// The generation that is being built is dropped.
+    Abandon,
 }

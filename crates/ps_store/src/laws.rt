@@ -2,12 +2,13 @@
 
 ghost use Rattle.ps_store.specs.Laws.{ReadersHoldStanding, LatestRowsAreDue};
 ghost use Rattle.ps_store.specs.StepLaws.{ReadersHoldStepped, LatestRowsAreGranted, StepsLeadToSources};
-ghost use Rattle.ps_store.specs.Histories.{LedgersTellHistories};
+ghost use Rattle.ps_store.specs.Histories.{LedgersTellHistories, LedgersTellOneGeneration, GenerationsTell};
 ghost use Rattle.ps_store.specs.CourseLaws.{CoursesAreLawful, PlacesStay, EndsAreWhole, UploadsAreCovered, CoveredNumbersAreLow, UploadsAreFed};
-ghost use Rattle.ps_store.specs.LedgerLaws.{LedgersTellFeeds, CheckpointsBegin, CheckpointsAreReached, LedgersTellOps, ReadersHoldCommitted, CommittedRowsAreDue};
-ghost use Rattle.ps_store.specs.TotalsLaws.{TotalsTell, BucketNamesTell, CompactionKeepsTotals};
-ghost use Rattle.ps_store.specs.LogLaws.{LogsStand};
+ghost use Rattle.ps_store.specs.LedgerLaws.{LedgersTellFeeds, CheckpointsBegin, CheckpointsAreReached, SwitchesAreReached, LedgersTellReach, LedgersTellOps, OneGenerationReads, ReadersHoldCommitted, CommittedRowsAreDue};
+ghost use Rattle.ps_store.specs.TotalsLaws.{TotalsTell, WrittenTell, BucketNamesTell, CompactionKeepsTotals, GenerationsKeepTotals};
+ghost use Rattle.ps_store.specs.LogLaws.{LogsStand, ReadersComeThrough};
 ghost use Rattle.ps_store.specs.LongestRuns.{RunsAreLongest};
+ghost use Rattle.ps_store.specs.Worked.{GenerationsTakeOver};
 
 use ps_bucket_eval::entries_stand_where_conditions_hold;
 use ps_bucket_log::{
@@ -66,11 +67,13 @@ pub fn latest_rows_are_due()
 }
 
 /// A law: what is fed is the transactions of a history's Feeds, it is closed where the history has a Close, and the checkpoint
-/// is (0, 0) before any Commit and then what was reached before the last one.
+/// is (0, 0) before any Commit and Switch, then what was reached before the last of these: with a Switch's own id, or after a Commit
+/// with the greater of the former op and that of what was reached.
 pub fn ledgers_tell_events()
     ensures feeds { LedgersTellFeeds }
     ensures begin { CheckpointsBegin }
     ensures reached { CheckpointsAreReached }
+    ensures switched { SwitchesAreReached }
 {}
 
 /// A law: the run of next changes that a batch writes is the longest none of whose changes is refused in its turn: so many first
@@ -79,25 +82,43 @@ pub fn runs_are_the_longest()
     ensures { RunsAreLongest }
 {}
 
-/// A law: the written changes are the first of all fed ones, so many as the Writes say; their original operations are what was
-/// written, with ids from 1 on; and what is reached is the last transaction of which, and of all before which, every change is
-/// written.
+/// A law: so many changes are written as the Writes say, the first of all fed ones; what is reached is the last transaction of
+/// which, and of all before which, every change is written; the op of that is the greatest id that a Write gave for the changes up to
+/// there; and ids are those of all operations and of the Switches.
 pub fn ledgers_tell_histories()
     ensures { LedgersTellHistories }
 {}
 
-/// A law: the op of a checkpoint is the number of original operations of all transactions up to its position, all of whose
-/// changes are written; and so is the op that a commit would give.
-pub fn ledgers_tell_ops()
-    ensures { LedgersTellOps }
+/// A law: the steps of the generation in force and of the one being built rise, their rows are what the steps leave, and their
+/// buckets have the operations of these steps and no others. The generation in force has taken all that is written, the one being
+/// built all but its queue.
+pub fn generations_tell()
+    ensures { GenerationsTell }
 {}
 
-/// A law: totals are the numbers of a history's Feeds, of the changes that it writes, of their original operations and of the buckets of
-/// these, and their sum; the names are those of these buckets, in byte order. A compaction changes none of them.
+/// A law: positions rise, and all changes of the transactions up to what is reached, and up to the checkpoint, are written.
+pub fn ledgers_tell_reach()
+    ensures { LedgersTellReach }
+{}
+
+/// A law: with no new rules there is one generation, which takes the written changes, and ids count from 1; the op of a checkpoint is
+/// the number of original operations of all transactions up to its position, and so is the op that a commit would give. Names have no
+/// mark, and what is read of a bucket is what its log has.
+pub fn ledgers_tell_ops()
+    ensures one { LedgersTellOneGeneration }
+    ensures ops { LedgersTellOps }
+    ensures reads { OneGenerationReads }
+{}
+
+/// A law: totals are the numbers of a history's Feeds and of the changes that it writes; with no new rules, of their original operations
+/// and of the buckets of these too, and their sum. The names are those of the buckets of the generation in force, in byte order. A
+/// compaction changes none of them, and a Switch or an Abandon no total.
 pub fn totals_tell_histories()
     ensures totals { TotalsTell }
+    ensures written { WrittenTell }
     ensures names { BucketNamesTell }
     ensures compaction { CompactionKeepsTotals }
+    ensures generations { GenerationsKeepTotals }
 {}
 
 /// A law: whatever is fed, written, committed and compacted, the log of each bucket stands for its original operations, at the op of its
@@ -107,6 +128,18 @@ pub fn logs_stand_for_originals()
 {
     standing_logs_stay_standing();
     compacted_logs_stand();
+}
+
+/// A law: wherever an honest reader of a bucket stands, whatever was compacted and whatever generation ended, a batch that does not
+/// pass it by leaves it honest, and honest up to what it asked for where no target is past that; and where it has reached the newest
+/// operation up to there, it holds what the original holds.
+pub fn readers_come_through()
+    ensures { ReadersComeThrough }
+{
+    logs_stand_for_originals();
+    batches_keep_readers_honest();
+    readers_are_whole_at_the_newest();
+    batches_are_the_log();
 }
 
 /// A law: what readers hold that took all original operations up to a checkpoint's op is the entries of the rows that stand in
@@ -166,3 +199,11 @@ pub fn uploads_are_covered()
     covered_is_the_greatest();
     covers_all_before();
 }
+
+/// A law, by example: new rules come while two rows stand and a third change is written; the new generation is built in two batches
+/// and takes over at one event. A stream that took the checkpoint before is passed by; the next take names the new bucket, and the
+/// rows that are due are those of the new rules. Nothing is switched or dropped where nothing is being built, and nothing begins
+/// while something is.
+pub fn generations_take_over()
+    ensures { GenerationsTakeOver }
+{}

@@ -9,7 +9,7 @@ ghost use Rattle.ps_store.specs.declared.events.Event.TheVariants.{Close};
 ghost use Rattle.ps_store.specs.declared.fixed.Fixed.{Fixed as FixedSeen};
 ghost use Rattle.ps_store.specs.Ledgers.{ledger_of, head_of};
 ghost use Rattle.ps_store.specs.Limits.{greatest, AreWithin};
-ghost use Rattle.ps_store.specs.Readings.{Takes, batch_of, covered_of};
+ghost use Rattle.ps_store.specs.Readings.{Takes, batch_of, covered_of, log_length_of};
 ghost use Rattle.ps_store.specs.StoreLogs.{HasRoom, Continue, AreRising, log_at};
 ghost use Rattle.ps_store.specs.Rows.{row_at};
 ghost use Rattle.ps_store.specs.Reach.{reached};
@@ -21,6 +21,7 @@ use crate::faults::{CompactFault, FeedFault, NothingToCommit, WriteFault};
 use crate::fixed::{Fixed, Limits};
 use crate::laws::logs_stand_for_originals;
 use crate::logs::Logs;
+use crate::numbers::have_numbers;
 use crate::plans::{Plan, Planned, Refusal, plan_run, tidy_all};
 use crate::readings::TakeFault;
 use crate::rooms::rooms_for;
@@ -102,6 +103,7 @@ impl Store {
         requires { AreWithin limits }
         ensures { IfOk result (λ store. StoreStandsFor (record { rules = rules; limits = limits }) store []) }
     {
+        have_numbers(&rules);
         let index = ParameterIndex::new(alloc, &rules)?;
         Ok(Store {
             fixed: Fixed { rules, limits },
@@ -304,8 +306,8 @@ impl Store {
         Ok(self.checkpoint)
     }
 
-    /// Compacts the log of a bucket at the checkpoint's op. `NoBucket` exactly where the bucket never had an operation, before
-    /// any memory is taken. After an error the store stands for the same history.
+    /// Compacts the log of a bucket at the checkpoint's op. `NoBucket` exactly where it is no bucket of the generation in force
+    /// that ever had an operation, before any memory is taken. After an error the store stands for the same history.
     pub fn compact(&mut self, alloc: Global, bucket: &Text) -> Result<Report, CompactFault>
         ensures { (fixed : FixedSeen) (history : List EventSeen) → StoreStandsFor fixed self.old history → Compacts fixed history bucket.now self.new result }
     {
@@ -420,7 +422,7 @@ impl Store {
         self.totals
     }
 
-    /// The names of the buckets that ever had an operation, in byte order.
+    /// The names of the buckets of the generation in force that ever had an operation, in byte order.
     pub fn bucket_names(&self, alloc: Global) -> Result<Items<Text>, Memory>
         ensures { IfOk result (λ names. (fixed : FixedSeen) (history : List EventSeen) → StoreStandsFor fixed self.now history → names ≡ bucket_names_of (ledger_of fixed.rules history)) }
     {
@@ -428,9 +430,9 @@ impl Store {
         Ok(names)
     }
 
-    /// How many operations the log of a bucket has now, 0 where there is none.
+    /// How many operations the log of a bucket has now, 0 where there is none and where the bucket's generation ended.
     pub fn log_length(&self, bucket: &Text) -> u64
-        ensures { (fixed : FixedSeen) (history : List EventSeen) → StoreStandsFor fixed self.now history → result ≡ length ((ledger_of fixed.rules history).log bucket.now) }
+        ensures { (fixed : FixedSeen) (history : List EventSeen) → StoreStandsFor fixed self.now history → result ≡ log_length_of (ledger_of fixed.rules history) bucket.now }
     {
         self.logs.count_upto(bucket, self.last)
     }

@@ -1,5 +1,5 @@
 -- What one turn of a seat at the store's lock adds to the history.
-use Rattle.std.specs.Prelude.{◌≡◌, ℕ, ◌+◌, ◌≤◌, ◌<◌, true, false, List, [], ◌∷◌, ◌++◌, length, Result, Ok, Err}
+use Rattle.std.specs.Prelude.{◌≡◌, ℕ, ◌+◌, ◌≤◌, ◌<◌, max, true, false, List, [], ◌∷◌, ◌++◌, length, Result, Ok, Err}
 use mathlib.Core.List.{IsPrefix}
 use Rattle.ps_data.specs.declared.ids.Position.{Position}
 use Rattle.ps_rows.specs.declared.changes.Change.{Change}
@@ -57,7 +57,7 @@ module _ {d : Ghosts Store Event Fixed} (fixed : Fixed) (history : List Event) w
   abbrev pub CommitsIn : Seat Store Event Fixed d → Seat Store Event Fixed d → Result Checkpoint NothingToCommit → Type 0
   CommitsIn before after (Ok checkpoint) =
       AddsTo history Commit before after × (checkpoint.position.0 ≡ (ledger_of fixed.rules history).reach.position)
-      × (checkpoint.op.0 ≡ (ledger_of fixed.rules history).reach.op)
+      × (checkpoint.op.0 ≡ max (ledger_of fixed.rules history).op (ledger_of fixed.rules history).reach.op)
   CommitsIn before after (Err nothing) = LooksAt history before after × ((ledger_of fixed.rules history).reach.position ≡ (ledger_of fixed.rules history).position)
 
   -- changes were fed at the position after the head, or why not

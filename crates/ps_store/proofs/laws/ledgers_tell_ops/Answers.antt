@@ -1,5 +1,5 @@
-use Rattle.ps_store.proofs.Committing.{ledgers_tell_ops}
+use Rattle.ps_store.proofs.OneGeneration.{tells_one, tells_ops, reads_one}
 use Rattle.ps_store.proofs.laws.ledgers_tell_ops.Goals as goal
 
 pub returns : goal.returns
-returns c = ledgers_tell_ops
+returns c = record { one = tells_one; ops = tells_ops; reads = reads_one }

@@ -1,6 +1,10 @@
 use Rattle.std.proofs.Common.{arith}
-use Rattle.ps_store.proofs.Compactions.{compact_faults, compact_done}
+use Rattle.ps_store.proofs.Compactions.{compact_none, compact_faults, compact_done}
 use Rattle.ps_store.proofs.stores.Store.compact.Goals as goal
+
+pub returns-then-log_length-eq0 : goal.returns-then-log_length-eq0
+returns-then-log_length-eq0 c = λ fixed history h.
+    compact_none fixed c.args.self.now history h c.args.bucket.now (omega (arith, c.log_length.ensures fixed history h))
 
 pub returns : goal.returns
 returns c = λ fixed history h.
