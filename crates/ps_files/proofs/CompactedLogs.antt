@@ -16,7 +16,8 @@ use Rattle.ps_store.specs.declared.events.Event.{Event}
 use Rattle.ps_store.specs.declared.events.Event.TheVariants.{Compact}
 use Rattle.ps_store.specs.declared.fixed.Fixed.{Fixed}
 use Rattle.ps_store.specs.declared.stores.Store.{Store}
-use Rattle.ps_store.specs.Ledgers.{Ledger, fresh, ledger_after, ledger_of}
+use Rattle.ps_store.specs.Generations.{is_of, Lane}
+use Rattle.ps_store.specs.Ledgers.{Ledger, fresh, ledger_after, ledger_of, force_ops}
 use Rattle.ps_store.specs.Originals.{in_bucket}
 use Rattle.ps_store.specs.Stores.{StoreStandsFor}
 use Rattle.ps_store.specs.Totals.{bucket_names_of}
@@ -70,6 +71,10 @@ entered_kept : (names : List (List ℕ)) (l : Ledger) → (fold ledger_after l (
 entered_kept [] l = refl
 entered_kept (name ∷ names) l = entered_kept names (ledger_after l (Compact name))
 
+force_kept : (names : List (List ℕ)) (l : Ledger) → (fold ledger_after l (compacting names)).force ≡ l.force
+force_kept [] l = refl
+force_kept (name ∷ names) l = force_kept names (ledger_after l (Compact name))
+
 -- neither test is met
 both_false : (a b : Bool) → (a || b) ≡ false → (a ≡ false) × (b ≡ false)
 both_false true b h = absurd (cc)
@@ -119,12 +124,14 @@ module _ (fixed : Fixed) (history : List Event) where
     apart = not_among name c.done rest (subst (IsStrictlySortedBy (slice_cmp nat_cmp)) names_are (law fixed.rules history).in_order)
 
     -- the bucket has an operation
-    pub has_op : in_bucket name now.entered ≢ []
+    pub has_op : force_ops now name ≢ []
     has_op =
         let there : IsTrue (list_any (bytes_eq name) (bucket_names_of start)) = ap (list_any (bytes_eq name)) names_are ∙ found name c.done rest in
         let ops = ((law fixed.rules history).exactly name).0 there in
         let same : now.entered ≡ start.entered = ap (λ (l : Ledger). l.entered) folded ∙ entered_kept c.done start in
-        λ none. ops (ap (in_bucket name) (sym same) ∙ none)
+        let own : is_of now.force.number name ≡ true = ap (λ (l : Ledger). is_of l.force.number name) folded ∙ ap (λ (lane : Lane). is_of lane.number name) (force_kept c.done start) ∙ ops.0 in
+        let some : in_bucket name now.entered ≢ [] = λ none. ops.1 (ap (in_bucket name) (sym same) ∙ none) in
+        subst (λ (b : Bool). (if b then in_bucket name now.entered else []) ≢ []) (sym own) some
 
     same_report : report_of now.op (now.log name) ≡ report_of start.op (start.log name)
     same_report =

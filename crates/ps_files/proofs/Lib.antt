@@ -1,3 +1,4 @@
+pub mod ChangeSpelling
 pub mod AllLines
 pub mod Committing
 pub mod CompactedLogs

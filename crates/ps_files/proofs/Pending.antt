@@ -7,7 +7,9 @@ use Rattle.ps_definitions.specs.declared.definitions.Definition.{Definition}
 use Rattle.ps_definitions.specs.RuleSets.{RuleSet}
 use Rattle.ps_store.specs.declared.events.Event.{Event}
 use Rattle.ps_store.specs.declared.entered.Entered.{Entered}
-use Rattle.ps_store.specs.Histories.{Tells}
+use Rattle.ps_store.specs.Generations.{mark_of}
+use Rattle.ps_store.specs.Histories.{TellsOne}
+use Rattle.ps_store.specs.Steps.{marked}
 use Rattle.ps_store.specs.Ledgers.{Ledger, fresh, entries_after, next_ops, write_next, ledger_after, ledger_of, CanCome, IsLegalFrom}
 use Rattle.ps_store.specs.Limits.{usual_limits}
 use Rattle.ps_store.specs.Originals.{Timed, timed, key_of, after, entries_at, change_ops, ops_from, in_bucket}
@@ -85,6 +87,10 @@ ops_more definitions source next (u ∷ us) t =
     = ap (λ n. length (change_ops definitions (fold after (after source u) us) n t)) d in
     omega (arith, a, b, c, e)
 
+length_marked : (mark : List ℕ) (es : List Entered) → length (marked mark es) ≡ length es
+length_marked mark [] = refl
+length_marked mark (e ∷ es) = ap suc (length_marked mark es)
+
 -- ---- what is known of a ledger
 
 -- the first changes are written by the rules
@@ -97,7 +103,8 @@ module _ (rules : RuleSet) (before : List Timed) (l : Ledger) (k : Knows rules b
   next_length : length (next_ops l t) ≡ length (change_ops rules.definitions (fold after [] before) (1 + operations_of rules.definitions before) t)
   next_length =
       let at : l.last + 1 ≡ 1 + operations_of rules.definitions before = omega (arith, k.last) in
-      ap (λ (r : RuleSet). length (change_ops r.definitions l.force.source (l.last + 1) t)) k.rules_are
+      length_marked (mark_of l.force.number) (change_ops l.force.rules.definitions l.force.source (l.last + 1) t)
+      ∙ ap (λ (r : RuleSet). length (change_ops r.definitions l.force.source (l.last + 1) t)) k.rules_are
       ∙ ap (λ (s : Source). length (change_ops rules.definitions s (l.last + 1) t)) k.source
       ∙ ap (λ n. length (change_ops rules.definitions (fold after [] before) n t)) at
 
@@ -250,8 +257,8 @@ written_on (t ∷ ts) l =
     record { fed = on.fed; closed = on.closed; written = omega (arith, on.written); position = on.position; plain = λ plain. on.plain (plain_next l t plain) }
 
 -- what is told of a history is known
-pub known : (rules : RuleSet) (history : List Event) (l : Ledger) → Tells rules history l → Knows rules (take l.written (timed l.fed)) l
-known rules history l tells = record {
+pub known : (rules : RuleSet) (l : Ledger) → TellsOne rules l → Knows rules (take l.written (timed l.fed)) l
+known rules l tells = record {
   rules_are = tells.rules_are;
   last = tells.last ∙ ap length tells.entered;
   source = tells.source;

@@ -14,7 +14,7 @@ use Rattle.ps_store.specs.declared.faults.WriteFault.{WriteFault}
 use Rattle.ps_store.specs.declared.faults.WriteFault.TheVariants as writing
 use Rattle.ps_store.specs.declared.stores.Checkpoint.{Checkpoint}
 use Rattle.ps_store.specs.declared.stores.Store.{Store}
-use Rattle.ps_store.specs.Histories.{LedgersTellHistories}
+use Rattle.ps_store.specs.Histories.{LedgersTellHistories, LedgersTellOneGeneration}
 use Rattle.ps_store.specs.Laws.{last_position}
 use Rattle.ps_store.specs.Ledgers.{Ledger, fresh, head_of, timed_of, unwritten, entries_after, next_ops, write_next, ledger_after, ledger_of, reached_by}
 use Rattle.ps_store.specs.Limits.{usual_limits}
@@ -119,7 +119,7 @@ module _ (rules : RuleSet) (done : List Transaction) (old : Store) (h : HasCommi
 
 -- ---- pending changes
 
-module _ (law : LedgersTellHistories) (rules : RuleSet) (ts : List Transaction) (left : ℕ) (passed : Option Limit) (old : Store) (h : IsPending rules ts left passed old) where
+module _ (law : LedgersTellHistories) (one : LedgersTellOneGeneration) (rules : RuleSet) (ts : List Transaction) (left : ℕ) (passed : Option Limit) (old : Store) (h : IsPending rules ts left passed old) where
   abbrev l : Ledger
   l = ledger_of rules h.history
 
@@ -127,7 +127,7 @@ module _ (law : LedgersTellHistories) (rules : RuleSet) (ts : List Transaction) 
   front = take l.written (timed l.fed)
 
   knows : Knows rules front l
-  knows = known rules h.history l (law rules h.history h.stands.legal)
+  knows = known rules l (one rules h.history h.stands.legal h.stands.plain)
 
   pub none_passes_left : left ≡ 0 → passed ≡ None
   none_passes_left none = sym h.passed_is ∙ ap (first_passed rules.definitions front) (by (unwritten l) (h.left_are ∙ none)) where
@@ -240,8 +240,8 @@ module _ (law : LedgersTellHistories) (rules : RuleSet) (ts : List Transaction) 
   commits new none (Ok checkpoint) c = committed new none c.2
   commits new none (Err nothing) c = absurd (omega (arith, c.0, reached_last none, h.behind))
 
-pub none_passes : (law : LedgersTellHistories) (rules : RuleSet) (ts : List Transaction) (passed : Option Limit) (store : Store) → IsPending rules ts 0 passed store → passed ≡ None
-none_passes law rules ts passed store h = none_passes_left law rules ts 0 passed store h refl
+pub none_passes : (law : LedgersTellHistories) (one : LedgersTellOneGeneration) (rules : RuleSet) (ts : List Transaction) (passed : Option Limit) (store : Store) → IsPending rules ts 0 passed store → passed ≡ None
+none_passes law one rules ts passed store h = none_passes_left law one rules ts 0 passed store h refl
 
 -- a fault of a batch is that of all
 pub pending_refused : (rules : RuleSet) (ts : List Transaction) (left : ℕ) (passed : Option Limit) (store : Store) (fault : Fault) → WritesSome rules ts left passed store (Err fault) → WritesAll rules ts passed store (Err fault)

@@ -1,4 +1,5 @@
 pub mod ChangeFiles
+pub mod ChangeGrammar
 pub mod Checking
 pub mod Committing
 pub mod Compacting

@@ -1,7 +1,7 @@
 -- Loading what a file means.
 use Rattle.std.specs.Prelude.{◌≡◌, ℕ, ◌<◌, ◌++◌, codes, List, Option, Some, None, Result, Ok, Err, Vec}
 use Rattle.std.specs.declared.alloc.Global.{Global}
-use Rattle.ps_io.specs.Contents.{Contents, HasLength}
+use Rattle.ps_io.specs.Contents.{Contents, HasLength, Joins}
 use Rattle.ps_io.specs.Counts.{Rose}
 use Rattle.ps_files.specs.declared.faults.Fault.{Fault}
 use Rattle.ps_files.specs.declared.faults.Fault.TheVariants.{Usage, Rules, Change, PastLimit, TooManyBuckets, Claims, Keys, TooLong, CannotRead, CannotWrite, Script, Memory}
@@ -20,7 +20,8 @@ use Rattle.ps_claims.specs.Claims.{asker_of_claims}
 use Rattle.ps_files.specs.HeldFiles.{HoldsWithin}
 use Rattle.ps_files.specs.RulesFaults.{rules_of_file}
 
--- loading a file within a limit: what was found in its bytes, why its bytes are refused, that it is longer, or that the files failed
+-- loading a file within a limit: what was found in its bytes, why its bytes are refused, that it is longer, that the files failed, or that memory
+-- was wanting for a file within the limit
 abbrev pub Loads : {X : Type 0} → Option Contents → List ℕ → ℕ → ℕ → ℕ → (X → List ℕ → Type 0) → (Fault → List ℕ → Type 0) → Result X Fault → Type 0
 Loads held name limit before now Finds Refuses (Ok x) = (bytes : List ℕ) × HoldsWithin held name limit bytes × Finds x bytes
 Loads held name limit before now Finds Refuses (Err Usage) = ⊥
@@ -34,7 +35,32 @@ Loads held name limit before now Finds Refuses (Err (TooLong seen)) = (limit < s
 Loads held name limit before now Finds Refuses (Err (CannotRead file)) = (file.now ≡ name) × Rose before now
 Loads held name limit before now Finds Refuses (Err CannotWrite) = ⊥
 Loads held name limit before now Finds Refuses (Err (Script place cause)) = ⊥
-Loads held name limit before now Finds Refuses (Err Memory) = Unit {0}
+Loads held name limit before now Finds Refuses (Err Memory) = (bytes : List ℕ) × HoldsWithin held name limit bytes
+
+-- the name of a file that could not be read
+abbrev pub unread_name : Fault → Option (List ℕ)
+unread_name Usage = None
+unread_name (Rules line column why) = None
+unread_name (Change line why) = None
+unread_name (PastLimit passed) = None
+unread_name (TooManyBuckets count) = None
+unread_name Claims = None
+unread_name Keys = None
+unread_name (TooLong seen) = None
+unread_name (CannotRead file) = Some file.now
+unread_name CannotWrite = None
+unread_name (Script place cause) = None
+unread_name Memory = None
+
+-- a name, if there is one, joined those that could not be read
+abbrev pub JoinsThese : Option (List (List ℕ)) → Option (List (List ℕ)) → Option (List ℕ) → Type 0
+JoinsThese old new None = new ≡ old
+JoinsThese old new (Some name) = Joins old new name
+
+-- the name of the fault joined the names that could not be read, and else none did
+abbrev pub MissesNamed : {X : Type 0} → Option (List (List ℕ)) → Option (List (List ℕ)) → Result X Fault → Type 0
+MissesNamed old new (Ok x) = new ≡ old
+MissesNamed old new (Err fault) = JoinsThese old new (unread_name fault)
 
 -- bytes alone
 abbrev pub IsContent : Vec ℕ Global → List ℕ → Type 0

@@ -18,6 +18,7 @@ use ps_rows::Transaction;
 use ps_script::{is_blank, split_line};
 use ps_store::{
     FeedFault, Limits, NothingToCommit, Store, WriteFault, have_numbers, ledgers_tell_histories,
+    ledgers_tell_ops,
 };
 use std::alloc::Global;
 
@@ -79,6 +80,7 @@ pub fn write_transaction<'a>(
         → TakesLine rules done (within_limits rules.definitions done transaction) store.new result }
 {
     ledgers_tell_histories();
+    ledgers_tell_ops();
     let changes = transaction.changes.len();
     feed(store, transaction)?;
     write_fed(alloc, store, changes)?;
@@ -123,6 +125,7 @@ fn write_some<'a>(alloc: Global, store: &mut Store) -> Result<u32, Fault<'a>>
         → WritesSome rules transactions left passed store.new result }
 {
     ledgers_tell_histories();
+    ledgers_tell_ops();
     match store.write_batch(alloc, BATCH) {
         Ok(wrote) => Ok(wrote.changes),
         Err(WriteFault::TooWide { count, .. }) => Err(Fault::PastLimit {
@@ -142,6 +145,7 @@ fn commit(store: &mut Store)
         → HasCommitted rules transactions store.new }
 {
     ledgers_tell_histories();
+    ledgers_tell_ops();
     match store.commit() {
         Ok(_) | Err(NothingToCommit) => (),
     }

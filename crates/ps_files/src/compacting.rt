@@ -3,11 +3,10 @@
 ghost use Rattle.std.specs.Prelude.{◌≡◌, ◌≢◌, ◌≤◌, ◌<◌, ◌^◌, ◌++◌, [], List, IfOk, OnOk, length};
 ghost use Rattle.ps_store.specs.declared.events.Event.{Event as EventSeen};
 ghost use Rattle.ps_store.specs.declared.fixed.Fixed.{Fixed as FixedSeen};
-ghost use Rattle.ps_store.specs.Ledgers.{ledger_of};
-ghost use Rattle.ps_store.specs.Originals.{in_bucket};
+ghost use Rattle.ps_store.specs.Ledgers.{ledger_of, force_ops};
 ghost use Rattle.ps_store.specs.Stores.{StoreStandsFor};
 ghost use Rattle.ps_files.specs.Compacting.{CompactsOne, FindsReports, RefusesReports, Reports, reports_of, report_line, reports_text};
-ghost use Rattle.ps_files.specs.Loading.{Loads};
+ghost use Rattle.ps_files.specs.Loading.{Loads, MissesNamed};
 
 use crate::change_files::write_changes;
 use crate::faults::Fault;
@@ -28,9 +27,9 @@ pub struct Compacted {
     pub report: Report,
 }
 
-// Compacts the log of a bucket that has an operation.
+// Compacts the log of a bucket of the generation in force that has an operation.
 fn compact_one(alloc: Global, store: &mut Store, bucket: &Text) -> Result<Report, Memory>
-    requires { (fixed : FixedSeen) × (history : List EventSeen) × StoreStandsFor fixed store.old history × (in_bucket bucket.now (ledger_of fixed.rules history).entered ≢ []) }
+    requires { (fixed : FixedSeen) × (history : List EventSeen) × StoreStandsFor fixed store.old history × (force_ops (ledger_of fixed.rules history) bucket.now ≢ []) }
     ensures { (fixed : FixedSeen) (history : List EventSeen) → StoreStandsFor fixed store.old history → CompactsOne fixed history bucket.now store.new result }
 {
     match store.compact(alloc, bucket) {
@@ -112,6 +111,7 @@ pub fn load_reports<'a, F: Files>(
     rules: Rules,
 ) -> Result<Vec<u8>, Fault<'a>>
     ensures loads { Loads (F.held files.old) name.now FILE_LIMIT (F.faults files.old) (F.faults files.new) (FindsReports rules) (RefusesReports rules) result }
+    ensures missed { MissesNamed (F.missed files.old) (F.missed files.new) result }
     ensures held { F.held files.new ≡ F.held files.old }
     ensures faults { F.faults files.old ≤ F.faults files.new }
 {

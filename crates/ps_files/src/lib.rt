@@ -3,6 +3,7 @@
 #![tactic(auto)]
 
 mod change_files;
+mod change_grammar;
 mod checking;
 mod compacting;
 mod faults;
@@ -15,6 +16,7 @@ mod saying;
 mod signing;
 
 pub use change_files::write_changes;
+pub use change_grammar::change_files_are_spelled;
 pub use checking::print_check;
 pub use compacting::{Compacted, compact_all, load_reports};
 pub use faults::{Fault, Limit, LineFault, RulesCause, ScriptCause};

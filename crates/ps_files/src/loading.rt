@@ -1,5 +1,5 @@
 ghost use Rattle.std.specs.Prelude.{◌≡◌, ◌≤◌};
-ghost use Rattle.ps_files.specs.Loading.{Loads, IsContent, RefusesNothing, FindsRules, IsRulesFault, FindsKeys, IsKeysFault, FindsAsker, IsClaimsFault};
+ghost use Rattle.ps_files.specs.Loading.{Loads, MissesNamed, IsContent, RefusesNothing, FindsRules, IsRulesFault, FindsKeys, IsKeysFault, FindsAsker, IsClaimsFault};
 
 use crate::faults::Fault;
 use crate::rules_faults::read_rules_file;
@@ -17,7 +17,7 @@ pub const RULES_LIMIT: u64 = 1048576;
 /// The greatest number of bytes of any other file.
 pub const FILE_LIMIT: u64 = 268435456;
 
-/// Reads a file within a limit.
+/// Reads a file within a limit. Where it cannot be read, the fault names it.
 pub fn load<'a, F: Files>(
     alloc: Global,
     files: &mut F,
@@ -25,6 +25,7 @@ pub fn load<'a, F: Files>(
     limit: u64,
 ) -> Result<Vec<u8>, Fault<'a>>
     ensures loads { Loads (F.held files.old) name.now limit (F.faults files.old) (F.faults files.new) IsContent RefusesNothing result }
+    ensures missed { MissesNamed (F.missed files.old) (F.missed files.new) result }
     ensures held { F.held files.new ≡ F.held files.old }
     ensures faults { F.faults files.old ≤ F.faults files.new }
 {
@@ -43,6 +44,7 @@ pub fn load_rules<'a, F: Files>(
     name: &'a Text,
 ) -> Result<Rules, Fault<'a>>
     ensures loads { Loads (F.held files.old) name.now RULES_LIMIT (F.faults files.old) (F.faults files.new) FindsRules IsRulesFault result }
+    ensures missed { MissesNamed (F.missed files.old) (F.missed files.new) result }
     ensures held { F.held files.new ≡ F.held files.old }
     ensures faults { F.faults files.old ≤ F.faults files.new }
 {
@@ -57,6 +59,7 @@ pub fn load_keys<'a, F: Files>(
     name: &'a Text,
 ) -> Result<Keys, Fault<'a>>
     ensures loads { Loads (F.held files.old) name.now FILE_LIMIT (F.faults files.old) (F.faults files.new) FindsKeys IsKeysFault result }
+    ensures missed { MissesNamed (F.missed files.old) (F.missed files.new) result }
     ensures held { F.held files.new ≡ F.held files.old }
     ensures faults { F.faults files.old ≤ F.faults files.new }
 {
@@ -75,6 +78,7 @@ pub fn load_asker<'a, F: Files>(
     name: &'a Text,
 ) -> Result<Asker, Fault<'a>>
     ensures loads { Loads (F.held files.old) name.now FILE_LIMIT (F.faults files.old) (F.faults files.new) FindsAsker IsClaimsFault result }
+    ensures missed { MissesNamed (F.missed files.old) (F.missed files.new) result }
     ensures held { F.held files.new ≡ F.held files.old }
     ensures faults { F.faults files.old ≤ F.faults files.new }
 {

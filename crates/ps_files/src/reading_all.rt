@@ -4,7 +4,7 @@ ghost use Rattle.std.specs.Prelude.{◌≡◌, ◌≤◌, ◌<◌, ◌^◌, leng
 ghost use Rattle.ps_changes.specs.Lines.{line_of};
 ghost use Rattle.ps_store.specs.Limits.{greatest};
 ghost use Rattle.ps_files.specs.ChangeFiles.{line_fault, numbered};
-ghost use Rattle.ps_files.specs.Loading.{Loads};
+ghost use Rattle.ps_files.specs.Loading.{Loads, MissesNamed};
 ghost use Rattle.ps_files.specs.ReadingAll.{FindsTransactions, IsTransactionsFault, ReadsAll};
 ghost use Rattle.ps_files.specs.ReadingChanges.{ReadsRising};
 
@@ -85,6 +85,7 @@ pub fn load_transactions<'a, F: Files>(
     name: &'a Text,
 ) -> Result<Vec<Transaction>, Fault<'a>>
     ensures loads { Loads (F.held files.old) name.now FILE_LIMIT (F.faults files.old) (F.faults files.new) FindsTransactions IsTransactionsFault result }
+    ensures missed { MissesNamed (F.missed files.old) (F.missed files.new) result }
     ensures held { F.held files.new ≡ F.held files.old }
     ensures faults { F.faults files.old ≤ F.faults files.new }
 {

@@ -29,4 +29,4 @@ returns c = λ rules done h later.
     let passed = first_passed rules.definitions (timed done) (timed_of t) in
     let all = c.in_ok-write_fed.ensures rules (done ++ t ∷ []) passed (rw c.len-changes.ensures (c.in_ok-feed.ensures rules done h later)) in
     taken rules done t c.commit.new.store
-    (none_passes c.ledgers_tell_histories.ensures rules (done ++ t ∷ []) passed c.write_fed.new.store all) (c.commit.ensures rules (done ++ t ∷ []) passed all)
+    (none_passes c.ledgers_tell_histories.ensures c.ledgers_tell_ops.ensures.one rules (done ++ t ∷ []) passed c.write_fed.new.store all) (c.commit.ensures rules (done ++ t ∷ []) passed all)
