@@ -11,7 +11,7 @@ use Rattle.ps_token.specs.declared.key_lists.Key.{Key}
 use Rattle.ps_files.specs.declared.faults.Fault.{Fault}
 use Rattle.ps_files.specs.declared.faults.Fault.TheVariants.{Usage, Rules, Change, PastLimit, TooManyBuckets, Claims, Keys, TooLong, CannotRead, CannotWrite, Script, Memory}
 use Rattle.ps_files.specs.HeldFiles.{file_limit, rules_limit, HoldsWithin}
-use Rattle.ps_commands.specs.Commands.{Names, Inputs, check, rows, compact, token, generate, generate_lines, command_of, ReadsRules, ReadsAsker, ReadsKeyFile, Role, for_rules, for_keys, for_claims, for_changes, limit_of, ReadsRulesAndClaims, Reaches, Command, replay, Means, MeansRows, MeansCompact, Begins, Outside, Kept, Caused, reading, Finds}
+use Rattle.ps_commands.specs.Commands.{Names, Inputs, check, rows, compact, token, generate, generate_lines, command_of, ReadsRules, ReadsAsker, ReadsKeyFile, Role, for_rules, for_keys, for_claims, for_changes, for_script, limit_of, ComesTo, FirstFits, ReadsRulesAndClaims, Reaches, Command, replay, Means, MeansRows, MeansCompact, Begins, Outside, Kept, Caused, reading, Finds}
 use Rattle.ps_commands.specs.Replaying.{Game, GivesAll, GivesSome}
 use Rattle.ps_script.specs.Lines.{lines_of}
 use Rattle.ps_rows.specs.declared.changes.Transaction.{Transaction}
@@ -25,6 +25,37 @@ rose_later : (before mid now : ℕ) → before ≤ mid → Rose mid now → Rose
 rose_later before mid now le h = omega arith
 
 -- ---- loading a file of a command
+
+-- where a file that is reached is within its limit, so is the first file of its command
+first_fits : (held : Option Contents) (command : Command) (role : Role) (name : List ℕ) → ComesTo held command role name
+    → (bytes : List ℕ) → HoldsWithin held name (limit_of role) bytes → FirstFits held command
+first_fits held (check rules) for_rules name c bytes file = (bytes, subst (λ (own : List ℕ). HoldsWithin held own rules_limit bytes) c file)
+first_fits held (check rules) for_keys name c bytes file = absurd c
+first_fits held (check rules) for_claims name c bytes file = absurd c
+first_fits held (check rules) for_changes name c bytes file = absurd c
+first_fits held (check rules) for_script name c bytes file = absurd c
+first_fits held (rows names) for_rules name c bytes file = (bytes, subst (λ (own : List ℕ). HoldsWithin held own rules_limit bytes) c file)
+first_fits held (rows names) for_keys name c bytes file = absurd c
+first_fits held (rows names) for_claims name c bytes file = (c.2.bytes, c.2.file)
+first_fits held (rows names) for_changes name c bytes file = (c.1.rules_read.bytes, c.1.rules_read.file)
+first_fits held (rows names) for_script name c bytes file = absurd c
+first_fits held (replay names) for_rules name c bytes file = (bytes, subst (λ (own : List ℕ). HoldsWithin held own rules_limit bytes) c file)
+first_fits held (replay names) for_keys name c bytes file = absurd c
+first_fits held (replay names) for_claims name c bytes file = absurd c
+first_fits held (replay names) for_changes name c bytes file = (c.2.bytes, c.2.file)
+first_fits held (replay names) for_script name c bytes file = (c.1.rules_read.bytes, c.1.rules_read.file)
+first_fits held (compact names) for_rules name c bytes file = (bytes, subst (λ (own : List ℕ). HoldsWithin held own rules_limit bytes) c file)
+first_fits held (compact names) for_keys name c bytes file = absurd c
+first_fits held (compact names) for_claims name c bytes file = absurd c
+first_fits held (compact names) for_changes name c bytes file = (c.2.bytes, c.2.file)
+first_fits held (compact names) for_script name c bytes file = absurd c
+first_fits held (token names) for_rules name c bytes file = absurd c
+first_fits held (token names) for_keys name c bytes file = (bytes, subst (λ (own : List ℕ). HoldsWithin held own file_limit bytes) c file)
+first_fits held (token names) for_claims name c bytes file = (c.2.bytes, c.2.file)
+first_fits held (token names) for_changes name c bytes file = absurd c
+first_fits held (token names) for_script name c bytes file = absurd c
+first_fits held (generate count) role name c bytes file = absurd c
+first_fits held (generate_lines count) role name c bytes file = absurd c
 
 module _ (o : Outside) (mid_held : Option Contents) (mid : ℕ) (words : List (List ℕ)) (role : Role) (name : List ℕ) (same : mid_held ≡ o.held) (risen : o.read_before ≤ mid) (kept : Kept o) (reached : Reaches o.held words role name) where
   here : (bytes : List ℕ) → HoldsWithin mid_held name (limit_of role) bytes → HoldsWithin o.held name (limit_of role) bytes
@@ -44,7 +75,7 @@ module _ (o : Outside) (mid_held : Option Contents) (mid : ℕ) (words : List (L
   cause_of Finds Refuses why (CannotRead file) h = (kept, record { role = role; reached = subst (Reaches o.held words role) (sym h.0) reached }, rose_later o.read_before mid o.read_now risen h.1)
   cause_of Finds Refuses why CannotWrite h = absurd h
   cause_of Finds Refuses why (Script place cause) h = absurd h
-  cause_of Finds Refuses why Memory h = inl (kept, (reached.command, reached.is))
+  cause_of Finds Refuses why Memory h = inl (kept, (reached.command, reached.is, first_fits o.held reached.command role name reached.comes h.0 (here h.0 h.1)))
 
 module _ (o : Outside) (words : List (List ℕ)) (name : List ℕ) (kept : Kept o) where
   rules_refused : Reaches o.held words for_rules name → (fault : Fault) (bytes : List ℕ) → HoldsWithin o.held name rules_limit bytes → IsRulesFault fault bytes → Caused o words fault

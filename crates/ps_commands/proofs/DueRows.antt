@@ -9,7 +9,8 @@ use Rattle.ps_params.specs.Names.{bucket_names}
 use Rattle.ps_definitions.specs.RuleSets.{RuleSet}
 use Rattle.ps_queries.specs.Meaning.{Asker}
 use Rattle.ps_store.specs.declared.stores.Store.{Store}
-use Rattle.ps_store.specs.Histories.{LedgersTellHistories}
+use Rattle.ps_store.specs.Histories.{LedgersTellOneGeneration}
+use Rattle.ps_store.specs.LedgerLaws.{OneGenerationReads}
 use Rattle.ps_store.specs.Laws.{last_position}
 use Rattle.ps_store.specs.Ledgers.{Ledger, ledger_of}
 use Rattle.ps_store.specs.Limits.{usual_limits}
@@ -18,14 +19,14 @@ use Rattle.ps_commands.specs.Syncing.{AreSynced}
 use Rattle.ps_commands.specs.Dues.{due, own_buckets}
 use Rattle.ps_files.specs.ReadingChanges.{usual, HasCommitted}
 
-module _ (law : LedgersTellHistories) (rules : RuleSet) (ts : List Transaction) (store : Store) (h : HasCommitted rules ts store) (asker : Asker) where
+module _ (one : LedgersTellOneGeneration) (reads : OneGenerationReads) (rules : RuleSet) (ts : List Transaction) (store : Store) (h : HasCommitted rules ts store) (asker : Asker) where
   abbrev l : Ledger
   l = ledger_of rules h.history
 
   -- the asker's buckets at the checkpoint are those at the last position
   own_are : names_of l asker ≡ own_buckets rules asker ts
   own_are =
-      ap (λ (r : RuleSet). bucket_names r.definitions asker (rows_in (source_at l.fed l.position))) (law rules h.history h.stands.legal).rules_are
+      (reads rules h.history h.stands.legal h.stands.plain).names asker
       ∙ ap (λ (fed : List Transaction). bucket_names rules.definitions asker (rows_in (source_at fed l.position))) h.fed
       ∙ ap (λ p. bucket_names rules.definitions asker (rows_in (source_at ts p))) h.position
 
@@ -34,6 +35,7 @@ module _ (law : LedgersTellHistories) (rules : RuleSet) (ts : List Transaction) 
   synced_are_due rows synced = (
     omega (arith, synced.few, ap length own_are),
     synced.rows_are
+        ∙ ap (λ (r : RuleSet). due_by r.definitions asker l.fed l.position) (one rules h.history h.stands.legal h.stands.plain).rules_are
         ∙ ap (λ (fed : List Transaction). due_by rules.definitions asker fed l.position) h.fed
         ∙ ap (λ p. due_by rules.definitions asker ts p) h.position,
   )

@@ -2,7 +2,7 @@
 use Rattle.std.proofs.Common.{◌≡◌, ◌⊎◌, ℕ, ◌<◌, ◌≤◌, false, cond, List, Option, Some, None, Result, Ok, Err, length, refl, sym, ap, ◌∙◌, subst, arith, inl, inr, leb, ltb, true}
 use Rattle.std.proofs.lemmas.Bool.{le-leb}
 use Rattle.std.proofs.lemmas.Bool.Decides.{nat_tests}
-use Rattle.ps_io.specs.Contents.{Contents, HasLength, Gains}
+use Rattle.ps_io.specs.Contents.{Contents, HasLength, Joins, Gains}
 use Rattle.ps_io.specs.Counts.{Rose}
 use Rattle.ps_rows.specs.declared.changes.Transaction.{Transaction}
 use Rattle.ps_rows.specs.declared.shown.Shown.{Shown}
@@ -21,8 +21,9 @@ use Rattle.ps_store.specs.Limits.{usual_limits}
 use Rattle.ps_files.specs.Checking.{check_text}
 use Rattle.ps_claims.specs.Claims.{asker_of_claims}
 use Rattle.ps_files.specs.FaultTexts.{status_of}
+use Rattle.ps_files.specs.Loading.{unread_name, JoinsThese}
 use Rattle.ps_files.specs.HeldFiles.{rules_limit, file_limit, HoldsWithin}
-use Rattle.ps_commands.specs.Commands.{Names, Inputs, Scripting, Signing, Command, check, rows, replay, compact, token, generate, generate_lines, command_of, ReadsRules, ReadsAsker, ReadsChanges, ReadsTransactions, ReadsGame, ReadsKeyFile, token_text, Means, Prints, Role, for_rules, for_keys, for_claims, for_changes, for_script, limit_of, Reaches, ComesTo, RefusesRules, RefusesKeyFile, HasUnknownKid, RefusesKeys, RefusesClaims, RefusesChanges, RefusesCompaction, RefusesFed, RefusesScript, RefusesLines, HasTooManyBuckets, ExceedsFile, ExceedsLimit, IsNext, IsCommand, PrintsFront, PrintsSome, Kept, Outside, Caused, Refusal, exceeds, refused, refusal_status, within_limit, or_refused, or_refused_as, or_none, rules_meant, keys_meant, asker_meant, transactions_meant, rows_meant, all_meant, script_meant, Meant, prints, plays, printing, meaning, IsPlayed, IsAnswer, IsAnswerAlone, IsExact, ◌>>=◌}
+use Rattle.ps_commands.specs.Commands.{Names, Inputs, Scripting, Signing, Command, check, rows, replay, compact, token, generate, generate_lines, command_of, ReadsRules, ReadsAsker, ReadsChanges, ReadsTransactions, ReadsGame, ReadsKeyFile, token_text, Means, Prints, Role, for_rules, for_keys, for_claims, for_changes, for_script, limit_of, Reaches, ComesTo, RefusesRules, RefusesKeyFile, HasUnknownKid, RefusesKeys, RefusesClaims, RefusesChanges, RefusesCompaction, RefusesFed, RefusesScript, RefusesLines, HasTooManyBuckets, ExceedsFile, ExceedsLimit, IsNext, BeginsWithin, PrintsFront, PrintsSome, Kept, Outside, Caused, Refusal, exceeds, refused, refusal_status, within_limit, or_refused, or_refused_as, or_none, rules_meant, keys_meant, asker_meant, transactions_meant, rows_meant, all_meant, script_meant, Meant, prints, plays, printing, meaning, IsPlayed, IsAnswer, IsAnswerAlone, IsExact, ◌>>=◌}
 use Rattle.ps_commands.specs.Dues.{due, own_buckets}
 use Rattle.ps_files.specs.Compacting.{compact_text}
 use Rattle.ps_commands.specs.Generating.{generated}
@@ -316,7 +317,7 @@ module _ (held : Contents) (words : List (List ℕ)) (command : Command) (is : c
   script_answer : (line : ℕ) (why : ScriptCause) → RefusesScript (Some held) words line why old new → status ≡ 9 → IsAnswer (meaning held command) old new status
   script_answer line why r s = game_answer r.names r.game r.is r.read (inr (inl (s, line, why, r.text, r.gives, r.printed)))
 
-  want_answer : ((new ≡ old) × IsCommand words) ⊎ PrintsSome (Some held) words old new → status ≡ 8 → IsAnswer (meaning held command) old new status
+  want_answer : ((new ≡ old) × BeginsWithin (Some held) words) ⊎ PrintsSome (Some held) words old new → status ≡ 8 → IsAnswer (meaning held command) old new status
   want_answer (inl k) s = wanting (meaning held command) old new status s k.0
   want_answer (inr p) s = game_answer p.names p.begins.game p.is p.begins.read (inr (inr (s, inr (p.text, p.begins.gives, p.printed))))
 
@@ -479,19 +480,35 @@ claims_by o words status CannotWrite c s h = absurd (omega (arith, s, h))
 claims_by o words status (Script place cause) c s h = absurd (omega (arith, s, h))
 claims_by o words status Memory c s h = absurd (omega (arith, s, h))
 
-pub unread_by : (o : Outside) (words : List (List ℕ)) (status : ℕ) (fault : Fault) → Caused o words fault → status ≡ status_of fault → status ≡ 6 → Rose o.read_before o.read_now × (name : List ℕ) × IsNext o.held words name
-unread_by o words status Usage c s h = absurd (omega (arith, s, h))
-unread_by o words status (Rules line column why) c s h = absurd (omega (arith, s, h))
-unread_by o words status (Change line why) c s h = absurd (omega (arith, s, h))
-unread_by o words status (PastLimit limit) c s h = absurd (omega (arith, s, h))
-unread_by o words status (TooManyBuckets count) c s h = absurd (omega (arith, s, h))
-unread_by o words status Claims c s h = absurd (omega (arith, s, h))
-unread_by o words status Keys c s h = absurd (omega (arith, s, h))
-unread_by o words status (TooLong seen) c s h = absurd (omega (arith, s, h))
-unread_by o words status (CannotRead name) c s h = (c.2, name.now, c.1)
-unread_by o words status CannotWrite c s h = absurd (omega (arith, s, h))
-unread_by o words status (Script place cause) c s h = absurd (omega (arith, s, h))
-unread_by o words status Memory c s h = absurd (omega (arith, s, h))
+pub unread_by : (o : Outside) (words : List (List ℕ)) (before after : Option (List (List ℕ))) (status : ℕ) (fault : Fault) → Caused o words fault → JoinsThese before after (unread_name fault)
+    → status ≡ status_of fault → status ≡ 6 → Rose o.read_before o.read_now × (name : List ℕ) × IsNext o.held words name × Joins before after name
+unread_by o words before after status Usage c j s h = absurd (omega (arith, s, h))
+unread_by o words before after status (Rules line column why) c j s h = absurd (omega (arith, s, h))
+unread_by o words before after status (Change line why) c j s h = absurd (omega (arith, s, h))
+unread_by o words before after status (PastLimit limit) c j s h = absurd (omega (arith, s, h))
+unread_by o words before after status (TooManyBuckets count) c j s h = absurd (omega (arith, s, h))
+unread_by o words before after status Claims c j s h = absurd (omega (arith, s, h))
+unread_by o words before after status Keys c j s h = absurd (omega (arith, s, h))
+unread_by o words before after status (TooLong seen) c j s h = absurd (omega (arith, s, h))
+unread_by o words before after status (CannotRead name) c j s h = (c.2, name.now, c.1, j)
+unread_by o words before after status CannotWrite c j s h = absurd (omega (arith, s, h))
+unread_by o words before after status (Script place cause) c j s h = absurd (omega (arith, s, h))
+unread_by o words before after status Memory c j s h = absurd (omega (arith, s, h))
+
+-- but where a file could not be read, no name joined those that could not be
+pub missed_by : (before after : Option (List (List ℕ))) (status : ℕ) (fault : Fault) → JoinsThese before after (unread_name fault) → status ≡ status_of fault → ¬ (status ≡ 6) → after ≡ before
+missed_by before after status Usage j s other = j
+missed_by before after status (Rules line column why) j s other = j
+missed_by before after status (Change line why) j s other = j
+missed_by before after status (PastLimit limit) j s other = j
+missed_by before after status (TooManyBuckets count) j s other = j
+missed_by before after status Claims j s other = j
+missed_by before after status Keys j s other = j
+missed_by before after status (TooLong seen) j s other = j
+missed_by before after status (CannotRead name) j s other = absurd (other s)
+missed_by before after status CannotWrite j s other = j
+missed_by before after status (Script place cause) j s other = j
+missed_by before after status Memory j s other = j
 
 pub unwritten_by : (o : Outside) (words : List (List ℕ)) (status : ℕ) (fault : Fault) → Caused o words fault → status ≡ status_of fault → status ≡ 7 → Rose o.write_before o.write_now × PrintsFront o.held words o.taken_before o.taken_now
 unwritten_by o words status Usage c s h = absurd (omega (arith, s, h))
@@ -551,6 +568,22 @@ early_by o words status CannotWrite c s h = absurd (omega (arith, s, h))
 early_by o words status (Script line why) c s h = absurd (omega (arith, s, h))
 early_by o words status Memory (inl k) s h = inl k.0
 early_by o words status Memory (inr p) s h = inr p
+
+pub first_by : (o : Outside) (words : List (List ℕ)) (status : ℕ) (fault : Fault) → Caused o words fault → status ≡ status_of fault → status ≡ 8 → BeginsWithin o.held words
+first_by o words status Usage c s h = absurd (omega (arith, s, h))
+first_by o words status (Rules line column why) c s h = absurd (omega (arith, s, h))
+first_by o words status (Change line why) c s h = absurd (omega (arith, s, h))
+first_by o words status (PastLimit limit) c s h = absurd (omega (arith, s, h))
+first_by o words status (TooManyBuckets count) c s h = absurd (omega (arith, s, h))
+first_by o words status Claims c s h = absurd (omega (arith, s, h))
+first_by o words status Keys c s h = absurd (omega (arith, s, h))
+first_by o words status (TooLong seen) c s h = absurd (omega (arith, s, h))
+first_by o words status (CannotRead name) c s h = absurd (omega (arith, s, h))
+first_by o words status CannotWrite c s h = absurd (omega (arith, s, h))
+first_by o words status (Script place cause) c s h = absurd (omega (arith, s, h))
+first_by o words status Memory (inl k) s h = k.1
+first_by o words status Memory (inr p) s h =
+    let file = p.begins.read.rules_read in (replay p.names, p.is, (file.bytes, file.file))
 
 pub kept_by : (o : Outside) (words : List (List ℕ)) (status : ℕ) (fault : Fault) → Caused o words fault → status ≡ status_of fault → ¬ (status ≡ 7) → ¬ (status ≡ 8) → ¬ (status ≡ 9) → Kept o
 kept_by o words status Usage c s seven eight nine = c.0

@@ -2,7 +2,6 @@ pub mod Leading
 pub mod SyncAnswers
 pub mod Passing
 pub mod Turns
-pub mod Rereading
 pub mod Ending
 pub mod Results
 pub mod ScriptLines
@@ -10,5 +9,6 @@ pub mod Spelling
 pub mod Causes
 pub mod DueRows
 pub mod Exactness
+pub mod Missed
 pub mod Replays
 pub mod Summaries

@@ -5,10 +5,10 @@ use Rattle.ps_lines.specs.Writing.{IsWritable, without_targets}
 use Rattle.ps_client.specs.Clients.{PlainClient, taken}
 use Rattle.ps_store.specs.Courses.{Course}
 use Rattle.ps_session.specs.Sessions.{SessionState}
-use Rattle.ps_core.specs.Runs.{made_by}
-use Rattle.ps_core.specs.Headline.{Local, IsGood, with_local}
-use Rattle.ps_core.specs.Led.{LeadsTaken, LeadsLocally}
-use Rattle.ps_core.specs.Ties.{Leads}
+use Rattle.ps_streams.specs.Runs.{made_by}
+use Rattle.ps_streams.specs.Headline.{Local, IsGood, with_local}
+use Rattle.ps_streams.specs.Led.{LeadsTaken, LeadsLocally}
+use Rattle.ps_streams.specs.Ties.{Leads}
 
 pub waits : LeadsTaken → (course : Course) (at n : ℕ) (session : SessionState) (client : PlainClient) (line : Line) (waiting : Option Line) → waiting ≡ Some line
     → Leads course at n session client (made_by at waiting None [])

@@ -15,6 +15,7 @@ use Rattle.ps_definitions.specs.RuleSets.{RuleSet}
 use Rattle.ps_definitions.specs.Vectors.{no_row}
 use Rattle.ps_store.specs.declared.stores.Store.{Store}
 use Rattle.ps_store.specs.declared.totals.Totals.{Totals}
+use Rattle.ps_store.specs.Histories.{LedgersTellOneGeneration}
 use Rattle.ps_store.specs.Ledgers.{ledger_of}
 use Rattle.ps_store.specs.Limits.{usual_limits}
 use Rattle.ps_store.specs.Totals.{totals_of}
@@ -43,10 +44,12 @@ answered ts =
     rw few refl
 
 module _ (ts : List Transaction) (store : Store) (h : HasCommitted made_rule_set ts store) where
-  pub counted : (rows : List Shown) (count : ℕ) → AreSynced (usual made_rule_set) h.history made_asker rows → count ≡ length rows → count ≡ length (made_rows ts)
-  counted rows count synced is =
+  pub counted : LedgersTellOneGeneration → (rows : List Shown) (count : ℕ) → AreSynced (usual made_rule_set) h.history made_asker rows → count ≡ length rows → count ≡ length (made_rows ts)
+  counted one rows count synced is =
       is
-      ∙ ap length (synced.rows_are ∙ ap (λ (fed : List Transaction). due made_rule_set made_asker fed (ledger_of made_rule_set h.history).position) h.fed ∙ ap (due made_rule_set made_asker ts) h.position)
+      ∙ ap length (synced.rows_are
+      ∙ ap (λ (rules : RuleSet). due rules made_asker (ledger_of made_rule_set h.history).fed (ledger_of made_rule_set h.history).position) (one made_rule_set h.history h.stands.legal h.stands.plain).rules_are
+      ∙ ap (λ (fed : List Transaction). due made_rule_set made_asker fed (ledger_of made_rule_set h.history).position) h.fed ∙ ap (due made_rule_set made_asker ts) h.position)
 
 -- ---- the summary of a store
 

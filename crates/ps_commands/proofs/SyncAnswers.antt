@@ -32,9 +32,9 @@ use Rattle.ps_store.specs.Courses.{Course}
 use Rattle.ps_session.specs.declared.phases.Phase.{Phase}
 use Rattle.ps_session.specs.declared.phases.Phase.TheVariants.{Download}
 use Rattle.ps_session.specs.Sessions.{SessionState}
-use Rattle.ps_core.specs.Headline.{IsGood, AreListed}
-use Rattle.ps_core.specs.Calls.{IsRightEvent, IsRightFault}
-use Rattle.ps_core.specs.Ties.{TiedIn}
+use Rattle.ps_streams.specs.Headline.{IsGood, AreListed}
+use Rattle.ps_streams.specs.Calls.{IsRightEvent, IsRightFault}
+use Rattle.ps_streams.specs.Ties.{TiedIn}
 use Rattle.ps_core.specs.Parts.{IsWant}
 use Rattle.ps_commands.specs.Turning.{IsLed, IsIdle}
 

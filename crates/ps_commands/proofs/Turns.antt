@@ -1,37 +1,36 @@
--- The first turns of a session, and its reads, at the end of a history.
-use Rattle.std.proofs.Common.{◌≡◌, ℕ, ◌≤◌, Some, None, List, [], refl, sym, ap, subst, ◌∙◌, length, arith}
-use Rattle.std.specs.Prelude.{option_map}
-use Rattle.std.proofs.lemmas.List.{length-map}
+-- The beginning of a session, and its turns, at the end of a history.
+use Rattle.std.proofs.Common.{◌≡◌, ℕ, ◌≤◌, true, Some, None, Option, List, [], refl, sym, ap, subst, ◌∙◌, length, arith}
+use Rattle.std.specs.Prelude.{Result, Ok, Err, OnOk, option_map}
 use Rattle.ps_data.specs.declared.ids.OpId.{OpId}
-use Rattle.ps_bucket_log.specs.declared.batches.Batch.{Batch}
+use Rattle.ps_bucket_log.specs.declared.takes.TakenBucket.{TakenBucket}
 use Rattle.ps_queries.specs.Meaning.{Asker}
-use Rattle.ps_sql_eval.specs.declared.askers.Asker.{Asker as OwnAsker}
-use Rattle.ps_sql_eval.specs.Evaluated.{asker_of}
 use Rattle.ps_lines.specs.declared.bodies.StreamBody.{StreamBody}
-use Rattle.ps_params.specs.Names.{AreTold}
+use Rattle.ps_lines.specs.declared.lines.Line.{Line}
 use Rattle.ps_client_log.specs.Kept.{Kept, nothing_kept}
 use Rattle.ps_client.specs.Clients.{PlainClient, asked}
 use Rattle.ps_client.specs.Requests.{IsRequest}
 use Rattle.ps_store.specs.declared.events.Event.{Event}
 use Rattle.ps_store.specs.declared.fixed.Fixed.{Fixed}
+use Rattle.ps_store.specs.declared.readings.TakeFault.{TakeFault}
+use Rattle.ps_store.specs.declared.readings.TakeFault.TheVariants.{TooManyBuckets, Memory}
 use Rattle.ps_store.specs.declared.stores.Store.{Store}
-use Rattle.ps_bucket_log.specs.declared.takes.Taken.{Taken}
-use Rattle.ps_store.specs.Ledgers.{ledger_of}
-use Rattle.ps_store.specs.Readings.{IsTaken, taken_names, names_of, bucket_upto, batch_of}
 use Rattle.ps_store.specs.Courses.{Course, course_of}
-use Rattle.ps_store.specs.CourseLaws.{IsLawful, CoursesAreLawful, EndsAreWhole}
+use Rattle.ps_store.specs.CourseLaws.{IsLawful, CoursesAreLawful}
 use Rattle.ps_session.specs.declared.actions.Action.TheVariants.{Read}
 use Rattle.ps_session.specs.declared.phases.Phase.{Phase}
-use Rattle.ps_session.specs.declared.phases.Phase.TheVariants.{Start, Download}
-use Rattle.ps_session.specs.Takes.{name_of}
-use Rattle.ps_session.specs.Sessions.{SessionState, IsTaking, action_in, next_action, behind, begin, requested_in, took, took_in, read}
-use Rattle.ps_core.specs.Runs.{IsToldIn, IsToldAt, made_by, turn}
-use Rattle.ps_core.specs.Headline.{AreHonest}
-use Rattle.ps_core.specs.Led.{EmptyAreHonest, LeadsFirst, LeadsOn}
-use Rattle.ps_core.specs.Calls.{TakesAreTurns, ReadsAreTurns, BeginsUntaken, TurnsKeepTaken, RequestsAskOn}
-use Rattle.ps_core.specs.Ties.{Leads}
-use Rattle.ps_commands.specs.Turning.{Serves, IsLed, IsLedIn, IsIdle}
-use Rattle.ps_commands.proofs.Leading.{lawful_of, take_is, batch_is, turn_leads, turn_taken}
+use Rattle.ps_session.specs.declared.phases.Phase.TheVariants.{Start, Download, Void, Done}
+use Rattle.ps_session.specs.Takes.{name_of, place_in}
+use Rattle.ps_session.specs.Sessions.{SessionState, IsReading, action_in, behind, begin, download_action, next_action, requested_in}
+use Rattle.ps_streams.specs.declared.outcomes.TurnOutcome.{TurnOutcome}
+use Rattle.ps_streams.specs.Calls.{BeginsUntaken, RequestsAskOn}
+use Rattle.ps_streams.specs.Downloads.{ReadsSendOn, SendsOn}
+use Rattle.ps_streams.specs.Headline.{AreHonest}
+use Rattle.ps_streams.specs.Led.{EmptyAreHonest, LeadsFirst, LeadsOn}
+use Rattle.ps_streams.specs.Runs.{download, made_by, turn, turn_in}
+use Rattle.ps_streams.specs.Ties.{HasTaken, Leads}
+use Rattle.ps_streams.specs.Turning.{IsUnderWay, TurnsSo, line_in, takes_in}
+use Rattle.ps_commands.specs.Turning.{Begins, Serves, IsLed, IsLedIn, IsIdle, TurnsLed}
+use Rattle.ps_commands.proofs.Leading.{at_end, lawful_of, turn_leads}
 
 -- ---- the beginning
 
@@ -52,65 +51,79 @@ idle_asked old new empty new_is =
     let kept_is : new.kept ≡ nothing_kept = ap (λ (c : PlainClient). c.kept) new_is ∙ empty in
     record { queue = ap (λ (k : Kept). k.queue) kept_is; target = ap (λ (k : Kept). k.target) kept_is }
 
--- ---- the first take
+-- ---- a turn
 
-pub is_taking : (session : SessionState) → session.phase ≡ Start → IsTaking (next_action session)
-is_taking session start = subst (λ (p : Phase). IsTaking (action_in p session)) (sym start) tt
+pub under_way : (course : Course) (n : ℕ) (session : SessionState) (client : PlainClient) → IsLed course n session client → IsUnderWay course n n session
+under_way course n session client led = record { taken = led.taken; late = omega arith }
 
-pub downloads : (session : SessionState) (taken : Taken) → session.phase ≡ Start → (took session taken).session.phase ≡ Download
-downloads session taken start = subst (λ (p : Phase). (took_in p session taken).session.phase ≡ Download) (sym start) refl
+module _ (fixed : Fixed) (history : List Event) (asker : Asker) (before now : SessionState) where
+  abbrev course : Course
+  course = course_of fixed.rules history asker
 
-take_turn : TakesAreTurns → EndsAreWhole → (fixed : Fixed) (history : List Event) (asker : Asker) (session : SessionState) (taken : Taken) → session.phase ≡ Start
-    → IsTaken fixed.limits (ledger_of fixed.rules history) asker taken
-    → (turn (course_of fixed.rules history asker) (length history) session ≡ took session taken) × IsToldIn session.phase (course_of fixed.rules history asker) (length history)
-take_turn takes whole fixed history asker session taken start it =
-    let course = course_of fixed.rules history asker in
-    let n = length history in
-    let is : course.take n ≡ taken = take_is whole fixed history asker ∙ sym it.value in
-    let step = takes course n n session (is_taking session start) in
-    let told : IsToldAt course n = subst (λ (t : Taken). AreTold (taken_names t)) (sym is) it.told in
-    (step.0 ∙ ap (took session) is, step.2 told)
+  abbrev n : ℕ
+  n = length history
 
-pub take_leads : TakesAreTurns → EndsAreWhole → LeadsOn → CoursesAreLawful → (fixed : Fixed) (store : Store) (history : List Event) (asker : Asker) (session : SessionState) (client : PlainClient)
-    (taken : Taken) → Serves fixed store history → session.phase ≡ Start → IsTaken fixed.limits (ledger_of fixed.rules history) asker taken → IsLedIn fixed history asker session client
-    → (line : _) → line ≡ (took session taken).line
-    → Leads (course_of fixed.rules history asker) (length history) (length history) (took session taken).session client (made_by (length history) line None [])
-take_leads takes whole on lawful fixed store history asker session client taken serves start it led line line_is =
-    let step = take_turn takes whole fixed history asker session taken start it in
-    subst (λ l. Leads (course_of fixed.rules history asker) (length history) (length history) (took session taken).session client (made_by (length history) l None [])) (sym line_is)
-    (turn_leads on (course_of fixed.rules history asker) (length history) session client (took session taken) (lawful_of lawful fixed store history asker serves) step.1 step.0 led)
+  module _ (outcome : TurnOutcome) (it : TurnsSo fixed history asker n before now (Ok outcome)) where
+    -- its line leads the client on
+    pub turn_leads_on : LeadsOn → CoursesAreLawful → (store : Store) (client : PlainClient) → Serves fixed store history → IsLedIn fixed history asker before client
+        → (line : Option Line) → line ≡ line_in outcome → Leads course n n now client (made_by n line None [])
+    turn_leads_on on lawful store client serves led line line_is =
+        subst (λ (s : SessionState). Leads course n n s client (made_by n line None [])) (sym it.session_is)
+        (subst (λ (l : Option Line). Leads course n n (turn course n before).session client (made_by n l None [])) (sym (line_is ∙ it.line_is))
+        (turn_leads on course n before client (turn course n before) (lawful_of lawful fixed store history asker serves) it.told refl led))
 
-pub take_led : TakesAreTurns → EndsAreWhole → TurnsKeepTaken → (fixed : Fixed) (history : List Event) (asker : Asker) (session now : SessionState) (old new : PlainClient) (taken : Taken)
-    → session.phase ≡ Start → IsTaken fixed.limits (ledger_of fixed.rules history) asker taken → IsLedIn fixed history asker session old → now ≡ (took session taken).session
-    → Leads (course_of fixed.rules history asker) (length history) (length history) (took session taken).session new []
-    → IsLedIn fixed history asker now new
-take_led takes whole keeps fixed history asker session now old new taken start it led now_is leads =
-    let step = take_turn takes whole fixed history asker session taken start it in
-    subst (λ (s : SessionState). IsLedIn fixed history asker s new) (sym now_is)
-    (record { leads = leads; taken = turn_taken keeps (course_of fixed.rules history asker) (length history) session old (took session taken) step.0 led })
+    -- the client that took it is led
+    pub turn_led : (new : PlainClient) (done : Unit {0}) → Leads course n n now new [] → TurnsLed fixed history asker before now new (Ok done)
+    turn_led new done leads = (
+      it.session_is,
+      record { leads = leads; taken = subst (λ (at : ℕ). HasTaken course at now) (at_end before.phase n) it.under_way.taken },
+      it.few,
+    )
 
-pub taken_by : (fixed : Fixed) (history : List Event) (a b : OwnAsker) (taken : Taken) → a ≡ b → IsTaken fixed.limits (ledger_of fixed.rules history) (asker_of a) taken
-    → IsTaken fixed.limits (ledger_of fixed.rules history) (asker_of b) taken
-taken_by fixed history a b taken same it = subst (λ (own : OwnAsker). IsTaken fixed.limits (ledger_of fixed.rules history) (asker_of own) taken) same it
+  pub not_led : (client : PlainClient) (fault : TakeFault) → TurnsSo fixed history asker n before now (Err fault) → TurnsLed fixed history asker before now client (Err fault)
+  not_led client (TooManyBuckets count) it = (it.0, it.2)
+  not_led client Memory it = tt
 
-pub few_names : (fixed : Fixed) (history : List Event) (asker : Asker) (taken : Taken) → IsTaken fixed.limits (ledger_of fixed.rules history) asker taken
-    → length (names_of (ledger_of fixed.rules history) asker) ≤ fixed.limits.buckets
-few_names fixed history asker taken it =
-    let l = ledger_of fixed.rules history in
-    let count : length taken.buckets ≡ length (names_of l asker) =
-    ap (λ (t : Taken). length t.buckets) it.value ∙ length-map (names_of l asker) (λ (name : List ℕ). bucket_upto l.op name (l.log name)) in
-    omega (arith, it.few, count)
+  -- ---- the first take
+
+  pub begins_so : (client : PlainClient) → before.phase ≡ Start → (result : Result (Unit {0}) TakeFault) → TurnsLed fixed history asker before now client result
+      → Begins fixed history asker now client result
+  begins_so client start (Ok done) it = (it.1, it.2 (ap takes_in start))
+  begins_so client start (Err (TooManyBuckets count)) it = it.1
+  begins_so client start (Err Memory) it = tt
+
+  pub first_downloads : (client : PlainClient) → before.phase ≡ Start → (result : Result (Unit {0}) TakeFault) → TurnsLed fixed history asker before now client result
+      → OnOk result (now.phase ≡ Download)
+  first_downloads client start (Ok done) it =
+      subst (λ (s : SessionState). s.phase ≡ Download) (sym it.0) (subst (λ (p : Phase). (turn_in p course n before).session.phase ≡ Download) (sym start) refl)
+  first_downloads client start (Err fault) it = tt
 
 -- ---- reads
 
-pub read_turn : ReadsAreTurns → EndsAreWhole → (fixed : Fixed) (history : List Event) (asker : Asker) (session : SessionState) (place : ℕ) (after upto : OpId) (name : List ℕ) (batch : Batch)
-    → next_action session ≡ Read place after upto → option_map name_of (behind session) ≡ Some name → batch ≡ batch_of (ledger_of fixed.rules history) name after.0 upto.0
-    → (batch ≡ (course_of fixed.rules history asker).batch (length history) name after.0 upto.0)
-    × (turn (course_of fixed.rules history asker) (length history) session ≡ read session batch)
-    × IsToldIn session.phase (course_of fixed.rules history asker) (length history)
-read_turn reads whole fixed history asker session place after upto name batch action named is =
-    let course = course_of fixed.rules history asker in
-    let n = length history in
-    let here : batch ≡ course.batch n name after.0 upto.0 = is ∙ sym (batch_is whole fixed history asker name after.0 upto.0) in
-    let step = reads course n n place after upto name session action named in
-    (here, step.0 ∙ ap (read session) (sym here), step.2)
+-- where a bucket is read no checkpoint is taken
+pub never_takes : (session : SessionState) → IsReading (next_action session) → takes_in session.phase ≡ true → ⊥
+never_takes session reading = by session.phase reading
+  where
+    by : (p : Phase) → IsReading (action_in p session) → takes_in p ≡ true → ⊥
+    by Start reading taking = reading
+    by Download reading taking = cc
+    by Void reading taking = reading
+    by Done reading taking = reading
+
+module _ (falls : ReadsSendOn) (course : Course) (n : ℕ) (session : SessionState) (lawful : IsLawful course) (taken : HasTaken course n session) where
+  at_bucket : (o : Option TakenBucket) → behind session ≡ o → session.phase ≡ Download → IsReading (download_action o session) → SendsOn session (download o course n session).session
+  at_bucket None is phase reading = absurd reading
+  at_bucket (Some bucket) is phase reading =
+      let action : next_action session ≡ Read (place_in bucket.name session.last.buckets) (record { 0 = session.places bucket.name }) session.last.last_op =
+      ap (λ (p : Phase). action_in p session) phase ∙ ap (λ (o : Option TakenBucket). download_action o session) is in
+      falls course n (place_in bucket.name session.last.buckets) (record { 0 = session.places bucket.name }) session.last.last_op bucket.name session lawful taken action
+      (ap (λ (o : Option TakenBucket). option_map name_of o) is)
+
+  by_phase : (p : Phase) → session.phase ≡ p → IsReading (action_in p session) → SendsOn session (turn_in p course n session).session
+  by_phase Start is reading = absurd reading
+  by_phase Download is reading = at_bucket (behind session) refl is reading
+  by_phase Void is reading = absurd reading
+  by_phase Done is reading = absurd reading
+
+  pub reads_on : IsReading (next_action session) → (now : SessionState) → now ≡ (turn course n session).session → SendsOn session now
+  reads_on reading now now_is = subst (λ (s : SessionState). SendsOn session s) (sym now_is) (by_phase session.phase refl reading)

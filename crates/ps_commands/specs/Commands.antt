@@ -107,10 +107,6 @@ IsMade (coded.Token keys kid claims) = Unit {0}
 IsMade (coded.Generate count) = count ≤ made_limit
 IsMade (coded.GenerateLines count) = count ≤ made_limit
 
--- the words are a command
-abbrev pub IsCommand : List (List ℕ) → Type 0
-IsCommand words = (command : Command) × (command_of words ≡ Some command)
-
 -- ---- files
 
 -- a rules file is read as those rules
@@ -426,6 +422,20 @@ pub record IsNext (held : Option Contents) (words : List (List ℕ)) (name : Lis
   pub role : Role
   pub reached : Reaches held words role name
 
+-- the first file of a command, if it reads any, is within its limit
+abbrev pub FirstFits : Option Contents → Command → Type 0
+FirstFits held (check name) = (bytes : List ℕ) × HoldsWithin held name rules_limit bytes
+FirstFits held (rows names) = (bytes : List ℕ) × HoldsWithin held names.rules rules_limit bytes
+FirstFits held (replay names) = (bytes : List ℕ) × HoldsWithin held names.rules rules_limit bytes
+FirstFits held (compact names) = (bytes : List ℕ) × HoldsWithin held names.rules rules_limit bytes
+FirstFits held (token names) = (bytes : List ℕ) × HoldsWithin held names.keys file_limit bytes
+FirstFits held (generate count) = Unit {0}
+FirstFits held (generate_lines count) = Unit {0}
+
+-- the words are a command whose first file is within its limit: one that is longer is refused before memory can be wanting
+abbrev pub BeginsWithin : Option Contents → List (List ℕ) → Type 0
+BeginsWithin held words = (command : Command) × (command_of words ≡ Some command) × FirstFits held command
+
 -- ---- faults
 
 -- what is seen of the outside before and after
@@ -454,7 +464,7 @@ Caused o words (TooLong seen) = Kept o × ExceedsFile o.held words seen
 Caused o words (CannotRead name) = Kept o × IsNext o.held words name.now × Rose o.read_before o.read_now
 Caused o words CannotWrite = PrintsFront o.held words o.taken_before o.taken_now × Rose o.write_before o.write_now
 Caused o words (Script line why) = RefusesScript o.held words line why o.taken_before o.taken_now
-Caused o words Memory = (Kept o × IsCommand words) ⊎ PrintsSome o.held words o.taken_before o.taken_now
+Caused o words Memory = (Kept o × BeginsWithin o.held words) ⊎ PrintsSome o.held words o.taken_before o.taken_now
 
 -- files alone were read: the output, whatever it has taken and however often it failed, is as it was
 abbrev pub reading : Option Contents → ℕ → ℕ → Option (List ℕ) → ℕ → Outside

@@ -10,9 +10,9 @@ use Rattle.ps_store.specs.declared.readings.TakeFault.TheVariants.{TooManyBucket
 use Rattle.ps_store.specs.Ledgers.{ledger_of}
 use Rattle.ps_store.specs.Readings.{names_of, AreTooMany}
 
--- exactly the rows that are due at the checkpoint's position, to an asker of at most as many buckets as the limit
+-- exactly the rows that are due at the checkpoint's position by the rules in force, to an asker of at most as many buckets as the limit
 pub record AreSynced (fixed : Fixed) (history : List Event) (asker : Asker) (rows : List Shown) : Type 0 where
-  pub rows_are : rows ≡ due fixed.rules.definitions asker (ledger_of fixed.rules history).fed (ledger_of fixed.rules history).position
+  pub rows_are : rows ≡ due (ledger_of fixed.rules history).force.rules.definitions asker (ledger_of fixed.rules history).fed (ledger_of fixed.rules history).position
   pub few : length (names_of (ledger_of fixed.rules history) asker) ≤ fixed.limits.buckets
 
 -- the rows that are shown, or why there are none

@@ -10,7 +10,7 @@ use ps_data::Items;
 use ps_files::Fault;
 use ps_rows::Shown;
 use ps_sql_eval::Asker;
-use ps_store::{Store, TakeFault, ledgers_tell_histories};
+use ps_store::{Store, TakeFault, ledgers_tell_ops};
 use std::alloc::Global;
 
 /// The rows that are due to an asker over all transactions of a change file that was written into a store: those that a new client
@@ -20,7 +20,7 @@ pub fn due_rows<'a>(alloc: Global, store: &Store, asker: Asker) -> Result<Items<
     requires { (rules : RuleSet) × (transactions : List Transaction) × HasCommitted rules transactions store.now }
     ensures { (rules : RuleSet) (transactions : List Transaction) → HasCommitted rules transactions store.now → Answers rules (asker_of asker) transactions result }
 {
-    ledgers_tell_histories();
+    ledgers_tell_ops();
     match synced_rows(alloc, store, asker) {
         Ok(rows) => Ok(rows),
         Err(TakeFault::TooManyBuckets { count }) => Err(Fault::TooManyBuckets { count }),

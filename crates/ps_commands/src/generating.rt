@@ -12,7 +12,7 @@ use crate::syncing::synced_rows;
 use ps_data::{Memory, Text};
 use ps_files::{Compacted, compact_all, made_input_is_admitted, made_rules_are_read, write_made};
 use ps_sql_eval::Asker;
-use ps_store::{Store, TakeFault, Totals};
+use ps_store::{Store, TakeFault, Totals, ledgers_tell_ops};
 use std::alloc::Global;
 
 // The asker of the one stream.
@@ -33,6 +33,7 @@ fn count_rows(alloc: Global, store: &Store) -> Result<usize, Memory>
     ensures { (transactions : List TransactionData) → HasCommitted made_rule_set transactions store.now
         → IfOk result (λ count. count ≡ length (made_rows transactions)) }
 {
+    ledgers_tell_ops();
     let asker = made_asker(alloc)?;
     match synced_rows(alloc, store, asker) {
         Ok(rows) => Ok(rows.len()),

@@ -6,18 +6,18 @@ ghost use Rattle.ps_client.specs.Clients.{taken};
 ghost use Rattle.ps_client.specs.States.{state};
 ghost use Rattle.ps_store.specs.Courses.{Course};
 ghost use Rattle.ps_session.specs.Sessions.{SessionState};
-ghost use Rattle.ps_core.specs.Runs.{made_by};
-ghost use Rattle.ps_core.specs.Headline.{Local, IsGood, with_local};
-ghost use Rattle.ps_core.specs.Calls.{IsRightEvent};
-ghost use Rattle.ps_core.specs.Ties.{Leads};
+ghost use Rattle.ps_streams.specs.Runs.{made_by};
+ghost use Rattle.ps_streams.specs.Headline.{Local, IsGood, with_local};
+ghost use Rattle.ps_streams.specs.Calls.{IsRightEvent};
+ghost use Rattle.ps_streams.specs.Ties.{Leads};
 ghost use Rattle.ps_core.specs.Parts.{IsWant};
 ghost use Rattle.ps_commands.specs.Turning.{IsIdle};
 
 use ps_client::{Client, ClientFault, Event};
 use ps_client_log::VolatileKeeper;
-use ps_core::{clients_answer_right, clients_are_led};
 use ps_data::Memory;
 use ps_lines::{Line, write_line};
+use ps_streams::{clients_answer_right, clients_are_led};
 use std::alloc::Global;
 
 // Want of memory, the one fault that may come.

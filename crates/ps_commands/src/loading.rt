@@ -1,6 +1,6 @@
 ghost use Rattle.std.specs.Prelude.{◌≡◌, ◌≤◌, ◌<◌, ◌^◌, length};
 ghost use Rattle.ps_files.specs.ChangeFiles.{transactions_of};
-ghost use Rattle.ps_files.specs.Loading.{Loads};
+ghost use Rattle.ps_files.specs.Loading.{Loads, MissesNamed};
 ghost use Rattle.ps_files.specs.ReadingChanges.{Writes};
 ghost use Rattle.ps_commands.specs.Loading.{FindsRows, RefusesRows, Prepares};
 
@@ -48,6 +48,7 @@ pub fn load_rows<'a, F: Files>(
 ) -> Result<Vec<u8>, Fault<'a>>
     ensures loads { Loads (F.held files.old) name.now FILE_LIMIT (F.faults files.old) (F.faults files.new)
         (FindsRows rules asker) (RefusesRows rules asker) result }
+    ensures missed { MissesNamed (F.missed files.old) (F.missed files.new) result }
     ensures held { F.held files.new ≡ F.held files.old }
     ensures faults { F.faults files.old ≤ F.faults files.new }
 {

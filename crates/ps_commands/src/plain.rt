@@ -1,8 +1,9 @@
 ghost use Rattle.std.specs.Prelude.{◌≡◌, ◌≢◌, ◌≤◌, ◌⊎◌, ◌↔◌, ℕ, List, Option, Some, None};
-ghost use Rattle.ps_io.specs.Contents.{Contents};
+ghost use Rattle.ps_io.specs.Contents.{Contents, Joins};
 ghost use Rattle.ps_io.specs.Counts.{Rose};
+ghost use Rattle.ps_files.specs.Loading.{MissesNamed};
 ghost use Rattle.ps_files.specs.Making.{made_limit};
-ghost use Rattle.ps_commands.specs.Commands.{command_of, check as check_command, rows as rows_command, compact as compact_command, token as token_command, generate as generate_command, generate_lines as generate_lines_command, Finds, Outcome, Prints, PrintsFront, RefusesRules, RefusesLines, RefusesKeys, RefusesClaims, RefusesScript, ExceedsLimit, IsNext, PrintsSome, IsExact};
+ghost use Rattle.ps_commands.specs.Commands.{command_of, check as check_command, rows as rows_command, compact as compact_command, token as token_command, generate as generate_command, generate_lines as generate_lines_command, Finds, Outcome, Prints, PrintsFront, RefusesRules, RefusesLines, RefusesKeys, RefusesClaims, RefusesScript, ExceedsLimit, IsNext, BeginsWithin, PrintsSome, IsExact};
 ghost use Rattle.ps_commands.specs.Causes.{SaysCause};
 ghost use Rattle.ps_files.specs.declared.faults.LineFault.{LineFault as LineFaultData};
 ghost use Rattle.ps_files.specs.declared.faults.RulesCause.{RulesCause as RulesCauseData};
@@ -22,8 +23,9 @@ use std::alloc::Global;
 
 // What the rules have.
 fn check<'a, F: Files>(alloc: Global, rules: &'a Text, files: &mut F) -> Result<Vec<u8>, Fault<'a>>
-    ensures { (words : List (List ℕ)) → command_of words ≡ Some (check_command rules.now)
+    ensures finds { (words : List (List ℕ)) → command_of words ≡ Some (check_command rules.now)
         → Finds (F.held files.old) (F.faults files.old) (F.faults files.new) words result }
+    ensures missed { MissesNamed (F.missed files.old) (F.missed files.new) result }
 {
     let rules = load_rules(alloc, files, rules)?;
     Ok(print_check(alloc, &rules)?)
@@ -37,8 +39,9 @@ fn rows<'a, F: Files>(
     claims: &'a Text,
     files: &mut F,
 ) -> Result<Vec<u8>, Fault<'a>>
-    ensures { (words : List (List ℕ)) → command_of words ≡ Some (rows_command (record { rules = rules.now; changes = changes.now; claims = claims.now }))
+    ensures finds { (words : List (List ℕ)) → command_of words ≡ Some (rows_command (record { rules = rules.now; changes = changes.now; claims = claims.now }))
         → Finds (F.held files.old) (F.faults files.old) (F.faults files.new) words result }
+    ensures missed { MissesNamed (F.missed files.old) (F.missed files.new) result }
 {
     let rules = load_rules(alloc, files, rules)?;
     let asker = load_asker(alloc, files, claims)?;
@@ -52,8 +55,9 @@ fn compact<'a, F: Files>(
     changes: &'a Text,
     files: &mut F,
 ) -> Result<Vec<u8>, Fault<'a>>
-    ensures { (words : List (List ℕ)) → command_of words ≡ Some (compact_command (record { rules = rules.now; changes = changes.now }))
+    ensures finds { (words : List (List ℕ)) → command_of words ≡ Some (compact_command (record { rules = rules.now; changes = changes.now }))
         → Finds (F.held files.old) (F.faults files.old) (F.faults files.new) words result }
+    ensures missed { MissesNamed (F.missed files.old) (F.missed files.new) result }
 {
     let rules = load_rules(alloc, files, rules)?;
     load_reports(alloc, files, changes, rules)
@@ -67,8 +71,9 @@ fn token<'a, F: Files>(
     claims: &'a Text,
     files: &mut F,
 ) -> Result<Vec<u8>, Fault<'a>>
-    ensures { (words : List (List ℕ)) → command_of words ≡ Some (token_command (record { keys = keys.now; kid = kid.now; claims = claims.now }))
+    ensures finds { (words : List (List ℕ)) → command_of words ≡ Some (token_command (record { keys = keys.now; kid = kid.now; claims = claims.now }))
         → Finds (F.held files.old) (F.faults files.old) (F.faults files.new) words result }
+    ensures missed { MissesNamed (F.missed files.old) (F.missed files.new) result }
 {
     let keys = load_keys(alloc, files, keys)?;
     let asker = load_asker(alloc, files, claims)?;
@@ -82,8 +87,9 @@ fn token<'a, F: Files>(
 // The summary of made changes.
 fn generate<'a>(alloc: Global, count: u32) -> Result<Vec<u8>, Fault<'a>>
     requires { count ≤ made_limit }
-    ensures { (held : Option Contents) (before now : ℕ) (words : List (List ℕ)) → command_of words ≡ Some (generate_command count)
+    ensures finds { (held : Option Contents) (before now : ℕ) (words : List (List ℕ)) → command_of words ≡ Some (generate_command count)
         → Finds held before now words result }
+    ensures missed { (names : Option (List (List ℕ))) → MissesNamed names names result }
 {
     Ok(print_summary(alloc, count)?)
 }
@@ -91,15 +97,16 @@ fn generate<'a>(alloc: Global, count: u32) -> Result<Vec<u8>, Fault<'a>>
 // Made change lines.
 fn generate_lines<'a>(alloc: Global, count: u32) -> Result<Vec<u8>, Fault<'a>>
     requires { count ≤ made_limit }
-    ensures { (held : Option Contents) (before now : ℕ) (words : List (List ℕ)) → command_of words ≡ Some (generate_lines_command count)
+    ensures finds { (held : Option Contents) (before now : ℕ) (words : List (List ℕ)) → command_of words ≡ Some (generate_lines_command count)
         → Finds held before now words result }
+    ensures missed { (names : Option (List (List ℕ))) → MissesNamed names names result }
 {
     Ok(print_made(alloc, count)?)
 }
 
 // Prints what a command found, all at once.
 fn print<'a, K: Sink>(found: Result<Vec<u8>, Fault<'a>>, out: &mut K) -> Result<(), Fault<'a>>
-    ensures { (held : Option Contents) (before now : ℕ) (words : List (List ℕ)) → Finds held before now words found.entry → Outcome (record {
+    ensures outcome { (held : Option Contents) (before now : ℕ) (words : List (List ℕ)) → Finds held before now words found.entry → Outcome (record {
       held = held;
       read_before = before;
       read_now = now;
@@ -108,6 +115,8 @@ fn print<'a, K: Sink>(found: Result<Vec<u8>, Fault<'a>>, out: &mut K) -> Result<
       write_before = K.faults out.old;
       write_now = K.faults out.new;
     }) words result }
+    ensures missed { (before after : Option (List (List ℕ)))
+        → MissesNamed before after found.entry → MissesNamed before after result }
 {
     let text = found?;
     match out.write(text.as_slice()) {
@@ -123,7 +132,7 @@ fn command<'a, F: Files, K: Sink>(
     files: &mut F,
     out: &mut K,
 ) -> Result<(), Fault<'a>>
-    ensures { Outcome (record {
+    ensures outcome { Outcome (record {
       held = F.held files.old;
       read_before = F.faults files.old;
       read_now = F.faults files.new;
@@ -132,6 +141,7 @@ fn command<'a, F: Files, K: Sink>(
       write_before = K.faults out.old;
       write_now = K.faults out.new;
     }) words.now result }
+    ensures missed { MissesNamed (F.missed files.old) (F.missed files.new) result }
 {
     let Some(command) = read_words(words) else {
         return Err(Fault::Usage);
@@ -182,7 +192,9 @@ pub fn run_plain<F: Files, K: Sink, E: Sink>(
     ensures changes { result ≡ 3 → (line : ℕ) × (why : LineFaultData) × RefusesLines (F.held files.old) words.now (Fault.Change line why) }
     ensures claims { result ≡ 4 → RefusesKeys (F.held files.old) words.now ⊎ RefusesClaims (F.held files.old) words.now }
     ensures limits { result ≡ 5 → ExceedsLimit (F.held files.old) words.now }
-    ensures unread { result ≡ 6 → Rose (F.faults files.old) (F.faults files.new) × (name : List ℕ) × IsNext (F.held files.old) words.now name }
+    ensures unread { result ≡ 6 → Rose (F.faults files.old) (F.faults files.new)
+        × (name : List ℕ) × IsNext (F.held files.old) words.now name × Joins (F.missed files.old) (F.missed files.new) name }
+    ensures missed { result ≢ 6 → F.missed files.new ≡ F.missed files.old }
     ensures unwritten { result ≡ 7 → Rose (K.faults out.old) (K.faults out.new)
         × PrintsFront (F.held files.old) words.now (K.taken out.old) (K.taken out.new) }
     ensures script { result ≡ 9 → (line : ℕ) × (why : ScriptCauseData)
@@ -190,12 +202,14 @@ pub fn run_plain<F: Files, K: Sink, E: Sink>(
     ensures known { result ≤ 9 }
 
     // Nothing is printed unless all went well, but for the front that a failed write leaves. `replay` prints as it goes: what it printed
-    // before a refused line, or before memory was wanting, are the texts of the lines before.
+    // before a refused line, or before memory was wanting, are the texts of the lines before. A first file that is too long is refused
+    // before memory can be wanting.
     ensures kept { result ≢ 0 → result ≢ 7 → result ≢ 8 → result ≢ 9 → K.taken out.new ≡ K.taken out.old }
+    ensures first { result ≡ 8 → BeginsWithin (F.held files.old) words.now }
     ensures early { result ≡ 8 → (K.taken out.new ≡ K.taken out.old) ⊎ PrintsSome (F.held files.old) words.now (K.taken out.old) (K.taken out.new) }
 
-    // What is said is the line of a fault that has its cause and that status.
-    ensures said { result ≢ 0 → SaysCause (record {
+    // What is said is the line of a fault that has its cause and that status. It names the file that could not be read.
+    ensures said { result ≢ 0 → SaysCause (F.missed files.old) (F.missed files.new) (record {
       held = F.held files.old;
       read_before = F.faults files.old;
       read_now = F.faults files.new;

@@ -2,6 +2,7 @@
 
 ghost use Rattle.std.specs.Prelude.{◌≡◌, ◌<◌, ◌^◌, ℕ, List, Some, length};
 ghost use Rattle.ps_core.specs.Scripts.{AreLow};
+ghost use Rattle.ps_files.specs.Loading.{MissesNamed};
 ghost use Rattle.ps_commands.specs.Commands.{command_of, replay as replay_command, Outcome};
 ghost use Rattle.ps_commands.specs.Replaying.{PlaysOut, stopped_by};
 
@@ -71,7 +72,7 @@ pub fn replay_files<'a, F: Files, K: Sink>(
     files: &mut F,
     out: &mut K,
 ) -> Result<(), Fault<'a>>
-    ensures { (words : List (List ℕ)) → command_of words ≡ Some (replay_command (record { rules = rules.now; changes = changes.now; script = script.now })) → Outcome (record {
+    ensures outcome { (words : List (List ℕ)) → command_of words ≡ Some (replay_command (record { rules = rules.now; changes = changes.now; script = script.now })) → Outcome (record {
       held = F.held files.old;
       read_before = F.faults files.old;
       read_now = F.faults files.new;
@@ -80,6 +81,7 @@ pub fn replay_files<'a, F: Files, K: Sink>(
       write_before = K.faults out.old;
       write_now = K.faults out.new;
     }) words result }
+    ensures missed { MissesNamed (F.missed files.old) (F.missed files.new) result }
 {
     let rules = load_rules(alloc, files, rules)?;
     let transactions = load_transactions(alloc, files, changes)?;

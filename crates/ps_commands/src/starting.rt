@@ -11,10 +11,10 @@ ghost use Rattle.ps_commands.specs.Turning.{IsLed, IsIdle};
 
 use ps_client::Client;
 use ps_client_log::VolatileKeeper;
-use ps_core::{calls_make_turns, clients_answer_right, clients_are_led};
 use ps_data::{Memory, Text};
 use ps_session::{Session, StreamRequest};
 use ps_sql_eval::Asker;
+use ps_streams::{calls_make_turns, clients_answer_right, clients_are_led};
 use std::alloc::Global;
 
 // A client that holds nothing.

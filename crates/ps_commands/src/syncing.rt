@@ -7,7 +7,6 @@ ghost use Rattle.ps_store.specs.declared.events.Event.{Event as EventSeen};
 ghost use Rattle.ps_store.specs.declared.fixed.Fixed.{Fixed as FixedSeen};
 ghost use Rattle.ps_store.specs.Laws.{HaveNumbers};
 ghost use Rattle.ps_store.specs.Stores.{StoreStandsFor};
-ghost use Rattle.ps_queries.specs.Meaning.{Asker as AskerSeen};
 ghost use Rattle.ps_client.specs.States.{state};
 ghost use Rattle.ps_store.specs.Courses.{course_of};
 ghost use Rattle.ps_session.specs.Kept.{state_of};
@@ -35,14 +34,14 @@ fn applied_rows(
 ) -> Result<Items<Shown>, Memory>
     requires phase { (state_of session.old).phase ≡ Download }
     requires idle { IsIdle (state client.old) }
-    requires led { (fixed : FixedSeen) × (history : List EventSeen) × (asker : AskerSeen) × Serves fixed store.now history
-        × IsLedIn fixed history asker (state_of session.old) (state client.old) }
-    ensures { IfOk result (λ rows. (fixed : FixedSeen) (history : List EventSeen) (asker : AskerSeen) → Serves fixed store.now history
-        → IsLedIn fixed history asker (state_of session.old) (state client.old) → rows ≡ (course_of fixed.rules history asker).due (length history)) }
+    requires led { (fixed : FixedSeen) × (history : List EventSeen) × Serves fixed store.now history
+        × IsLedIn fixed history (asker_of session.old.asker) (state_of session.old) (state client.old) }
+    ensures { IfOk result (λ rows. (fixed : FixedSeen) (history : List EventSeen) → Serves fixed store.now history
+        → IsLedIn fixed history (asker_of session.old.asker) (state_of session.old) (state client.old)
+        → rows ≡ (course_of fixed.rules history (asker_of session.old.asker)).due (length history)) }
 {
-    courses_are_lawful();
     download(alloc, store, session, client)?;
-    complete(alloc, session, client)?;
+    complete(alloc, store, session, client)?;
     let rows = client.rows(alloc)?;
     Ok(rows)
 }

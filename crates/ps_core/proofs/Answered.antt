@@ -31,10 +31,10 @@ use Rattle.ps_sql_eval.specs.declared.askers.Asker.{Asker}
 use Rattle.ps_store.specs.declared.events.Event.{Event as StoreEvent}
 use Rattle.ps_store.specs.declared.fixed.Fixed.{Fixed}
 use Rattle.ps_store.specs.declared.stores.Store.{Store}
-use Rattle.ps_core.specs.Headline.{AreListed}
+use Rattle.ps_streams.specs.Headline.{AreListed}
 use Rattle.ps_session.specs.Kept.{state_of}
-use Rattle.ps_core.specs.Lives.{Link, Idle, Streaming}
-use Rattle.ps_core.specs.Runs.{Made}
+use Rattle.ps_streams.specs.Lives.{Link, Idle, Streaming}
+use Rattle.ps_streams.specs.Runs.{Made}
 use Rattle.ps_session.specs.Sessions.{SessionState}
 use Rattle.ps_core.specs.declared.effects.Effect.TheVariants as effects
 use Rattle.ps_core.specs.Plays.{Play, Outcome, says}

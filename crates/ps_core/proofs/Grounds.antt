@@ -8,7 +8,7 @@ use Rattle.ps_store.specs.declared.fixed.Fixed.{Fixed}
 use Rattle.ps_store.specs.Laws.{HaveNumbers}
 use Rattle.ps_store.specs.Ledgers.{IsLegal}
 use Rattle.ps_store.specs.CourseLaws.{IsLawful, CoursesAreLawful, PlacesStay}
-use Rattle.ps_core.specs.Led.{EmptyAreHonest, LeadsFirst, LeadsOn, LeadsLater, LeadsLocally, LeadsTaken, LedAreHonest}
+use Rattle.ps_streams.specs.Led.{EmptyAreHonest, LeadsFirst, LeadsOn, LeadsLater, LeadsLocally, LeadsTaken, LedAreHonest}
 use Rattle.ps_core.specs.Plays.{course}
 
 pub record Laws : Type 0 where

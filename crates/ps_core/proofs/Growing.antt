@@ -9,8 +9,8 @@ use Rattle.ps_store.specs.declared.events.Event.{Event}
 use Rattle.ps_store.specs.declared.events.Event.TheVariants as events
 use Rattle.ps_store.specs.declared.fixed.Fixed.{Fixed}
 use Rattle.ps_store.specs.declared.fixed.Limits.{Limits}
-use Rattle.ps_store.specs.Ledgers.{Ledger, ledger_of, head_of, unwritten, entries_after}
-use Rattle.ps_store.specs.Originals.{Timed, in_bucket}
+use Rattle.ps_store.specs.Ledgers.{Ledger, ledger_of, head_of, unwritten, entries_after, force_ops}
+use Rattle.ps_store.specs.Originals.{Timed}
 use Rattle.ps_store.specs.Runs.{Run}
 use Rattle.ps_store.specs.Stores.{next_run}
 use Rattle.ps_core.specs.declared.effects.Effect.{Effect}
@@ -101,7 +101,7 @@ compacts_over_grown [] l bucket play = record { new = []; history_is = sym (appe
 compacts_over_grown (op ∷ ops) l bucket play = record { new = events.Compact bucket ∷ []; history_is = refl; readers_are = refl; calm = tt }
 
 pub compacts_grown : (fixed : Fixed) (bucket : List ℕ) (play : Play) → IsGrown play.history play.readers (compacts fixed bucket play)
-compacts_grown fixed bucket play = compacts_over_grown (in_bucket bucket (ledger fixed play).entered) (ledger fixed play) bucket play
+compacts_grown fixed bucket play = compacts_over_grown (force_ops (ledger fixed play) bucket) (ledger fixed play) bucket play
 
 pub totals_grown : (fixed : Fixed) (play : Play) → IsGrown play.history play.readers (tells_totals fixed play)
 totals_grown fixed play = record { new = []; history_is = sym (append-nil play.history); readers_are = refl; calm = tt }

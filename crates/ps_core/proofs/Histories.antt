@@ -9,10 +9,10 @@ use Rattle.ps_store.specs.declared.fixed.Fixed.{Fixed}
 use Rattle.ps_store.specs.CourseLaws.{PlacesStay}
 use Rattle.ps_store.specs.Ledgers.{Ledger, CanCome, IsLegal, IsLegalFrom, fresh, ledger_after, ledger_of}
 use Rattle.ps_store.specs.Readings.{take_of}
-use Rattle.ps_core.specs.Lives.{Link, Idle, Streaming}
-use Rattle.ps_core.specs.Runs.{Made}
+use Rattle.ps_streams.specs.Lives.{Link, Idle, Streaming}
+use Rattle.ps_streams.specs.Runs.{Made}
 use Rattle.ps_session.specs.Sessions.{SessionState}
-use Rattle.ps_core.specs.Ties.{HasTaken}
+use Rattle.ps_streams.specs.Ties.{HasTaken}
 use Rattle.ps_core.specs.Plays.{course}
 use Rattle.ps_core.specs.Plays as plays
 use Rattle.ps_core.specs.declared.readers.Reader.{Reader}

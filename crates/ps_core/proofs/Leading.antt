@@ -9,9 +9,9 @@ use Rattle.ps_store.specs.declared.fixed.Fixed.{Fixed}
 use Rattle.ps_store.specs.Courses.{Course}
 use Rattle.ps_store.specs.CourseLaws.{IsLawful}
 use Rattle.ps_store.specs.Ledgers.{IsLegal}
-use Rattle.ps_core.specs.Headline.{Local, AreHonest, reader_of, with_local}
-use Rattle.ps_core.specs.Lives.{Link, Idle, Streaming}
-use Rattle.ps_core.specs.Runs.{Made}
+use Rattle.ps_streams.specs.Headline.{Local, AreHonest, reader_of, with_local}
+use Rattle.ps_streams.specs.Lives.{Link, Idle, Streaming}
+use Rattle.ps_streams.specs.Runs.{Made}
 use Rattle.ps_core.specs.Plays.{Play, Reader, course, with_reader}
 use Rattle.ps_core.specs.PlayHeadline.{AreTakenBy, IsLed, IsLedBy, AreLed}
 use Rattle.ps_core.proofs.Grounds.{Laws, Under, lawful_in}

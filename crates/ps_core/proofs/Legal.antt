@@ -1,6 +1,6 @@
 -- Each event of a script keeps the history legal, and the positions that are left low.
 use Rattle.std.proofs.Common.{◌≡◌, ◌≢◌, ℕ, suc, ◌+◌, ◌<◌, ◌≤◌, ◌⊎◌, Bool, true, false, ◌&&◌, List, [], ◌∷◌, ◌++◌, length, take, drop, fold, Option, Some, None, refl, sym, subst, inl, inr, arith, length-take, take-take}
-use Rattle.std.specs.Prelude.{nat_le, nat_lt}
+use Rattle.std.specs.Prelude.{if◌then◌else◌, nat_le, nat_lt}
 use Rattle.std.proofs.lemmas.Bool.{cases_Bool, leb-true, ltb-true, ltb-false}
 use Rattle.std.proofs.lemmas.List.Elements.{All-append, All-drop, All-head, All-tail, All-take}
 use Rattle.ps_bucket_log.specs.declared.ops.Op.{Op}
@@ -11,13 +11,14 @@ use Rattle.ps_store.specs.declared.events.Event.{Event}
 use Rattle.ps_store.specs.declared.events.Event.TheVariants as events
 use Rattle.ps_store.specs.declared.fixed.Fixed.{Fixed}
 use Rattle.ps_store.specs.declared.fixed.Limits.{Limits}
-use Rattle.ps_store.specs.Ledgers.{Ledger, CanCome, IsLegal, IsLegalFrom, entries_after, fresh, head_of, last_number, ledger_after, ledger_of, next_ops, unwritten, write_next}
+use Rattle.ps_store.specs.Generations.{is_of}
+use Rattle.ps_store.specs.Ledgers.{Ledger, CanCome, IsLegal, IsLegalFrom, entries_after, force_ops, fresh, head_of, last_number, ledger_after, ledger_of, next_ops, unwritten, write_next}
 use Rattle.ps_store.specs.Limits.{AreWithin, greatest}
 use Rattle.ps_store.specs.Originals.{Timed, in_bucket}
 use Rattle.ps_store.specs.Runs.{Run, run_from}
 use Rattle.ps_store.specs.Stores.{next_run}
-use Rattle.ps_core.specs.Lives.{Link, Idle, Streaming}
-use Rattle.ps_core.specs.Runs.{Made}
+use Rattle.ps_streams.specs.Lives.{Link, Idle, Streaming}
+use Rattle.ps_streams.specs.Runs.{Made}
 use Rattle.ps_session.specs.Sessions.{SessionState}
 use Rattle.ps_script.specs.declared.events.ScriptEvent.{ScriptEvent}
 use Rattle.ps_script.specs.declared.events.ScriptEvent.TheVariants.{Feed, Close, Write, Commit, Compact, Client, Open, Turn, Take, Cut, Local, Upload, Number, Rows, Totals}
@@ -140,6 +141,10 @@ compacts_sound (op ∷ ops) l bucket rules play can sound = record { legal = can
     not_empty : (op : Op) (ops : List Op) → op ∷ ops ≢ []
     not_empty op ops is = cc
 
+own_bucket : (own : Bool) (ops : List Op) → (if own then ops else []) ≢ [] → (own ≡ true) × (ops ≢ [])
+own_bucket true ops some = (refl, some)
+own_bucket false ops some = absurd (some refl)
+
 uploads_sound : (queue : List Change) (limits : Limits) (l : Ledger) (name : List ℕ) (rules : RuleSet) (play : Play) (reader : Reader)
     → ((t : Transaction) → CanCome l (events.Feed t) → IsLegal rules (play.history ++ events.Feed t ∷ [])) → limits.positions ≤ greatest → IsSound rules play
     → IsSound rules (uploads_from queue limits l name play reader).play
@@ -220,9 +225,11 @@ event_sound Commit fixed play outcome within sound gives =
     (commits_sound (ledger fixed play) fixed.rules play
     (λ (can : (ledger fixed play).position < (ledger fixed play).reach.position). came fixed.rules play.history events.Commit sound.legal can) sound)
 event_sound (Compact bucket) fixed play outcome within sound gives =
-    let ops = in_bucket bucket (ledger fixed play).entered in
-    along fixed.rules outcome (compacts_over ops (ledger fixed play) bucket play) gives
-    (compacts_sound ops (ledger fixed play) bucket fixed.rules play (λ (can : ops ≢ []). came fixed.rules play.history (events.Compact bucket) sound.legal can) sound)
+    let l : Ledger = ledger fixed play in
+    let ops = force_ops l bucket in
+    along fixed.rules outcome (compacts_over ops l bucket play) gives
+    (compacts_sound ops l bucket fixed.rules play
+    (λ (can : ops ≢ []). came fixed.rules play.history (events.Compact bucket) sound.legal (own_bucket (is_of l.force.number bucket) (in_bucket bucket l.entered) can)) sound)
 event_sound (Client name asker) fixed play outcome within sound gives = subst (λ (o : Outcome). IsSound fixed.rules o.play) (sym gives) (record { legal = sound.legal; low = sound.low })
 event_sound (Open name) fixed play outcome within sound gives = subst (λ (o : Outcome). IsSound fixed.rules o.play) (sym gives.2.is) (record { legal = sound.legal; low = sound.low })
 event_sound (Turn name) fixed play outcome within sound gives = turns_sound gives.0.link fixed name play gives.0 outcome sound gives.2

@@ -1,12 +1,3 @@
-pub mod ToldTables
-pub mod HonestReaders
-pub mod Ties
-pub mod Turns
-pub mod Runs
-pub mod Lives
-pub mod Calls
-pub mod Downloads
-pub mod Writable
 pub mod Grounds
 pub mod Leading
 pub mod Saying
@@ -18,11 +9,11 @@ pub mod PlayWrites
 pub mod Staying
 pub mod Legal
 pub mod Playing
+pub mod PlayRuns
 pub mod Histories
 pub mod StoreSteps
 pub mod FedRuns
-pub mod Reading
-pub mod Turned
+pub mod Sent
 pub mod Visited
 pub mod StreamSteps
 pub mod Answered

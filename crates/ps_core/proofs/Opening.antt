@@ -5,7 +5,7 @@ use Rattle.ps_client.specs.Clients.{PlainClient}
 use Rattle.ps_sql_eval.specs.declared.askers.Asker.{Asker}
 use Rattle.ps_store.specs.declared.events.Event.{Event}
 use Rattle.ps_store.specs.declared.fixed.Fixed.{Fixed}
-use Rattle.ps_core.specs.Headline.{AreHonest, AsksOn}
+use Rattle.ps_streams.specs.Headline.{AreHonest, AsksOn}
 use Rattle.ps_core.specs.Plays.{Play, Reader, course, first_reader, place}
 use Rattle.ps_core.specs.PlayHeadline.{IsLed}
 use Rattle.ps_core.specs.ReaderEvents.{opened}

@@ -6,7 +6,6 @@ use Rattle.ps_data.specs.declared.ids.OpId.{OpId}
 use Rattle.ps_bucket_log.specs.declared.batches.Batch.{Batch}
 use Rattle.ps_lines.specs.declared.lines.Line.{Line}
 use Rattle.ps_lines.specs.Writing.{without_targets}
-use Rattle.ps_params.specs.Names.{AreTold}
 use Rattle.ps_sql_eval.specs.declared.askers.Asker.{Asker}
 use Rattle.ps_sql_eval.specs.Evaluated.{asker_of}
 use Rattle.ps_client.specs.Clients.{PlainClient, taken}
@@ -17,14 +16,14 @@ use Rattle.ps_bucket_log.specs.declared.takes.TakenBucket.{TakenBucket}
 use Rattle.ps_store.specs.Courses.{Course, ledger_at}
 use Rattle.ps_store.specs.CourseLaws.{IsLawful, PlacesStay}
 use Rattle.ps_store.specs.Ledgers.{Ledger, IsLegal}
-use Rattle.ps_store.specs.Readings.{take_of, batch_of, taken_names}
+use Rattle.ps_store.specs.Readings.{AreTold, take_of, batch_of, taken_names}
 use Rattle.ps_session.specs.declared.phases.Phase.{Phase}
 use Rattle.ps_session.specs.declared.phases.Phase.TheVariants.{Start, Download, Void, Done}
-use Rattle.ps_core.specs.Headline.{Local}
-use Rattle.ps_core.specs.Lives.{Link, Idle, Streaming}
-use Rattle.ps_core.specs.Runs.{Made, IsToldIn, at_after, download, made_by, turn, turn_in}
+use Rattle.ps_streams.specs.Headline.{Local}
+use Rattle.ps_streams.specs.Lives.{Link, Idle, Streaming}
+use Rattle.ps_streams.specs.Runs.{Made, IsToldIn, at_after, download, made_by, turn, turn_in}
 use Rattle.ps_session.specs.Sessions.{SessionState, Turned, behind, read, took_in}
-use Rattle.ps_core.specs.Ties.{Leads, TiedIn}
+use Rattle.ps_streams.specs.Ties.{Leads, TiedIn}
 use Rattle.ps_script.specs.declared.events.ScriptEvent.{ScriptEvent}
 use Rattle.ps_script.specs.declared.events.ScriptEvent.TheVariants.{Turn, Take}
 use Rattle.ps_core.specs.Plays.{Play, Reader, Outcome, course, place}

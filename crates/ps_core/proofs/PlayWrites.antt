@@ -10,7 +10,7 @@ use Rattle.ps_store.specs.declared.events.Event.TheVariants as events
 use Rattle.ps_store.specs.declared.fixed.Fixed.{Fixed}
 use Rattle.ps_store.specs.declared.fixed.Limits.{Limits}
 use Rattle.ps_store.specs.Ledgers.{Ledger, head_of, last_number}
-use Rattle.ps_core.specs.Headline.{Local}
+use Rattle.ps_streams.specs.Headline.{Local}
 use Rattle.ps_core.specs.Plays.{Play, Reader, Outcome, happens, ledger, with_reader}
 use Rattle.ps_core.specs.PlayHeadline.{AreLed, IsLed}
 use Rattle.ps_core.specs.ReaderEvents.{next_position, numbered, numbers_for, uploaded_at, uploads, uploads_from, with_kept, writes_locally}

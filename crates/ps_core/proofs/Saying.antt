@@ -5,8 +5,8 @@ use Rattle.ps_client.specs.declared.events.Differing.{Differing}
 use Rattle.ps_store.specs.declared.fixed.Fixed.{Fixed}
 use Rattle.ps_store.specs.Ledgers.{IsLegal}
 use Rattle.ps_session.specs.declared.phases.Phase.TheVariants.{Void}
-use Rattle.ps_core.specs.Lives.{Streaming}
-use Rattle.ps_core.specs.Runs.{Made}
+use Rattle.ps_streams.specs.Lives.{Streaming}
+use Rattle.ps_streams.specs.Runs.{Made}
 use Rattle.ps_session.specs.Sessions.{SessionState}
 use Rattle.ps_script.specs.declared.events.ScriptEvent.{ScriptEvent}
 use Rattle.ps_script.specs.declared.events.ScriptEvent.TheVariants.{Turn, Take}

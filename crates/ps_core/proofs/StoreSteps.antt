@@ -1,5 +1,5 @@
 -- What the store's events give.
-use Rattle.std.proofs.Common.{◌≡◌, ◌≢◌, ℕ, ◌+◌, ◌<◌, ◌≤◌, Bool, true, false, List, [], ◌∷◌, ◌++◌, Option, Some, None, Ok, Err, zero, suc, refl, sym, ap, subst, ◌∙◌, arith, length, take}
+use Rattle.std.proofs.Common.{◌≡◌, ◌≢◌, ℕ, ◌+◌, ◌<◌, ◌≤◌, Bool, true, false, List, [], ◌∷◌, ◌++◌, Option, Some, None, Ok, Err, zero, suc, max, refl, sym, ap, subst, ◌∙◌, arith, length, take}
 use Rattle.std.specs.Prelude.{if◌then◌else◌, nat_le, nat_lt, ◌&&◌}
 use Rattle.std.proofs.lemmas.Bool.{cond-true, cond-false, le-leb, lt-ltb, le-ltb}
 use Rattle.std.proofs.lemmas.List.{append-nil}
@@ -23,7 +23,8 @@ use Rattle.ps_store.specs.declared.stores.Checkpoint.{Checkpoint}
 use Rattle.ps_store.specs.declared.stores.Store.{Store}
 use Rattle.ps_store.specs.declared.stores.Wrote.{Wrote}
 use Rattle.ps_store.specs.declared.totals.Totals.{Totals}
-use Rattle.ps_store.specs.Ledgers.{Ledger, entries_after, next_ops, unwritten, write_next}
+use Rattle.ps_store.specs.Generations.{is_of}
+use Rattle.ps_store.specs.Ledgers.{Ledger, force_ops, entries_after, next_ops, unwritten, write_next}
 use Rattle.ps_store.specs.Originals.{Timed, in_bucket}
 use Rattle.ps_store.specs.Runs.{refusal_of, run_from, stopped}
 use Rattle.ps_store.specs.Stores.{Commits, Compacts, StoreStandsFor, Writes, next_run}
@@ -84,11 +85,11 @@ pub committed_so : (fixed : Fixed) (play : Play) (store : Store) (checkpoint : C
 committed_so fixed play store checkpoint it =
     let l = ledger fixed play in
     let past : l.position < l.reach.position = could_come fixed.rules play.history events.Commit it.2.legal in
-    let same : checkpoint_of l.reach.position l.reach.op ≡ checkpoint = ap (λ (p : ℕ). checkpoint_of p l.reach.op) (sym it.0) ∙ ap (λ (op : ℕ). checkpoint_of checkpoint.position.0 op) (sym it.1) in
-    happened fixed play scripts.Commit store (effects.Committed (checkpoint_of l.reach.position l.reach.op)) (effects.Committed checkpoint) (ap effects.Committed same) tt events.Commit
+    let same : checkpoint_of l.reach.position (max l.op l.reach.op) ≡ checkpoint = ap (λ (p : ℕ). checkpoint_of p (max l.op l.reach.op)) (sym it.0) ∙ ap (λ (op : ℕ). checkpoint_of checkpoint.position.0 op) (sym it.1) in
+    happened fixed play scripts.Commit store (effects.Committed (checkpoint_of l.reach.position (max l.op l.reach.op))) (effects.Committed checkpoint) (ap effects.Committed same) tt events.Commit
     (record {
       may = refl;
-      gives = sym (cond-true (nat_lt l.position l.reach.position) (record { effect = effects.Committed (checkpoint_of l.reach.position l.reach.op); play = happens events.Commit play })
+      gives = sym (cond-true (nat_lt l.position l.reach.position) (record { effect = effects.Committed (checkpoint_of l.reach.position (max l.op l.reach.op)); play = happens events.Commit play })
           (says effects.NothingToCommit play) (lt-ltb l.position l.reach.position past));
     }) it.2
 
@@ -99,7 +100,7 @@ nothing_committed fixed play store nothing it =
     said fixed play scripts.Commit store effects.NothingToCommit effects.NothingToCommit refl tt
     (record {
       may = refl;
-      gives = sym (cond-false (nat_lt l.position l.reach.position) (record { effect = effects.Committed (checkpoint_of l.reach.position l.reach.op); play = happens events.Commit play })
+      gives = sym (cond-false (nat_lt l.position l.reach.position) (record { effect = effects.Committed (checkpoint_of l.reach.position (max l.op l.reach.op)); play = happens events.Commit play })
           (says effects.NothingToCommit play) (le-ltb l.position l.reach.position (omega (arith, it.0))));
     }) it.1
 
@@ -114,9 +115,10 @@ pub compacted_so : (fixed : Fixed) (play : Play) (store : Store) (bucket : List 
     → CameStill fixed play (scripts.Compact bucket) store (effects.Compacted report)
 compacted_so fixed play store bucket report it =
     let l = ledger fixed play in
-    let some : in_bucket bucket l.entered ≢ [] = could_come fixed.rules play.history (events.Compact bucket) it.1.legal in
+    let can : (is_of l.force.number bucket ≡ true) × (in_bucket bucket l.entered ≢ []) = could_come fixed.rules play.history (events.Compact bucket) it.1.legal in
+    let some : force_ops l bucket ≢ [] = subst (λ (b : Bool). (if b then in_bucket bucket l.entered else []) ≢ []) (sym can.0) can.1 in
     happened fixed play (scripts.Compact bucket) store (effects.Compacted (report_of l.op (l.log bucket))) (effects.Compacted report) (ap effects.Compacted (sym it.0)) tt (events.Compact bucket)
-    (record { may = refl; gives = over_some (in_bucket bucket l.entered) l bucket play some }) it.1
+    (record { may = refl; gives = over_some (force_ops l bucket) l bucket play some }) it.1
 
 pub no_bucket_so : (fixed : Fixed) (play : Play) (store : Store) (bucket : List ℕ) → Compacts fixed play.history bucket store (Err compacting.NoBucket)
     → CameStill fixed play (scripts.Compact bucket) store effects.NoBucket

@@ -12,11 +12,11 @@ use Rattle.ps_client.specs.Requests.{IsRequest}
 use Rattle.ps_client.specs.States.{state}
 use Rattle.ps_store.specs.declared.fixed.Fixed.{Fixed}
 use Rattle.ps_store.specs.declared.stores.Store.{Store}
-use Rattle.ps_core.specs.Calls.{BeginsUntaken, RequestsAskOn}
-use Rattle.ps_core.specs.Headline.{AsksOn}
+use Rattle.ps_streams.specs.Calls.{BeginsUntaken, RequestsAskOn}
+use Rattle.ps_streams.specs.Headline.{AsksOn}
 use Rattle.ps_session.specs.Kept.{state_of}
-use Rattle.ps_core.specs.Lives.{Link, Idle, Streaming}
-use Rattle.ps_core.specs.Runs.{Made, turn}
+use Rattle.ps_streams.specs.Lives.{Link, Idle, Streaming}
+use Rattle.ps_streams.specs.Runs.{Made, turn}
 use Rattle.ps_session.specs.Sessions.{SessionState, begin, requested_in}
 use Rattle.ps_core.specs.declared.effects.Effect.{Effect}
 use Rattle.ps_core.specs.declared.effects.Effect.TheVariants as effects

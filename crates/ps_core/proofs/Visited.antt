@@ -11,8 +11,8 @@ use Rattle.ps_store.specs.declared.events.Event.{Event}
 use Rattle.ps_store.specs.declared.fixed.Fixed.{Fixed}
 use Rattle.ps_store.specs.declared.stores.Store.{Store}
 use Rattle.ps_store.specs.Stores.{StoreStandsFor}
-use Rattle.ps_core.specs.Lives.{Link, Idle, Streaming}
-use Rattle.ps_core.specs.Runs.{Made}
+use Rattle.ps_streams.specs.Lives.{Link, Idle, Streaming}
+use Rattle.ps_streams.specs.Runs.{Made}
 use Rattle.ps_session.specs.Sessions.{SessionState}
 use Rattle.ps_core.specs.declared.effects.Effect.{Effect}
 use Rattle.ps_core.specs.Plays.{Play, happens, says, with_reader}

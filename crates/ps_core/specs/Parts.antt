@@ -1,15 +1,14 @@
 -- What the parts of a world do: to its store, and to one of its clients.
 use Rattle.std.specs.Prelude.{◌≡◌, ◌≢◌, ℕ, ◌++◌, false, List, [], Some, None, Result, Ok, Err, bytes_eq}
 use Rattle.ps_data.specs.declared.shortage.Memory as values
-use Rattle.ps_definitions.specs.RuleSets.{AreRules}
 use Rattle.ps_rows.specs.declared.changes.Transaction.{Transaction}
 use Rattle.ps_client.specs.declared.faults.ClientFault.{ClientFault}
 use Rattle.ps_client.specs.declared.faults.ClientFault.TheVariants as faults
 use Rattle.ps_store.specs.declared.events.Event.{Event}
 use Rattle.ps_store.specs.declared.fixed.Fixed.{Fixed}
 use Rattle.ps_store.specs.declared.stores.Store.{Store}
-use Rattle.ps_store.specs.Laws.{HaveNumbers}
 use Rattle.ps_store.specs.Stores.{StoreStandsFor}
+use Rattle.ps_streams.specs.Serving as serving
 use Rattle.ps_script.specs.declared.events.ScriptEvent.{ScriptEvent}
 use Rattle.ps_script.specs.declared.events.ScriptEvent.TheVariants as events
 use Rattle.ps_script.specs.declared.faults.ScriptFault.{ScriptFault}
@@ -26,10 +25,8 @@ use Rattle.ps_core.specs.Scripts.{AreLow}
 use Rattle.ps_core.specs.Worlds.{ReaderStandsFor}
 
 -- the store stands for the play's history, under valid rules
-pub record Serves (fixed : Fixed) (store : Store) (play : Play) : Type 0 where
-  pub rules : AreRules fixed.rules
-  pub numbers : HaveNumbers fixed.rules.definitions
-  pub stands : StoreStandsFor fixed store play.history
+abbrev pub Serves : Fixed → Store → Play → Type 0
+Serves fixed store play = serving.Serves fixed store play.history
 
 -- an event came: the history only grew by it, and the store stands for that
 pub record Came (fixed : Fixed) (play : Play) (event : ScriptEvent) (store : Store) (effect : Effect) (outcome : Outcome) : Type 0 where

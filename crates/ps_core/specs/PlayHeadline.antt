@@ -11,12 +11,12 @@ use Rattle.ps_store.specs.Courses.{Course}
 use Rattle.ps_store.specs.Laws.{HaveNumbers}
 use Rattle.ps_store.specs.Ledgers.{IsLegal}
 use Rattle.ps_session.specs.declared.phases.Phase.TheVariants.{Void}
-use Rattle.ps_core.specs.Calls.{IsShown}
-use Rattle.ps_core.specs.Headline.{AreHonest}
-use Rattle.ps_core.specs.Lives.{Link, Idle, Streaming}
-use Rattle.ps_core.specs.Runs.{Made}
+use Rattle.ps_streams.specs.Calls.{IsShown}
+use Rattle.ps_streams.specs.Headline.{AreHonest}
+use Rattle.ps_streams.specs.Lives.{Link, Idle, Streaming}
+use Rattle.ps_streams.specs.Runs.{Made}
 use Rattle.ps_session.specs.Sessions.{SessionState}
-use Rattle.ps_core.specs.Ties.{Leads}
+use Rattle.ps_streams.specs.Ties.{Leads}
 use Rattle.ps_script.specs.declared.events.ScriptEvent.{ScriptEvent}
 use Rattle.ps_script.specs.declared.events.ScriptEvent.TheVariants.{Turn, Take}
 use Rattle.ps_core.specs.declared.effects.Effect.TheVariants as effects

@@ -1,7 +1,7 @@
 -- What each event of a script does.
 use Rattle.std.specs.Prelude.{◌≡◌, ℕ, ◌&&◌, if◌then◌else◌, List, [], ◌∷◌, Option, Some, None, is_some, nat_le}
 use Rattle.ps_store.specs.declared.fixed.Fixed.{Fixed}
-use Rattle.ps_core.specs.Lives.{Link, Idle, Streaming}
+use Rattle.ps_streams.specs.Lives.{Link, Idle, Streaming}
 use Rattle.ps_script.specs.declared.events.ScriptEvent.{ScriptEvent}
 use Rattle.ps_script.specs.declared.events.ScriptEvent.TheVariants.{Feed, Close, Write, Commit, Compact, Client, Open, Turn, Take, Cut, Local, Upload, Number, Rows, Totals}
 use Rattle.ps_script.specs.declared.faults.ScriptFault.{ScriptFault}

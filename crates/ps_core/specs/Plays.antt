@@ -10,7 +10,7 @@ use Rattle.ps_store.specs.declared.events.Event.{Event}
 use Rattle.ps_store.specs.declared.fixed.Fixed.{Fixed}
 use Rattle.ps_store.specs.Courses.{Course, course_of}
 use Rattle.ps_store.specs.Ledgers.{Ledger, ledger_of}
-use Rattle.ps_core.specs.Lives.{Link, Idle}
+use Rattle.ps_streams.specs.Lives.{Link, Idle}
 use Rattle.ps_core.specs.declared.effects.Effect.{Effect}
 
 -- a client of the script: who it is, what it is, and its stream: the session, and the lines that were made and are not taken yet

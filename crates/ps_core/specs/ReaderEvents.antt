@@ -1,5 +1,5 @@
 -- What the events of a script that are a client's do.
-use Rattle.std.specs.Prelude.{◌≡◌, ℕ, ◌+◌, Bool, true, false, ◌&&◌, if◌then◌else◌, List, [], ◌∷◌, ◌++◌, length, Option, Some, None, option_and_then, nat_lt, Result, Ok, Err}
+use Rattle.std.specs.Prelude.{◌≡◌, ℕ, ◌+◌, Bool, true, false, ◌&&◌, if◌then◌else◌, List, [], ◌∷◌, ◌++◌, length, Option, Some, None, nat_lt, Result, Ok, Err}
 use Rattle.ps_data.specs.declared.ids.OpId.{OpId}
 use Rattle.ps_data.specs.declared.ids.Position.{Position}
 use Rattle.ps_rows.specs.declared.changes.Change.{Change}
@@ -20,12 +20,11 @@ use Rattle.ps_store.specs.declared.fixed.Fixed.{Fixed}
 use Rattle.ps_store.specs.declared.fixed.Limits.{Limits}
 use Rattle.ps_store.specs.Courses.{Course}
 use Rattle.ps_store.specs.Ledgers.{Ledger, head_of, last_number}
-use Rattle.ps_session.specs.declared.phases.Phase.{Phase}
-use Rattle.ps_session.specs.declared.phases.Phase.TheVariants.{Start, Download, Void, Done}
-use Rattle.ps_core.specs.Headline.{AreListed, AsksOn}
-use Rattle.ps_core.specs.Lives.{Link, Idle, Streaming}
-use Rattle.ps_core.specs.Runs.{Made, IsToldIn, at_after, batch_at, made_by, turn}
-use Rattle.ps_session.specs.Sessions.{SessionState, begin, behind}
+use Rattle.ps_streams.specs.Headline.{AreListed, AsksOn}
+use Rattle.ps_streams.specs.Lives.{Link, Idle, Streaming}
+use Rattle.ps_streams.specs.Runs.{Made, IsToldIn, at_after, made_by, turn}
+use Rattle.ps_session.specs.Sessions.{SessionState, begin}
+pub use Rattle.ps_streams.specs.Turning.{passed_in, takes_in}
 use Rattle.ps_core.specs.declared.effects.Effect.{Effect}
 use Rattle.ps_core.specs.declared.effects.Effect.TheVariants as effects
 use Rattle.ps_core.specs.Plays.{Play, Reader, Outcome, course, happens, ledger, place, says, with_reader}
@@ -54,20 +53,6 @@ abbrev pub cut : Reader → Reader
 cut reader = record reader { link = Idle }
 
 -- ---- turns
-
--- a checkpoint is taken in a turn
-abbrev pub takes_in : Phase → Bool
-takes_in Start = true
-takes_in Download = false
-takes_in Void = true
-takes_in Done = true
-
--- the id past which the log of the bucket that is read begins, where the batch was passed by
-abbrev pub passed_in : Phase → Course → ℕ → SessionState → Option OpId
-passed_in Start course n session = None
-passed_in Download course n session = option_and_then (λ bucket. (batch_at course n session bucket).passed) (behind session)
-passed_in Void course n session = None
-passed_in Done course n session = None
 
 abbrev pub turn_effect : Option Line → Option OpId → Effect
 turn_effect (Some line) passed = effects.Line line

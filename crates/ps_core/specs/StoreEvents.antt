@@ -1,5 +1,5 @@
 -- What the events of a script that are the store's do.
-use Rattle.std.specs.Prelude.{ℕ, ◌+◌, if◌then◌else◌, List, [], ◌∷◌, ◌++◌, length, take, drop, Option, Some, None, nat_le, nat_lt}
+use Rattle.std.specs.Prelude.{ℕ, ◌+◌, if◌then◌else◌, List, [], ◌∷◌, ◌++◌, length, take, drop, Option, Some, None, nat_le, nat_lt, max}
 use Rattle.ps_bucket_log.specs.declared.ops.Op.{Op}
 use Rattle.ps_rows.specs.declared.changes.Transaction.{Transaction}
 use Rattle.ps_compact.specs.Compaction.{report_of}
@@ -8,8 +8,8 @@ use Rattle.ps_store.specs.declared.events.Event.{Event}
 use Rattle.ps_store.specs.declared.events.Event.TheVariants as events
 use Rattle.ps_store.specs.declared.fixed.Fixed.{Fixed}
 use Rattle.ps_store.specs.declared.fixed.Limits.{Limits}
-use Rattle.ps_store.specs.Ledgers.{Ledger, ledger_of, head_of, unwritten, entries_after}
-use Rattle.ps_store.specs.Originals.{Timed, in_bucket}
+use Rattle.ps_store.specs.Ledgers.{Ledger, ledger_of, head_of, unwritten, entries_after, force_ops}
+use Rattle.ps_store.specs.Originals.{Timed}
 use Rattle.ps_store.specs.Runs.{Run}
 use Rattle.ps_store.specs.Stores.{next_run}
 use Rattle.ps_store.specs.Totals.{totals_of}
@@ -68,12 +68,12 @@ writes fixed limit play = written_run (next_run fixed play.history limit) fixed.
 abbrev pub closes : Play → Outcome
 closes play = record { effect = Closed; play = happens events.Close play }
 
--- what is reached becomes the checkpoint, where that is past it
+-- what is reached becomes the checkpoint, where that is past it, with the greater of the two ops
 abbrev pub commits_over : Ledger → Play → Outcome
 commits_over l play =
     if nat_lt l.position l.reach.position
     then (record {
-      effect = Committed (record { position = record { 0 = l.reach.position }; op = record { 0 = l.reach.op } });
+      effect = Committed (record { position = record { 0 = l.reach.position }; op = record { 0 = max l.op l.reach.op } });
       play = happens events.Commit play;
     })
     else says NothingToCommit play
@@ -81,13 +81,13 @@ commits_over l play =
 abbrev pub commits : Fixed → Play → Outcome
 commits fixed play = commits_over (ledger fixed play) play
 
--- a bucket that ever had an operation is compacted at the checkpoint's op
+-- a bucket of the generation in force that ever had an operation is compacted at the checkpoint's op
 abbrev pub compacts_over : List Op → Ledger → List ℕ → Play → Outcome
 compacts_over [] l bucket play = says NoBucket play
 compacts_over (op ∷ ops) l bucket play = record { effect = Compacted (report_of l.op (l.log bucket)); play = happens (events.Compact bucket) play }
 
 abbrev pub compacts : Fixed → List ℕ → Play → Outcome
-compacts fixed bucket play = compacts_over (in_bucket bucket (ledger fixed play).entered) (ledger fixed play) bucket play
+compacts fixed bucket play = compacts_over (force_ops (ledger fixed play) bucket) (ledger fixed play) bucket play
 
 abbrev pub tells_totals : Fixed → Play → Outcome
 tells_totals fixed play = says (Totals (totals_of (ledger fixed play))) play

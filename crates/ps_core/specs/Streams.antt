@@ -4,9 +4,12 @@ use Rattle.ps_sql_eval.specs.declared.askers.Asker.{Asker}
 use Rattle.ps_store.specs.declared.fixed.Fixed.{Fixed}
 use Rattle.ps_store.specs.declared.readings.TakeFault.{TakeFault}
 use Rattle.ps_store.specs.declared.readings.TakeFault.TheVariants.{TooManyBuckets, Memory}
-use Rattle.ps_core.specs.Runs.{Made, IsToldIn, at_after, made_by, turn}
+use Rattle.ps_streams.specs.declared.outcomes.TurnOutcome.{TurnOutcome}
+use Rattle.ps_streams.specs.declared.outcomes.TurnOutcome.TheVariants as outcomes
+use Rattle.ps_streams.specs.Runs.{Made, IsToldIn, at_after, made_by, turn}
 use Rattle.ps_session.specs.Sessions.{SessionState}
 use Rattle.ps_core.specs.declared.effects.Effect.{Effect}
+use Rattle.ps_core.specs.declared.effects.Effect.TheVariants as effects
 use Rattle.ps_core.specs.Plays.{Play, course, place}
 use Rattle.ps_core.specs.ReaderEvents.{passed_in, takes_in, turn_effect}
 use Rattle.ps_core.specs.declared.readers.Stream.{Stream}
@@ -14,6 +17,12 @@ use Rattle.ps_store.specs.declared.stores.Store.{Store}
 use Rattle.ps_core.specs.Texts.{IsPrintable}
 use Rattle.ps_core.specs.Parts.{Serves}
 use Rattle.ps_core.specs.Worlds.{StreamStandsFor}
+
+-- what is said of a turn
+abbrev pub effect_of : TurnOutcome → Effect
+effect_of (outcomes.Line line) = effects.Line line
+effect_of outcomes.Nothing = effects.Waiting
+effect_of (outcomes.Passed op) = effects.Passed op
 
 -- a stream of an asker, over a store that stands for the play
 pub record IsStream (fixed : Fixed) (play : Play) (store : Store) (asker : Asker) (own : Stream) (at : ℕ) (session : SessionState) (waiting : List Made) : Type 0 where

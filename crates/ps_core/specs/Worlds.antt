@@ -15,10 +15,10 @@ use Rattle.ps_store.specs.declared.fixed.Fixed.{Fixed}
 use Rattle.ps_store.specs.Laws.{HaveNumbers}
 use Rattle.ps_store.specs.Stores.{StoreStandsFor}
 use Rattle.ps_session.specs.Kept.{state_of}
-use Rattle.ps_core.specs.Lives.{Link, Idle, Streaming}
-use Rattle.ps_core.specs.Runs.{Made}
+use Rattle.ps_streams.specs.Lives.{Link, Idle, Streaming}
+use Rattle.ps_streams.specs.Runs.{Made}
 use Rattle.ps_session.specs.Sessions.{SessionState}
-use Rattle.ps_core.specs.Ties.{HasTaken}
+use Rattle.ps_streams.specs.Ties.{HasTaken}
 use Rattle.ps_core.specs.Plays.{Play, course}
 use Rattle.ps_core.specs.Plays as plays
 use Rattle.ps_core.specs.Scripts.{AreLow}

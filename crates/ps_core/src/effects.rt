@@ -1,7 +1,7 @@
+use crate::writable_lines::WritableLine;
 use ps_client::{Differing, Why};
 use ps_compact::Report;
 use ps_data::{Items, OpId, Position, Text};
-use ps_lines::Line;
 use ps_rows::Shown;
 use ps_store::{Checkpoint, Totals};
 
@@ -72,10 +72,10 @@ pub enum Effect {
         /// The client's name.
         name: Text,
     },
-    /// A session made a line. It is one that may be written.
+    /// A session made a line.
     Line {
-        /// The line.
-        line: Line,
+        /// The line, which may be written.
+        line: WritableLine,
     },
     /// A session has nothing to send.
     Waiting,

@@ -1,5 +1,4 @@
-//! Streams and their clients over a store: what no stream does wrong, and the world of a script, which has a store and clients
-//! that have names.
+//! The world of a script, which has a store and clients that have names: what no script does wrong, event by event.
 #![tactic(auto)]
 
 mod effects;
@@ -9,22 +8,21 @@ mod printing;
 mod readers;
 mod starting;
 mod storing;
-mod stream_laws;
 mod streaming;
 mod taking;
 mod texts;
 mod turning;
 mod visits;
 mod worlds;
+mod writable_lines;
 mod writing;
 
 pub use effects::Effect;
-pub use play_laws::{plays_begin_led, plays_stay_led, plays_stay_legal, scripts_are_right};
+pub use play_laws::{
+    plays_are_runs, plays_begin_led, plays_stay_led, plays_stay_legal, scripts_are_right,
+};
 pub use printing::print_rows;
 pub use ps_script::{ScriptEvent, ScriptFault, read_event};
-pub use stream_laws::{
-    calls_make_turns, clients_answer_right, clients_are_led, lives_are_fine, runs_go_on,
-    sessions_keep_clients_right, voids_are_taken_again,
-};
 pub use texts::effect_text;
 pub use worlds::World;
+pub use writable_lines::WritableLine;

@@ -1,10 +1,11 @@
 //! The laws of plays.
 
 ghost use Rattle.ps_core.specs.PlayHeadline.{PlaysStayLed, PlaysBeginLed};
+ghost use Rattle.ps_core.specs.PlayRuns.{PlaysBeginRuns, PlaysStayRuns};
 ghost use Rattle.ps_core.specs.Scripts.{PlaysStayLegal, ScriptsAreRight};
 
-use crate::stream_laws::clients_are_led;
 use ps_store::{courses_are_lawful, places_are_fronts};
+use ps_streams::{clients_are_led, runs_lead_on};
 
 /// A law: before its first event a play has no client.
 pub fn plays_begin_led()
@@ -36,4 +37,14 @@ pub fn scripts_are_right()
 {
     plays_begin_led();
     plays_stay_led();
+}
+
+/// A law: the session of each stream of a script is where a run over its asker's readings leads, whose places climb up to the history's
+/// end. So it is before the first event, and after each one.
+pub fn plays_are_runs()
+    ensures begin { PlaysBeginRuns }
+    ensures stay { PlaysStayRuns }
+{
+    places_are_fronts();
+    runs_lead_on();
 }

@@ -10,12 +10,12 @@ ghost use Rattle.ps_core.specs.Parts.{Acts, CameTo, IsAt};
 use crate::effects::Effect;
 use crate::readers::{Reader, Stream};
 use crate::starting::copied;
-use crate::stream_laws::{calls_make_turns, clients_answer_right};
 use crate::turning::advance;
 use ps_data::{Memory, Text};
 use ps_script::ScriptFault;
 use ps_session::{Session, StreamRequest};
 use ps_store::{Store, TakeFault};
+use ps_streams::{calls_make_turns, clients_answer_right};
 use std::alloc::Global;
 use std::collections::VecDeque;
 

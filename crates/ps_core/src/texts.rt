@@ -1,5 +1,5 @@
 ghost use Rattle.std.specs.Prelude.{◌≡◌, ◌++◌, ◌∷◌, [], ℕ, List, IfOk, OnOk, decimal};
-ghost use Rattle.ps_core.specs.Texts.{IsPrintable, after_words, differing_words, effect_text as text_of_effect, line_of};
+ghost use Rattle.ps_core.specs.Texts.{after_words, differing_words, effect_text as text_of_effect, line_of};
 
 use crate::Effect;
 use crate::printing::push_rows;
@@ -119,9 +119,7 @@ fn counted(alloc: Global, totals: Totals) -> Result<Vec<u8>, Memory>
 }
 
 /// What is printed of an effect, with a line feed at the end of each line: docs/FORMATS.md, "Effects of scripts".
-/// A line in it is one that may be written.
 pub fn effect_text(alloc: Global, effect: &Effect) -> Result<Vec<u8>, Memory>
-    requires { IsPrintable effect.now }
     ensures { IfOk result (λ text. text.items ≡ text_of_effect effect.now) }
 {
     match effect {
@@ -142,7 +140,7 @@ pub fn effect_text(alloc: Global, effect: &Effect) -> Result<Vec<u8>, Memory>
         Effect::NoBucket => fixed(alloc, "no bucket"),
         Effect::Client { name } => named(alloc, "client", name),
         Effect::Opened { name } => named(alloc, "open", name),
-        Effect::Line { line } => write_line(alloc, line),
+        Effect::Line { line } => write_line(alloc, line.line()),
         Effect::Waiting => fixed(alloc, "waiting"),
         Effect::Passed { op } => numbered(alloc, "passed", op.0),
         Effect::TooMany { count } => numbered(alloc, "too many", *count),

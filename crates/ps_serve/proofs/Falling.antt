@@ -7,11 +7,11 @@ use Rattle.ps_store.specs.CourseLaws.{IsLawful}
 use Rattle.ps_session.specs.declared.actions.Action.TheVariants.{Read}
 use Rattle.ps_session.specs.declared.phases.Phase.{Phase}
 use Rattle.ps_session.specs.declared.phases.Phase.TheVariants.{Start, Download, Void, Done}
-use Rattle.ps_core.specs.Downloads.{left, SendsOn, ReadsSendOn}
-use Rattle.ps_core.specs.Runs.{turn, turn_in, download, batch_at}
+use Rattle.ps_streams.specs.Downloads.{left, SendsOn, ReadsSendOn}
+use Rattle.ps_streams.specs.Runs.{turn, turn_in, download, batch_at}
 use Rattle.ps_session.specs.Sessions.{SessionState, Turned, download_action, action_in, next_action, behind, read}
 use Rattle.ps_session.specs.Takes.{name_of, place_in}
-use Rattle.ps_core.specs.Ties.{HasTaken}
+use Rattle.ps_streams.specs.Ties.{HasTaken}
 use Rattle.ps_serve.specs.Runs.{IsSending}
 
 -- ---- a turn

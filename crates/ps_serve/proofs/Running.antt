@@ -18,10 +18,10 @@ use Rattle.ps_session.specs.declared.actions.Action.TheVariants.{Take}
 use Rattle.ps_session.specs.declared.phases.Phase.{Phase}
 use Rattle.ps_session.specs.declared.phases.Phase.TheVariants.{Start, Download, Void, Done}
 use Rattle.ps_session.specs.Sessions.{SessionState, IsTaking, action_in, behind, begin, download_action, next_action, requested_in}
-use Rattle.ps_core.specs.Runs.{Made, Turn, IsToldIn, AreToldIn, turn, made_by, all_made, reached, at_after, at_reached}
-use Rattle.ps_core.specs.Headline.{RunsGoOn, RunsClimbOn}
-use Rattle.ps_core.specs.Calls.{TurnsKeepTaken}
-use Rattle.ps_core.specs.Ties.{HasTaken}
+use Rattle.ps_streams.specs.Runs.{Made, Turn, IsToldIn, AreToldIn, turn, made_by, all_made, reached, at_after, at_reached}
+use Rattle.ps_streams.specs.Headline.{RunsGoOn, RunsClimbOn}
+use Rattle.ps_streams.specs.Calls.{TurnsKeepTaken}
+use Rattle.ps_streams.specs.Ties.{HasTaken}
 use Rattle.ps_serve.specs.declared.ends.End.{End}
 use Rattle.ps_serve.specs.declared.ends.End.TheVariants.{Answered, Refused, Drained, Expired, PeerGone, CutRequest, TooMany, Memory}
 use Rattle.ps_serve.specs.Runs.{IsQuiet, IsRun, HasStreamed, HasStreamedFront, IsSending, TakesOnce, Ends, Sends, SendsInTime, SendsSo, StreamsOn, list_of, lines_text, line_of}

@@ -3,7 +3,6 @@ use Rattle.std.proofs.Common.{◌≡◌, ℕ, ◌≤◌, List, [], ◌++◌, Opt
 use Rattle.ps_io.specs.Contents.{Gains, GainsFront}
 use Rattle.ps_lines.specs.declared.bodies.Known.{Known}
 use Rattle.ps_lines.specs.declared.lines.Line.{Line}
-use Rattle.ps_params.specs.Names.{AreTold}
 use Rattle.ps_sql_eval.specs.declared.askers.Asker.{Asker}
 use Rattle.ps_sql_eval.specs.Evaluated.{asker_of}
 use Rattle.ps_store.specs.declared.events.Event.{Event}
@@ -12,17 +11,17 @@ use Rattle.ps_store.specs.declared.stores.Store.{Store}
 use Rattle.ps_store.specs.Courses.{Course, course_of}
 use Rattle.ps_store.specs.CourseLaws.{CoursesAreLawful, EndsAreWhole}
 use Rattle.ps_store.specs.Ledgers.{ledger_of}
-use Rattle.ps_store.specs.Readings.{take_of, taken_names}
+use Rattle.ps_store.specs.Readings.{AreTold, take_of, taken_names}
 use Rattle.ps_session.specs.declared.actions.Action.{Action}
 use Rattle.ps_session.specs.declared.phases.Phase.{Phase}
 use Rattle.ps_session.specs.declared.phases.Phase.TheVariants.{Start, Download}
-use Rattle.ps_core.specs.Calls.{TurnsKeepTaken}
-use Rattle.ps_core.specs.Downloads.{ReadsSendOn}
-use Rattle.ps_core.specs.Headline.{RunsGoOn, RunsClimbOn}
+use Rattle.ps_streams.specs.Calls.{TurnsKeepTaken}
+use Rattle.ps_streams.specs.Downloads.{ReadsSendOn}
+use Rattle.ps_streams.specs.Headline.{RunsGoOn, RunsClimbOn}
 use Rattle.ps_session.specs.Kept.{Kept, state_of}
-use Rattle.ps_core.specs.Runs.{IsToldIn, turn, turn_in}
+use Rattle.ps_streams.specs.Runs.{IsToldIn, turn, turn_in}
 use Rattle.ps_session.specs.Sessions.{SessionState, Turned, begin, next_action, requested_in}
-use Rattle.ps_core.specs.Ties.{HasTaken}
+use Rattle.ps_streams.specs.Ties.{HasTaken}
 use Rattle.ps_serve.specs.declared.ends.End.{End}
 use Rattle.ps_serve.specs.Runs.{Serves, IsSending, IsRun, IsStreaming, HasStreamed, HasStreamedFront, SendsSo, StreamsOn, list_of, lines_text}
 use Rattle.ps_serve.specs.Turning.{course_for, turn_for, IsHere, IsStreamingFor}

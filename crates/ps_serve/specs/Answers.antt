@@ -60,15 +60,26 @@ IsWritten wanted wanted_status text old new before now status CutRequest = IsWho
 IsWritten wanted wanted_status text old new before now status (TooMany count) = IsWhole wanted wanted_status text old new status (TooMany count)
 IsWritten wanted wanted_status text old new before now status Memory = IsWant old new status
 
--- nothing is written where there is nobody to answer; else the refusal is told
+-- a refusal was told with its status; or its write failed; or there was no memory for its head, and nothing was written
+abbrev pub IsRefused : ℕ → Option (List ℕ) → Option (List ℕ) → ℕ → ℕ → ℕ → End → Type 0
+IsRefused wanted old new before now status Answered = ⊥
+IsRefused wanted old new before now status Refused = IsWhole Refused wanted (refusal_text wanted) old new status Refused
+IsRefused wanted old new before now status Drained = ⊥
+IsRefused wanted old new before now status (Expired moment) = ⊥
+IsRefused wanted old new before now status PeerGone = IsGone wanted (refusal_text wanted) old new before now status
+IsRefused wanted old new before now status CutRequest = ⊥
+IsRefused wanted old new before now status (TooMany count) = ⊥
+IsRefused wanted old new before now status Memory = (status ≡ 0) × (new ≡ old)
+
+-- nothing is written where there is nobody to answer; else the refusal is told, and 503 is for what needs memory
 abbrev pub Refuses : Refusal → Option (List ℕ) → Option (List ℕ) → ℕ → ℕ → ℕ → End → Type 0
 Refuses refusals.Cut old new before now status end = (end ≡ CutRequest) × (status ≡ 0) × (new ≡ old)
-Refuses refusals.BadRequest old new before now status end = IsWritten Refused 400 (refusal_text 400) old new before now status end
-Refuses refusals.Unauthorized old new before now status end = IsWritten Refused 401 (refusal_text 401) old new before now status end
-Refuses refusals.NotFound old new before now status end = IsWritten Refused 404 (refusal_text 404) old new before now status end
-Refuses refusals.NotAllowed old new before now status end = IsWritten Refused 405 (refusal_text 405) old new before now status end
-Refuses refusals.Conflict old new before now status end = IsWritten Refused 409 (refusal_text 409) old new before now status end
-Refuses refusals.LengthRequired old new before now status end = IsWritten Refused 411 (refusal_text 411) old new before now status end
-Refuses refusals.TooLarge old new before now status end = IsWritten Refused 413 (refusal_text 413) old new before now status end
-Refuses refusals.TooManyBuckets old new before now status end = IsWritten Refused 422 (refusal_text 422) old new before now status end
+Refuses refusals.BadRequest old new before now status end = IsRefused 400 old new before now status end
+Refuses refusals.Unauthorized old new before now status end = IsRefused 401 old new before now status end
+Refuses refusals.NotFound old new before now status end = IsRefused 404 old new before now status end
+Refuses refusals.NotAllowed old new before now status end = IsRefused 405 old new before now status end
+Refuses refusals.Conflict old new before now status end = IsRefused 409 old new before now status end
+Refuses refusals.LengthRequired old new before now status end = IsRefused 411 old new before now status end
+Refuses refusals.TooLarge old new before now status end = IsRefused 413 old new before now status end
+Refuses refusals.TooManyBuckets old new before now status end = IsRefused 422 old new before now status end
 Refuses refusals.Memory old new before now status end = IsWritten Memory 503 (refusal_text 503) old new before now status end

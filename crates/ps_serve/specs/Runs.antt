@@ -1,42 +1,33 @@
 -- A stream over a store that stands still: the run of its session, turn by turn, and what is written of its lines.
-use Rattle.std.specs.Prelude.{◌≡◌, ◌⊎◌, ℕ, ◌<◌, ◌≤◌, List, [], ◌∷◌, ◌++◌, All, length, map, Option, Some, None, Result, Ok, Err, Vec}
+use Rattle.std.specs.Prelude.{◌≡◌, ◌⊎◌, true, ℕ, ◌<◌, ◌≤◌, List, [], ◌∷◌, ◌++◌, All, length, map, Option, Some, None, Result, Ok, Err, Vec}
 use Rattle.std.specs.declared.alloc.Global.{Global}
 use Rattle.ps_io.specs.Contents.{Gains, GainsFront}
 use Rattle.ps_io.specs.Counts.{Rose}
 use Rattle.ps_lines.specs.declared.bodies.Known.{Known}
 use Rattle.ps_lines.specs.declared.lines.Line.{Line}
 use Rattle.ps_lines.specs.Writing.{text_of}
-use Rattle.ps_params.specs.Names.{AreTold}
-use Rattle.ps_definitions.specs.RuleSets.{AreRules}
 use Rattle.ps_queries.specs.Meaning.{Asker}
 use Rattle.ps_store.specs.declared.events.Event.{Event}
 use Rattle.ps_store.specs.declared.fixed.Fixed.{Fixed}
 use Rattle.ps_store.specs.declared.readings.TakeFault.{TakeFault}
 use Rattle.ps_store.specs.declared.readings.TakeFault.TheVariants as takes
-use Rattle.ps_store.specs.declared.stores.Store.{Store}
 use Rattle.ps_store.specs.Courses.{Course, course_of}
-use Rattle.ps_store.specs.Laws.{HaveNumbers}
 use Rattle.ps_store.specs.Ledgers.{ledger_of}
-use Rattle.ps_store.specs.Readings.{AreTooMany, names_of, take_of, taken_names}
-use Rattle.ps_store.specs.Stores.{StoreStandsFor}
+use Rattle.ps_store.specs.Readings.{AreTold, AreTooMany, names_of, take_of, taken_names}
 use Rattle.ps_session.specs.declared.actions.Action.{Action}
 use Rattle.ps_session.specs.declared.actions.Action.TheVariants.{Take}
 use Rattle.ps_session.specs.declared.phases.Phase.{Phase}
 use Rattle.ps_session.specs.declared.phases.Phase.TheVariants.{Start, Download, Void, Done}
 use Rattle.ps_session.specs.Sessions.{SessionState, Turned, IsDrained, begin, requested_in}
-use Rattle.ps_core.specs.Runs.{Made, Turn, all_made, reached, AreToldIn, Climbs}
-use Rattle.ps_core.specs.Ties.{HasTaken}
+pub use Rattle.ps_streams.specs.Serving.{Serves}
+use Rattle.ps_streams.specs.Runs.{Made, Turn, IsToldIn, all_made, reached, turn, AreToldIn, Climbs}
+use Rattle.ps_streams.specs.Ties.{HasTaken}
+use Rattle.ps_streams.specs.Turning.{takes_in}
 use Rattle.ps_serve.specs.declared.ends.End.{End}
 use Rattle.ps_serve.specs.declared.ends.End.TheVariants.{Answered, Refused, Drained, Expired, PeerGone, CutRequest, TooMany, Memory}
 use Rattle.ps_serve.specs.declared.refusals.Refusal.{Refusal}
 use Rattle.ps_serve.specs.declared.refusals.Refusal.TheVariants as refusals
 use Rattle.ps_serve.specs.Answers.{head_text, Refuses}
-
--- the store stands for the history, under valid rules
-pub record Serves (fixed : Fixed) (store : Store) (history : List Event) : Type 0 where
-  pub stands : StoreStandsFor fixed store history
-  pub rules : AreRules fixed.rules
-  pub numbers : HaveNumbers fixed.rules.definitions
 
 -- ---- lines
 
@@ -126,7 +117,16 @@ SendsSo action may_give exp fixed history asker line old new before now (Err Mem
 abbrev pub AreFew : Fixed → List Event → Asker → Type 0
 AreFew fixed history asker = length (names_of (ledger_of fixed.rules history) asker) ≤ fixed.limits.buckets
 
--- a checkpoint was taken and this is its line; or why not
+-- the session's turn at the end of the history was made and this is its line; or why not: too many buckets only where a checkpoint was
+-- to be taken
+abbrev pub TurnsTo : Fixed → List Event → Asker → SessionState → SessionState → Result (Option Line) TakeFault → Type 0
+TurnsTo fixed history asker before now (Ok line) =
+    (now ≡ (turn (course_of fixed.rules history asker) (length history) before).session) × (line ≡ (turn (course_of fixed.rules history asker) (length history) before).line)
+    × IsToldIn before.phase (course_of fixed.rules history asker) (length history) × (takes_in before.phase ≡ true → AreFew fixed history asker)
+TurnsTo fixed history asker before now (Err (takes.TooManyBuckets count)) = (takes_in before.phase ≡ true) × AreTooMany fixed.limits (ledger_of fixed.rules history) asker count
+TurnsTo fixed history asker before now (Err takes.Memory) = Unit {0}
+
+-- the first checkpoint was taken and this is its line; or why not
 abbrev pub Takes : Fixed → List Event → Asker → Turned → SessionState → Result (Option Line) TakeFault → Type 0
 Takes fixed history asker turned session (Ok line) =
     (session ≡ turned.session) × (line ≡ turned.line) × AreTold (taken_names (take_of (ledger_of fixed.rules history) asker)) × AreFew fixed history asker

@@ -7,9 +7,9 @@ use Rattle.ps_store.specs.declared.events.Event.{Event}
 use Rattle.ps_store.specs.declared.fixed.Fixed.{Fixed}
 use Rattle.ps_store.specs.Courses.{Course, course_of}
 use Rattle.ps_session.specs.Kept.{Kept, state_of}
-use Rattle.ps_core.specs.Runs.{turn}
+use Rattle.ps_streams.specs.Runs.{turn}
 use Rattle.ps_session.specs.Sessions.{Turned}
-use Rattle.ps_core.specs.Ties.{HasTaken}
+use Rattle.ps_streams.specs.Ties.{HasTaken}
 use Rattle.ps_serve.specs.Runs.{IsStreaming}
 
 abbrev pub course_for : Fixed → List Event → Kept → Course

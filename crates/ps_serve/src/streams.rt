@@ -7,24 +7,23 @@ ghost use Rattle.ps_lines.specs.Writing.{IsWritable};
 ghost use Rattle.ps_sql_eval.specs.Evaluated.{asker_of};
 ghost use Rattle.ps_store.specs.declared.events.Event.{Event as EventSeen};
 ghost use Rattle.ps_store.specs.declared.fixed.Fixed.{Fixed as FixedSeen};
-ghost use Rattle.ps_store.specs.declared.stores.Store.{Store as StoreSeen};
 ghost use Rattle.ps_session.specs.declared.actions.Action.TheVariants as actions;
-ghost use Rattle.ps_session.specs.declared.phases.Phase.TheVariants.{Start};
+ghost use Rattle.ps_session.specs.declared.phases.Phase.TheVariants.{Start, Download};
 ghost use Rattle.ps_session.specs.Kept.{state_of};
-ghost use Rattle.ps_session.specs.Sessions.{IsTaking, next_action, begin, requested_in};
+ghost use Rattle.ps_session.specs.Sessions.{next_action, begin, requested_in};
 ghost use Rattle.ps_serve.specs.Answers.{head_text};
-ghost use Rattle.ps_serve.specs.Runs.{Serves, IsSending, Sends, SendsInTime, SendsSo, Takes, Begins, TakesOnce, Ends, StreamsOn, Streams};
+ghost use Rattle.ps_serve.specs.Runs.{Serves, IsSending, Sends, SendsInTime, SendsSo, TurnsTo, Takes, Begins, TakesOnce, Ends, StreamsOn, Streams};
 ghost use Rattle.ps_serve.specs.Turning.{IsHere, IsStreamingFor, turn_for};
 
 use crate::ends::End;
 use crate::refusals::Refusal;
 use crate::writing::{head, refuse};
-use ps_core::{calls_make_turns, runs_go_on};
-use ps_data::{Memory, OpId};
+use ps_data::Memory;
 use ps_io::{Clock, Sink};
 use ps_lines::{Line, write_line};
 use ps_session::{Action, Session, StreamRequest};
 use ps_store::{Store, TakeFault, courses_are_lawful, places_are_fronts};
+use ps_streams::{calls_make_turns, runs_go_on, take_turn_of};
 use std::alloc::Global;
 
 // Writes the line of a turn, if it gives one.
@@ -46,17 +45,39 @@ fn send<K: Sink>(alloc: Global, line: Option<Line>, to: &mut K) -> Result<(), En
     }
 }
 
-// Reads the bucket that is behind on.
-fn read_on<K: Sink>(
+// The line of the session's turn, if it makes one.
+fn turn(alloc: Global, store: &Store, session: &mut Session) -> Result<Option<Line>, TakeFault>
+    requires { (fixed : FixedSeen) × (history : List EventSeen) × Serves fixed store.now history × IsHere fixed history session.old }
+    ensures turns { (fixed : FixedSeen) (history : List EventSeen) → Serves fixed store.now history → IsHere fixed history session.old
+        → TurnsTo fixed history (asker_of session.old.asker) (state_of session.old) (state_of session.new) result }
+    ensures writable { IfOk result (λ line. IfSome line IsWritable) }
+    ensures asker { session.new.asker ≡ session.old.asker }
+{
+    let outcome = take_turn_of(alloc, store, session)?;
+    Ok(outcome.into_line())
+}
+
+// Takes the first checkpoint.
+fn take(alloc: Global, store: &Store, session: &mut Session) -> Result<Option<Line>, TakeFault>
+    requires start { (state_of session.old).phase ≡ Start }
+    requires serves { (fixed : FixedSeen) × (history : List EventSeen) × Serves fixed store.now history }
+    ensures takes { (fixed : FixedSeen) (history : List EventSeen) → Serves fixed store.now history
+        → Takes fixed history (asker_of session.old.asker) (turn_for fixed history session.old) (state_of session.new) result }
+    ensures writable { IfOk result (λ line. IfSome line IsWritable) }
+    ensures asker { session.new.asker ≡ session.old.asker }
+{
+    places_are_fronts();
+    turn(alloc, store, session)
+}
+
+// Takes the turn of a checkpoint that is being sent, and writes its line, if it makes one.
+fn send_on<K: Sink>(
     alloc: Global,
     store: &Store,
     session: &mut Session,
     to: &mut K,
-    place: usize,
-    after: OpId,
-    upto: OpId,
 ) -> Result<(), End>
-    requires action { next_action (state_of session.old) ≡ actions.Read place after upto }
+    requires phase { (state_of session.old).phase ≡ Download }
     requires here { (fixed : FixedSeen) × (history : List EventSeen) × Serves fixed store.now history × IsHere fixed history session.old }
     ensures sends { (fixed : FixedSeen) (history : List EventSeen) → Serves fixed store.now history → IsHere fixed history session.old
         → Sends (turn_for fixed history session.old).line (K.taken to.old) (K.taken to.new) (K.faults to.old) (K.faults to.new) result }
@@ -66,47 +87,11 @@ fn read_on<K: Sink>(
     ensures faults { K.faults to.old ≤ K.faults to.new }
     ensures number { K.number to.new ≡ K.number to.old }
 {
-    calls_make_turns();
-    courses_are_lawful();
-    places_are_fronts();
-    let Ok(batch) = store.read_batch(alloc, session.bucket_at(place), after, upto) else {
-        return Err(End::Memory);
-    };
-    let Ok(line) = session.read(alloc, batch) else {
-        return Err(End::Memory);
-    };
-    send(alloc, line, to)
-}
-
-// Ends the checkpoint.
-fn complete<K: Sink>(alloc: Global, session: &mut Session, to: &mut K) -> Result<(), End>
-    requires action { next_action (state_of session.old) ≡ actions.Complete }
-    requires here { (fixed : FixedSeen) × (history : List EventSeen) × (store : StoreSeen) × Serves fixed store history × IsHere fixed history session.old }
-    ensures sends { (fixed : FixedSeen) (history : List EventSeen)
-        → Sends (turn_for fixed history session.old).line (K.taken to.old) (K.taken to.new) (K.faults to.old) (K.faults to.new) result }
-    ensures state { (fixed : FixedSeen) (history : List EventSeen) → state_of session.new ≡ (turn_for fixed history session.old).session }
-    ensures asker { session.new.asker ≡ session.old.asker }
-    ensures faults { K.faults to.old ≤ K.faults to.new }
-    ensures number { K.number to.new ≡ K.number to.old }
-{
-    calls_make_turns();
-    courses_are_lawful();
-    let line = session.finish();
-    send(alloc, Some(line), to)
-}
-
-// Takes a checkpoint.
-fn take(alloc: Global, store: &Store, session: &mut Session) -> Result<Option<Line>, TakeFault>
-    requires action { IsTaking (next_action (state_of session.old)) }
-    requires serves { (fixed : FixedSeen) × (history : List EventSeen) × Serves fixed store.now history }
-    ensures takes { (fixed : FixedSeen) (history : List EventSeen) → Serves fixed store.now history
-        → Takes fixed history (asker_of session.old.asker) (turn_for fixed history session.old) (state_of session.new) result }
-    ensures asker { session.new.asker ≡ session.old.asker }
-{
-    calls_make_turns();
-    places_are_fronts();
-    let taken = store.take(alloc, session.asker())?;
-    Ok(session.took(alloc, taken)?)
+    match turn(alloc, store, session) {
+        Ok(line) => send(alloc, line, to),
+        Err(TakeFault::TooManyBuckets { .. }) => unreachable!(),
+        Err(TakeFault::Memory) => Err(End::Memory),
+    }
 }
 
 // Takes a checkpoint that is not the stream's first, where the token is not expired.
@@ -118,24 +103,21 @@ fn take_again<K: Sink, C: Clock>(
     clock: &C,
     exp: u64,
 ) -> Result<(), End>
-    requires action { IsTaking (next_action (state_of session.old)) }
     requires here { (fixed : FixedSeen) × (history : List EventSeen) × Serves fixed store.now history × IsHere fixed history session.old }
-    ensures sends { (fixed : FixedSeen) (history : List EventSeen) → Serves fixed store.now history
+    ensures sends { (fixed : FixedSeen) (history : List EventSeen) → Serves fixed store.now history → IsHere fixed history session.old
         → SendsInTime (C.may_give clock.now) exp fixed history (asker_of session.old.asker) (turn_for fixed history session.old).line
         (K.taken to.old) (K.taken to.new) (K.faults to.old) (K.faults to.new) result }
-    ensures state { OnOk result ((fixed : FixedSeen) (history : List EventSeen) → Serves fixed store.now history
+    ensures state { OnOk result ((fixed : FixedSeen) (history : List EventSeen) → Serves fixed store.now history → IsHere fixed history session.old
         → state_of session.new ≡ (turn_for fixed history session.old).session) }
     ensures asker { session.new.asker ≡ session.old.asker }
     ensures faults { K.faults to.old ≤ K.faults to.new }
     ensures number { K.number to.new ≡ K.number to.old }
 {
-    calls_make_turns();
-    courses_are_lawful();
     let moment = clock.now();
     if moment >= exp {
         return Err(End::Expired { moment });
     }
-    match take(alloc, store, session) {
+    match turn(alloc, store, session) {
         Ok(line) => send(alloc, line, to),
         Err(TakeFault::TooManyBuckets { count }) => Err(End::TooMany { count }),
         Err(TakeFault::Memory) => Err(End::Memory),
@@ -166,10 +148,7 @@ fn make_turn<K: Sink, C: Clock>(
 {
     match action {
         Action::Take => take_again(alloc, store, session, to, clock, exp),
-        Action::Read { place, after, upto } => {
-            read_on(alloc, store, session, to, place, after, upto)
-        }
-        Action::Complete => complete(alloc, session, to),
+        Action::Read { .. } | Action::Complete => send_on(alloc, store, session, to),
         Action::Wait => unreachable!(),
     }
 }
@@ -226,8 +205,6 @@ fn first_line(alloc: Global, store: &Store, session: &mut Session) -> Result<Vec
         → Begins fixed history (asker_of session.old.asker) (turn_for fixed history session.old) (state_of session.new) result }
     ensures asker { session.new.asker ≡ session.old.asker }
 {
-    calls_make_turns();
-    courses_are_lawful();
     let line = match take(alloc, store, session) {
         Ok(line) => line,
         Err(TakeFault::TooManyBuckets { .. }) => return Err(Refusal::TooManyBuckets),

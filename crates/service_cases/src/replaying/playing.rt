@@ -180,7 +180,7 @@ fn note_line(beside: &mut Beside, reader: &mut Reader, line: &Line) -> Result<()
 fn note_turn(beside: &mut Beside, reader: &mut Reader, effect: &Effect) -> Result<bool, Stop> {
     match effect {
         Effect::Line { line } => {
-            note_line(beside, reader, line)?;
+            note_line(beside, reader, line.line())?;
             Ok(true)
         }
         Effect::Passed { .. } => {

@@ -3,36 +3,58 @@ use Rattle.ps_io.specs.Contents.{Contents}
 use Rattle.ps_commands.specs.Commands.{check, rows, compact, token, generate, generate_lines, command_of}
 use Rattle.ps_commands.proofs.plain.command.Goals as goal
 
-pub returns-in-Check : goal.returns-in-Check
-returns-in-Check g c =
+pub returns-in-Check-clause-outcome : goal.returns-in-Check-clause-outcome
+returns-in-Check-clause-outcome g c =
     let is : command_of c.args.words.now ≡ Some (check c.in-Check.rules.now) = search rules in
-    c.print.ensures (g.F.Files.held c.args.files.now) (g.F.Files.faults c.args.files.now) (g.F.Files.faults c.check.new.files) c.args.words.now (c.check.ensures c.args.words.now is)
+    c.print.ensures.outcome (g.F.Files.held c.args.files.now) (g.F.Files.faults c.args.files.now) (g.F.Files.faults c.check.new.files) c.args.words.now (c.check.ensures.finds c.args.words.now is)
 
-pub returns-in-Rows : goal.returns-in-Rows
-returns-in-Rows g c =
+pub returns-in-Rows-clause-outcome : goal.returns-in-Rows-clause-outcome
+returns-in-Rows-clause-outcome g c =
     let is : command_of c.args.words.now ≡ Some (rows (record { rules = c.in-Rows.rules.now; changes = c.in-Rows.changes.now; claims = c.in-Rows.claims.now })) = search rules in
-    c.print-in-Rows.ensures (g.F.Files.held c.args.files.now) (g.F.Files.faults c.args.files.now) (g.F.Files.faults c.rows.new.files) c.args.words.now (c.rows.ensures c.args.words.now is)
+    c.print-in-Rows.ensures.outcome (g.F.Files.held c.args.files.now) (g.F.Files.faults c.args.files.now) (g.F.Files.faults c.rows.new.files) c.args.words.now (c.rows.ensures.finds c.args.words.now is)
 
-pub returns-in-Compact : goal.returns-in-Compact
-returns-in-Compact g c =
+pub returns-in-Compact-clause-outcome : goal.returns-in-Compact-clause-outcome
+returns-in-Compact-clause-outcome g c =
     let is : command_of c.args.words.now ≡ Some (compact (record { rules = c.in-Compact.rules.now; changes = c.in-Compact.changes.now })) = search rules in
-    c.print-in-Compact.ensures (g.F.Files.held c.args.files.now) (g.F.Files.faults c.args.files.now) (g.F.Files.faults c.compact.new.files) c.args.words.now (c.compact.ensures c.args.words.now is)
+    c.print-in-Compact.ensures.outcome (g.F.Files.held c.args.files.now) (g.F.Files.faults c.args.files.now) (g.F.Files.faults c.compact.new.files) c.args.words.now (c.compact.ensures.finds c.args.words.now is)
 
-pub returns-in-Token : goal.returns-in-Token
-returns-in-Token g c =
+pub returns-in-Token-clause-outcome : goal.returns-in-Token-clause-outcome
+returns-in-Token-clause-outcome g c =
     let is : command_of c.args.words.now ≡ Some (token (record { keys = c.in-Token.keys.now; kid = c.in-Token.kid.now; claims = c.in-Token.claims.now })) = search rules in
-    c.print-in-Token.ensures (g.F.Files.held c.args.files.now) (g.F.Files.faults c.args.files.now) (g.F.Files.faults c.token.new.files) c.args.words.now (c.token.ensures c.args.words.now is)
+    c.print-in-Token.ensures.outcome (g.F.Files.held c.args.files.now) (g.F.Files.faults c.args.files.now) (g.F.Files.faults c.token.new.files) c.args.words.now (c.token.ensures.finds c.args.words.now is)
 
-pub returns-in-Generate : goal.returns-in-Generate
-returns-in-Generate g c =
+pub returns-in-Generate-clause-outcome : goal.returns-in-Generate-clause-outcome
+returns-in-Generate-clause-outcome g c =
     let held : Option Contents = g.F.Files.held c.args.files.now in
     let faults : ℕ = g.F.Files.faults c.args.files.now in
     let is : command_of c.args.words.now ≡ Some (generate c.in-Generate.count) = search rules in
-    c.print-in-Generate.ensures held faults faults c.args.words.now (c.generate.ensures held faults faults c.args.words.now is)
+    c.print-in-Generate.ensures.outcome held faults faults c.args.words.now (c.generate.ensures.finds held faults faults c.args.words.now is)
 
-pub returns-in-GenerateLines : goal.returns-in-GenerateLines
-returns-in-GenerateLines g c =
+pub returns-in-GenerateLines-clause-outcome : goal.returns-in-GenerateLines-clause-outcome
+returns-in-GenerateLines-clause-outcome g c =
     let held : Option Contents = g.F.Files.held c.args.files.now in
     let faults : ℕ = g.F.Files.faults c.args.files.now in
     let is : command_of c.args.words.now ≡ Some (generate_lines c.in-GenerateLines.count) = search rules in
-    c.print-in-GenerateLines.ensures held faults faults c.args.words.now (c.generate_lines.ensures held faults faults c.args.words.now is)
+    c.print-in-GenerateLines.ensures.outcome held faults faults c.args.words.now (c.generate_lines.ensures.finds held faults faults c.args.words.now is)
+
+pub returns-in-Check-clause-missed : goal.returns-in-Check-clause-missed
+returns-in-Check-clause-missed g c = c.print.ensures.missed (g.F.Files.missed c.args.files.now) (g.F.Files.missed c.check.new.files) c.check.ensures.missed
+
+pub returns-in-Rows-clause-missed : goal.returns-in-Rows-clause-missed
+returns-in-Rows-clause-missed g c = c.print-in-Rows.ensures.missed (g.F.Files.missed c.args.files.now) (g.F.Files.missed c.rows.new.files) c.rows.ensures.missed
+
+pub returns-in-Compact-clause-missed : goal.returns-in-Compact-clause-missed
+returns-in-Compact-clause-missed g c = c.print-in-Compact.ensures.missed (g.F.Files.missed c.args.files.now) (g.F.Files.missed c.compact.new.files) c.compact.ensures.missed
+
+pub returns-in-Token-clause-missed : goal.returns-in-Token-clause-missed
+returns-in-Token-clause-missed g c = c.print-in-Token.ensures.missed (g.F.Files.missed c.args.files.now) (g.F.Files.missed c.token.new.files) c.token.ensures.missed
+
+pub returns-in-Generate-clause-missed : goal.returns-in-Generate-clause-missed
+returns-in-Generate-clause-missed g c =
+    let names = g.F.Files.missed c.args.files.now in
+    c.print-in-Generate.ensures.missed names names (c.generate.ensures.missed names)
+
+pub returns-in-GenerateLines-clause-missed : goal.returns-in-GenerateLines-clause-missed
+returns-in-GenerateLines-clause-missed g c =
+    let names = g.F.Files.missed c.args.files.now in
+    c.print-in-GenerateLines.ensures.missed names names (c.generate_lines.ensures.missed names)

@@ -1,20 +1,22 @@
-use Rattle.std.proofs.Common.{◌≤◌, ◌∙◌, ℕ, Option, refl, arith}
+use Rattle.std.proofs.Common.{◌≤◌, ◌∙◌, ℕ, Option, Vec, Err, refl, arith}
+use Rattle.std.specs.declared.alloc.Global.{Global}
 use Rattle.std.proofs.lemmas.Result.{err_from_is_err_and}
 use Rattle.ps_io.specs.Contents.{Contents}
 use Rattle.ps_commands.specs.Commands.{Names, rows, reading}
 use Rattle.ps_commands.proofs.Causes.{rules_read, cause_of_rules, asker_read, cause_of_asker, rows_found}
+use Rattle.ps_commands.proofs.Missed.{misses_later}
 use Rattle.ps_commands.proofs.plain.rows.Goals as goal
 
-pub returns-in_err-rules : goal.returns-in_err-rules
-returns-in_err-rules g c =
+pub returns-in_err-rules-clause-finds : goal.returns-in_err-rules-clause-finds
+returns-in_err-rules-clause-finds g c =
     let p = err_from_is_err_and c.from_residual.result c.from_residual.ensures.1 in
     rw (p.1, p.2) (λ words is taken faults.
     let names : Names = record { rules = c.args.rules.now; changes = c.args.changes.now; claims = c.args.claims.now } in
     cause_of_rules (reading (g.F.Files.held c.args.files.now) (g.F.Files.faults c.args.files.now) (g.F.Files.faults c.load_rules.new.files) taken faults) words
     c.args.rules.now c.in_err-rules.field-0.0 refl (record { command = rows names; is = is; comes = refl }) c.in_err-rules.ensures.loads)
 
-pub returns-in_err-asker : goal.returns-in_err-asker
-returns-in_err-asker g c =
+pub returns-in_err-asker-clause-finds : goal.returns-in_err-asker-clause-finds
+returns-in_err-asker-clause-finds g c =
     let p = err_from_is_err_and c.from_residual-in_err-asker.result c.from_residual-in_err-asker.ensures.1 in
     rw (p.1, p.2) (λ words is taken faults.
     let names : Names = record { rules = c.args.rules.now; changes = c.args.changes.now; claims = c.args.claims.now } in
@@ -25,8 +27,8 @@ returns-in_err-asker g c =
     cause_of_asker (reading held start (g.F.Files.faults c.load_asker.new.files) taken faults) (g.F.Files.held c.load_rules.new.files) mid words c.args.claims.now c.in_err-asker.field-0.0
     c.in_ok-rules.ensures.held c.in_ok-rules.ensures.faults refl (record { command = rows names; is = is; comes = (refl, c.in_ok-rules.rules, rules) }) c.in_err-asker.ensures.loads)
 
-pub returns : goal.returns
-returns g c = λ words is.
+pub returns-clause-finds : goal.returns-clause-finds
+returns-clause-finds g c = λ words is.
     let names : Names = record { rules = c.args.rules.now; changes = c.args.changes.now; claims = c.args.claims.now } in
     let held : Option Contents = g.F.Files.held c.args.files.now in
     let start : ℕ = g.F.Files.faults c.args.files.now in
@@ -39,3 +41,19 @@ returns g c = λ words is.
     let second : read_1 ≤ read_2 = c.in_ok-asker.ensures.faults in
     rows_found held (g.F.Files.held c.load_asker.new.files) start read_2 (g.F.Files.faults c.load_rows.new.files) words names c.in_ok-rules.rules c.in_ok-asker.asker c.load_rows.result
     (c.in_ok-asker.ensures.held ∙ c.in_ok-rules.ensures.held) (omega (arith, first, second)) is rules claims c.load_rows.ensures.loads
+
+pub returns-in_err-rules-clause-missed : goal.returns-in_err-rules-clause-missed
+returns-in_err-rules-clause-missed g c =
+    let p = err_from_is_err_and c.from_residual.result c.from_residual.ensures.1 in
+    rw (p.1, p.2) c.in_err-rules.ensures.missed
+
+pub returns-in_err-asker-clause-missed : goal.returns-in_err-asker-clause-missed
+returns-in_err-asker-clause-missed g c =
+    let p = err_from_is_err_and c.from_residual-in_err-asker.result c.from_residual-in_err-asker.ensures.1 in
+    rw (p.1, p.2) (misses_later {X = Vec ℕ Global} (g.F.Files.missed c.args.files.now) (g.F.Files.missed c.load_rules.new.files) (g.F.Files.missed c.load_asker.new.files) (Err c.in_err-asker.field-0.0)
+    c.in_ok-rules.ensures.missed c.in_err-asker.ensures.missed)
+
+pub returns-clause-missed : goal.returns-clause-missed
+returns-clause-missed g c =
+    misses_later (g.F.Files.missed c.args.files.now) (g.F.Files.missed c.load_asker.new.files) (g.F.Files.missed c.load_rows.new.files) c.load_rows.result
+    (c.in_ok-asker.ensures.missed ∙ c.in_ok-rules.ensures.missed) c.load_rows.ensures.missed

@@ -2,12 +2,6 @@ use Rattle.std.proofs.lemmas.Result.{err_from_is_err_and}
 use Rattle.ps_commands.proofs.Spelling.{spells, without_text}
 use Rattle.ps_commands.proofs.playing.line_text.Goals as goal
 
-pub effect_text-spelled-requires : goal.effect_text-spelled-requires
-effect_text-spelled-requires c =
-    let (fixed, play, stands, led) = c.requires in
-    let (event, is, gave) = c.in_ok-effect.ensures fixed play stands in
-    gave.went.printable
-
 pub returns-in_err-effect : goal.returns-in_err-effect
 returns-in_err-effect c =
     let p = err_from_is_err_and c.from_residual.result c.from_residual.ensures.1 in

@@ -1,14 +1,16 @@
-use Rattle.std.proofs.Common.{◌≤◌, ◌∙◌, Option, refl, arith, ℕ}
+use Rattle.std.proofs.Common.{◌≤◌, ◌∙◌, Option, Err, refl, arith, ℕ}
 use Rattle.std.proofs.lemmas.Result.{err_from_is_err_and}
 use Rattle.ps_io.specs.Contents.{Contents}
 use Rattle.ps_commands.specs.Commands.{Scripting, replay, Outside, reading}
 use Rattle.ps_commands.specs.Replaying.{Game}
+use Rattle.ps_commands.specs.Replays.{Output}
 use Rattle.ps_commands.proofs.Causes.{rules_read, cause_of_rules}
 use Rattle.ps_commands.proofs.Replays.{cause_of_fed, cause_of_script, transactions_read, script_read, played}
+use Rattle.ps_commands.proofs.Missed.{misses_later, plays_unread}
 use Rattle.ps_commands.proofs.replaying.replay_files.Goals as goal
 
-pub returns-in_err-rules : goal.returns-in_err-rules
-returns-in_err-rules g c =
+pub returns-in_err-rules-clause-outcome : goal.returns-in_err-rules-clause-outcome
+returns-in_err-rules-clause-outcome g c =
     let p = err_from_is_err_and c.from_residual.result c.from_residual.ensures.1 in
     rw (p.1, p.2) (λ words is.
     let names : Scripting = record { rules = c.args.rules.now; changes = c.args.changes.now; script = c.args.script.now } in
@@ -17,8 +19,8 @@ returns-in_err-rules g c =
     let o : Outside = reading held start (g.F.Files.faults c.load_rules.new.files) (g.K.Sink.taken c.args.out.now) (g.K.Sink.faults c.args.out.now) in
     cause_of_rules o words c.args.rules.now c.in_err-rules.field-0.0 refl (record { command = replay names; is = is; comes = refl }) c.in_err-rules.ensures.loads)
 
-pub returns-in_err-transactions : goal.returns-in_err-transactions
-returns-in_err-transactions g c =
+pub returns-in_err-transactions-clause-outcome : goal.returns-in_err-transactions-clause-outcome
+returns-in_err-transactions-clause-outcome g c =
     let p = err_from_is_err_and c.from_residual-in_err-transactions.result c.from_residual-in_err-transactions.ensures.1 in
     rw (p.1, p.2) (λ words is.
     let names : Scripting = record { rules = c.args.rules.now; changes = c.args.changes.now; script = c.args.script.now } in
@@ -30,8 +32,8 @@ returns-in_err-transactions g c =
     let rules = rules_read held c.args.rules.now start read_1 c.in_ok-rules.rules c.in_ok-rules.ensures.loads in
     cause_of_fed o words names is refl c.in_ok-rules.rules rules held_1 read_1 c.in_err-transactions.field-0.0 c.in_ok-rules.ensures.held c.in_ok-rules.ensures.faults c.in_err-transactions.ensures.loads)
 
-pub returns-in_err-script : goal.returns-in_err-script
-returns-in_err-script g c =
+pub returns-in_err-script-clause-outcome : goal.returns-in_err-script-clause-outcome
+returns-in_err-script-clause-outcome g c =
     let p = err_from_is_err_and c.from_residual-in_err-script.result c.from_residual-in_err-script.ensures.1 in
     rw (p.1, p.2) (λ words is.
     let names : Scripting = record { rules = c.args.rules.now; changes = c.args.changes.now; script = c.args.script.now } in
@@ -53,8 +55,8 @@ returns-in_err-script g c =
 pub play-requires-clause-low : goal.play-requires-clause-low
 play-requires-clause-low g c = c.in_ok-transactions.ensures.loads.2.low
 
-pub returns : goal.returns
-returns g c = λ words is.
+pub returns-clause-outcome : goal.returns-clause-outcome
+returns-clause-outcome g c = λ words is.
     let names : Scripting = record { rules = c.args.rules.now; changes = c.args.changes.now; script = c.args.script.now } in
     let held : Option Contents = g.F.Files.held c.args.files.now in
     let start : ℕ = g.F.Files.faults c.args.files.now in
@@ -70,3 +72,27 @@ returns g c = λ words is.
     let game : Game = record { rules = c.in_ok-rules.rules; transactions = c.in_ok-transactions.transactions.items; script = c.in_ok-script.script.items } in
     played o words names is game (record { rules_read = rules; changes_read = changes; script_read = script }) c.play.result
     (rw c.as_slice.ensures.value at c.play.ensures)
+
+pub returns-in_err-rules-clause-missed : goal.returns-in_err-rules-clause-missed
+returns-in_err-rules-clause-missed g c =
+    let p = err_from_is_err_and c.from_residual.result c.from_residual.ensures.1 in
+    rw (p.1, p.2) c.in_err-rules.ensures.missed
+
+pub returns-in_err-transactions-clause-missed : goal.returns-in_err-transactions-clause-missed
+returns-in_err-transactions-clause-missed g c =
+    let p = err_from_is_err_and c.from_residual-in_err-transactions.result c.from_residual-in_err-transactions.ensures.1 in
+    rw (p.1, p.2) (misses_later {X = Unit {0}} (g.F.Files.missed c.args.files.now) (g.F.Files.missed c.load_rules.new.files) (g.F.Files.missed c.load_transactions.new.files) (Err c.in_err-transactions.field-0.0)
+    c.in_ok-rules.ensures.missed c.in_err-transactions.ensures.missed)
+
+pub returns-in_err-script-clause-missed : goal.returns-in_err-script-clause-missed
+returns-in_err-script-clause-missed g c =
+    let p = err_from_is_err_and c.from_residual-in_err-script.result c.from_residual-in_err-script.ensures.1 in
+    rw (p.1, p.2) (misses_later {X = Unit {0}} (g.F.Files.missed c.args.files.now) (g.F.Files.missed c.load_transactions.new.files) (g.F.Files.missed c.load.new.files) (Err c.in_err-script.field-0.0)
+    (c.in_ok-transactions.ensures.missed ∙ c.in_ok-rules.ensures.missed) c.in_err-script.ensures.missed)
+
+pub returns-clause-missed : goal.returns-clause-missed
+returns-clause-missed g c =
+    let game : Game = record { rules = c.in_ok-rules.rules; transactions = c.in_ok-transactions.transactions.items; script = c.in_ok-script.script.items } in
+    let out : Output = record { old = g.K.Sink.taken c.args.out.now; new = g.K.Sink.taken c.play.new.out; before = g.K.Sink.faults c.args.out.now; now = g.K.Sink.faults c.play.new.out } in
+    plays_unread game out (g.F.Files.missed c.args.files.now) (g.F.Files.missed c.load.new.files) c.play.result
+    (c.in_ok-script.ensures.missed ∙ c.in_ok-transactions.ensures.missed ∙ c.in_ok-rules.ensures.missed) (rw c.as_slice.ensures.value at c.play.ensures)

@@ -1,11 +1,11 @@
 use Rattle.std.proofs.Common.{◌≡◌, List}
-use Rattle.ps_queries.specs.Meaning.{Asker}
 use Rattle.ps_client.specs.States.{state}
+use Rattle.ps_sql_eval.specs.Evaluated.{asker_of}
 use Rattle.ps_store.specs.declared.events.Event.{Event}
 use Rattle.ps_store.specs.declared.fixed.Fixed.{Fixed}
 use Rattle.ps_session.specs.declared.phases.Phase.TheVariants.{Download}
 use Rattle.ps_session.specs.Kept.{state_of}
-use Rattle.ps_core.specs.Downloads.{left}
+use Rattle.ps_streams.specs.Downloads.{left}
 use Rattle.ps_commands.specs.Turning.{Serves, IsLedIn, IsIdle}
 use Rattle.ps_commands.proofs.turning.download.Given as goal
 
@@ -13,8 +13,10 @@ use Rattle.ps_commands.proofs.turning.download.Given as goal
 abbrev pub invariant-reads : goal.invariant-reads
 invariant-reads l = record {
   phase : (state_of l.session).phase ≡ Download;
-  led : (fixed : Fixed) (history : List Event) (asker : Asker) → Serves fixed l.store history
-      → IsLedIn fixed history asker (state_of l.fn.session) (state l.fn.client) → IsLedIn fixed history asker (state_of l.session) (state l.client);
+  led : (fixed : Fixed) (history : List Event) → Serves fixed l.store history
+      → IsLedIn fixed history (asker_of l.fn.session.asker) (state_of l.fn.session) (state l.fn.client)
+      → IsLedIn fixed history (asker_of l.fn.session.asker) (state_of l.session) (state l.client);
+  asker : l.session.asker ≡ l.fn.session.asker;
   idle : IsIdle (state l.fn.client) → IsIdle (state l.client);
 }
 

@@ -4,7 +4,7 @@ use Rattle.ps_lines.specs.declared.lines.Line.{Line}
 use Rattle.ps_store.specs.declared.events.Event.{Event}
 use Rattle.ps_store.specs.declared.fixed.Fixed.{Fixed}
 use Rattle.ps_session.specs.Kept.{state_of}
-use Rattle.ps_core.specs.Ties.{HasTaken}
+use Rattle.ps_streams.specs.Ties.{HasTaken}
 use Rattle.ps_serve.specs.Runs.{Serves, IsSending, HasStreamed}
 use Rattle.ps_serve.specs.Turning.{course_for, IsHere, IsStreamingFor}
 use Rattle.ps_serve.proofs.Falling.{rank}

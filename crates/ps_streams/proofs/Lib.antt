@@ -1,0 +1,14 @@
+pub mod ToldTables
+pub mod HonestReaders
+pub mod Ties
+pub mod Turns
+pub mod Runs
+pub mod Lives
+pub mod Calls
+pub mod Downloads
+pub mod Writable
+pub mod Reading
+pub mod Turned
+pub mod Stores
+pub mod TakePlaces
+pub mod RunsTo

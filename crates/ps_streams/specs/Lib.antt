@@ -1,0 +1,11 @@
+pub mod Serving
+pub mod Runs
+pub mod Headline
+pub mod Lives
+pub mod Ties
+pub mod Led
+pub mod Calls
+pub mod Downloads
+pub mod Turning
+pub mod TakePlaces
+pub mod RunsTo
