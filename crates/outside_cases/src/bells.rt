@@ -1,0 +1,172 @@
+//! Bells: one that nobody rings, and those that threads share.
+
+use case_words::{Stop, cut, number_in};
+use ps_doors::{Bell, QuietBell};
+use ps_sockets::{Rings, RungBell};
+use std::alloc::Global;
+use std::sync::Wait;
+use std::thread::{Threads, join, map_vec, sleep};
+use std::time::{Clock, Duration, Instant};
+
+/// What the bell answers that nobody rings.
+pub fn write_quiet(out: &mut String) -> Result<(), Stop> {
+    let mut bell = QuietBell::new();
+    let first = bell.heard();
+    bell.ring();
+    let second = bell.heard();
+    let third = bell.wait(0);
+    let fourth = bell.wait(3);
+    bell.close();
+    let closed = bell.closed();
+    Ok(write!(
+        out,
+        "{first} {second} {third} {fourth} {closed} {}",
+        bell.closings()
+    )?)
+}
+
+/// What two bells of the same rings answer.
+pub fn write_rung<R: Wait + Clock>(rt: &R, out: &mut String) -> Result<(), Stop> {
+    let rings = Rings::new();
+    let mut one = RungBell::new(rt, &rings);
+    let mut other = one.another();
+    write!(out, "{} {}", one.heard(), other.heard())?;
+    one.ring();
+    write!(
+        out,
+        "; rung {} {} {}",
+        one.heard(),
+        other.heard(),
+        other.wait(0)
+    )?;
+    let early = one.closed();
+    other.close();
+    write!(out, "; closed {early} {} {}", one.closed(), one.closed())?;
+    write!(out, "; closings {} {}", one.closings(), other.closings())?;
+    let late = other.closed();
+    Ok(write!(out, " {late} {} {}", other.closings(), other.heard())?)
+}
+
+// Waits for a ring, and says what was heard and after how many seconds.
+fn wait_for<R: Wait + Clock>(rt: &R, mut bell: RungBell<R>) -> (u64, u64) {
+    let since = Instant::now(rt);
+    let heard = bell.wait(0);
+    match since {
+        Ok(since) => match since.elapsed(rt) {
+            Ok(gone) => (heard, gone.as_secs()),
+            Err(_) => (heard, u64::MAX),
+        },
+        Err(_) => (heard, u64::MAX),
+    }
+}
+
+// Rings or closes after a while.
+fn ring_late<R: Wait + Clock>(rt: &R, mut bell: RungBell<R>, shut: bool) {
+    sleep(rt, Duration::from_millis(200));
+    if shut {
+        bell.close();
+    } else {
+        bell.ring();
+    }
+}
+
+/// What a bell hears that waits in a thread until another rings or closes.
+pub fn write_woken<R: Threads + Wait + Clock + Sync>(
+    rt: &R,
+    shut: bool,
+    out: &mut String,
+) -> Result<(), Stop> {
+    let rings = Rings::new();
+    let one = RungBell::new(rt, &rings);
+    let other = one.another();
+    let ((heard, seconds), ()) = join(
+        rt,
+        move || wait_for(rt, other),
+        move || ring_late(rt, one, shut),
+    );
+    let when = if seconds < 10 { "soon" } else { "late" };
+    Ok(write!(out, "{heard} {when}")?)
+}
+
+/// How long a bell waits where nobody rings.
+pub fn write_alone<R: Wait + Clock>(rt: &R, out: &mut String) -> Result<(), Stop> {
+    let rings = Rings::new();
+    let (heard, seconds) = wait_for(rt, RungBell::new(rt, &rings));
+    let when = if (20..30).contains(&seconds) {
+        "after twenty seconds"
+    } else {
+        "at another time"
+    };
+    Ok(write!(out, "{heard} {when}")?)
+}
+
+// A bell, and after how many milliseconds it is rung, if not waited for.
+#[derive(Drop)]
+struct Waiter<'a, R> {
+    bell: RungBell<'a, R>,
+    rings_after: Option<u64>,
+}
+
+fn work<R: Wait + Clock>(rt: &R, waiter: Waiter<R>) -> u64 {
+    let Waiter { bell, rings_after } = waiter;
+    let mut bell = bell;
+    if let Some(milliseconds) = rings_after {
+        sleep(rt, Duration::from_millis(milliseconds));
+        bell.ring();
+        return 0;
+    }
+    bell.wait(0)
+}
+
+// So many bells that wait, and this one, which is rung after so many milliseconds.
+fn waiters_of<'a, R: Wait + Clock>(
+    alloc: Global,
+    bell: RungBell<'a, R>,
+    count: u64,
+    milliseconds: u64,
+) -> Result<Vec<Waiter<'a, R>>, Stop> {
+    let mut waiters = Vec::new(alloc);
+    'waiters: for _ in 0..count {
+        waiters.push(Waiter {
+            bell: bell.another(),
+            rings_after: None,
+        })?;
+    }
+    waiters.push(Waiter {
+        bell,
+        rings_after: Some(milliseconds),
+    })?;
+    Ok(waiters)
+}
+
+// How many of so many bells, each in a thread of its own, heard one ring.
+fn heard_by<'a, R: Threads + Wait + Clock + Sync>(
+    rt: &'a R,
+    rings: &'a Rings,
+    alloc: Global,
+    count: u64,
+    milliseconds: u64,
+) -> Result<usize, Stop> {
+    let waiters = waiters_of(alloc, RungBell::new(rt, rings), count, milliseconds)?;
+    let heard = map_vec(rt, waiters, &|waiter| work(rt, waiter))?;
+    Ok(heard.iter().filter(|one| **one == 1).count())
+}
+
+/// How many bells, each in a thread of its own, heard the one that rings after so many milliseconds.
+pub fn write_many<R: Threads + Wait + Clock + Sync>(
+    rt: &R,
+    alloc: Global,
+    words: &str,
+    out: &mut String,
+) -> Result<(), Stop> {
+    let (count, milliseconds) = cut(words);
+    let rings = Rings::new();
+    let heard = heard_by(
+        rt,
+        &rings,
+        alloc,
+        number_in(count)?,
+        number_in(milliseconds)?,
+    )?;
+    Ok(write!(out, "{heard}")?)
+}

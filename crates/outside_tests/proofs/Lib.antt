@@ -1,0 +1,2 @@
+mod Echoing
+mod Closing

@@ -1,0 +1,1 @@
+-- Nothing: what these promise is said below, in `ps_io` and `ps_doors`.
