@@ -1,0 +1,14 @@
+pub mod Appending
+pub mod Written
+pub mod Frames
+pub mod Living
+pub mod Loading
+pub mod Passing
+pub mod Reading
+pub mod Remembering
+pub mod Reopening
+pub mod Results
+pub mod Shapes
+pub mod Spans
+pub mod Steps
+pub mod Unique

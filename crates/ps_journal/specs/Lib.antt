@@ -1,0 +1,11 @@
+pub mod Moments
+pub mod Disks
+pub mod Memory
+pub mod Records
+pub mod Layout
+pub mod Opening
+pub mod Gates
+pub mod Runs
+pub mod Journals
+pub mod Laws
+pub mod Lives
