@@ -1,0 +1,10 @@
+pub mod Left
+pub mod Tests
+pub mod Writing
+pub mod Texts
+pub mod Kept
+pub mod Putting
+pub mod OnTables
+pub mod Reading
+pub mod Anew
+pub mod Creating

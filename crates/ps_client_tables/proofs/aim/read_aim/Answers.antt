@@ -1,0 +1,22 @@
+use Rattle.std.proofs.Common.{[], ◌∷◌}
+use Rattle.std.proofs.lemmas.Result.{IfOk-weaker}
+use Rattle.sqlite.specs.Held.{state}
+use Rattle.ps_client_tables.specs.Statements.{read_aim_text}
+use Rattle.ps_client_tables.proofs.Texts.{read_aim_is}
+use Rattle.ps_client_tables.proofs.Reading.{shows_in_order, reads_only, answers_open, commits_nothing}
+use Rattle.ps_client_tables.proofs.aim.read_aim.Goals as goal
+
+pub returns-clause-read : goal.returns-clause-read
+returns-clause-read g c clean client =
+    IfOk-weaker c.query_all.result _ _ (λ rows h. shows_in_order read_aim_text 5 (0 ∷ 2 ∷ 3 ∷ []) _ read_aim_is _ _ rows.items client.schema client.tables.aim h) (c.query_all.ensures.ok clean)
+
+pub returns-clause-same : goal.returns-clause-same
+returns-clause-same g c clean client =
+    IfOk-weaker c.query_all.result _ _ (λ rows h. reads_only read_aim_text _ _ rows.items client.schema read_aim_is.plain h) (c.query_all.ensures.ok clean)
+
+pub returns-clause-survives : goal.returns-clause-survives
+returns-clause-survives g c client =
+    commits_nothing read_aim_text (state g.S.Store c.args.conn.now) (state g.S.Store c.query_all.new.self) client.schema read_aim_is.plain c.query_all.ensures.survives
+
+pub returns-clause-opened : goal.returns-clause-opened
+returns-clause-opened g c clean = IfOk-weaker c.query_all.result _ _ (λ rows h. answers_open read_aim_text [] _ _ rows.items h) (c.query_all.ensures.ok clean)

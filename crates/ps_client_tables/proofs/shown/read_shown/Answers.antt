@@ -1,0 +1,22 @@
+use Rattle.std.proofs.Common.{[], ◌∷◌}
+use Rattle.std.proofs.lemmas.Result.{IfOk-weaker}
+use Rattle.sqlite.specs.Held.{state}
+use Rattle.ps_client_tables.specs.Statements.{read_shown_text}
+use Rattle.ps_client_tables.proofs.Texts.{read_shown_is}
+use Rattle.ps_client_tables.proofs.Reading.{shows_each, reads_only, answers_open, commits_nothing}
+use Rattle.ps_client_tables.proofs.shown.read_shown.Goals as goal
+
+pub returns-clause-read : goal.returns-clause-read
+returns-clause-read g c clean client =
+    IfOk-weaker c.query_all.result _ _ (λ rows h. shows_each read_shown_text 6 (1 ∷ 2 ∷ 3 ∷ []) (1 ∷ 2 ∷ []) _ read_shown_is _ _ rows.items client.schema h) (c.query_all.ensures.ok clean)
+
+pub returns-clause-same : goal.returns-clause-same
+returns-clause-same g c clean client =
+    IfOk-weaker c.query_all.result _ _ (λ rows h. reads_only read_shown_text _ _ rows.items client.schema read_shown_is.plain h) (c.query_all.ensures.ok clean)
+
+pub returns-clause-survives : goal.returns-clause-survives
+returns-clause-survives g c client =
+    commits_nothing read_shown_text (state g.S.Store c.args.conn.now) (state g.S.Store c.query_all.new.self) client.schema read_shown_is.plain c.query_all.ensures.survives
+
+pub returns-clause-opened : goal.returns-clause-opened
+returns-clause-opened g c clean = IfOk-weaker c.query_all.result _ _ (λ rows h. answers_open read_shown_text [] _ _ rows.items h) (c.query_all.ensures.ok clean)

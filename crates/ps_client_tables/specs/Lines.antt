@@ -1,0 +1,19 @@
+-- What the texts that read show of a row: the columns of its table, in order.
+use Rattle.std.specs.Prelude.{[], ◌∷◌}
+use Rattle.sqlite.specs.Order.{Row, column}
+
+abbrev pub bucket_line : Row → Row
+bucket_line kept = column kept 1 ∷ column kept 2 ∷ column kept 3 ∷ []
+
+abbrev pub entry_line : Row → Row
+entry_line kept = column kept 1 ∷ column kept 2 ∷ column kept 3 ∷ column kept 4 ∷ column kept 5 ∷ column kept 6 ∷ column kept 7 ∷ []
+
+-- the number is the rowid
+abbrev pub queued_line : Row → Row
+queued_line kept = column kept 0 ∷ column kept 2 ∷ []
+
+abbrev pub aim_line : Row → Row
+aim_line kept = column kept 0 ∷ column kept 2 ∷ column kept 3 ∷ []
+
+abbrev pub shown_line : Row → Row
+shown_line kept = column kept 1 ∷ column kept 2 ∷ column kept 3 ∷ []
