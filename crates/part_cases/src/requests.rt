@@ -3,9 +3,10 @@
 //! `add TEXT` and `times COUNT TEXT` add bytes to a request, and write nothing. A line that ends the request reads it from a source in
 //! memory and answers: `head FAILING` with the head, `body FAILING` with the head's body, where the calls of the source with these numbers
 //! fail (`-` for none); `cuts` with what the request's first parts are, each shorter than it; `faults` with what it is where one call fails,
-//! each in turn; `system` with the head, read from a reader of the system, and how often that failed. Behind what `head` and `body` answer stands how many bytes are left. `query NAME QUERY` has the value of that name, and
+//! each in turn; `system` with the head, read from a reader of the system, and how often that failed; `pieces COUNT` with the head's body, read from
+//! a reader of the system that gives at most so many bytes at a time, and how often that failed. Behind what `head` and `body` answer stands how many bytes are left. `query NAME QUERY` has the value of that name, and
 //! `answer STATUS LENGTH` the head of an answer (`-` for a stream). `clock` says in which thousand years the system's clock
-//! is, and `moments START STEP` has what a clock in memory gives at three questions.
+//! is, `unread` has what it gives where it cannot be read, and `moments START STEP` has what a clock in memory gives at three questions.
 //!
 //! In a text `\r`, `\n`, `\t` and `\0` stand for CR, LF, a tab and NUL, `\f` for a byte of 255, and `\b` for a backslash.
 //!
@@ -64,11 +65,13 @@ fn answer(
         "head" => reading::write_head_read(alloc, request, rest, out)?,
         "body" => reading::write_body_read(alloc, request, rest, out)?,
         "system" => outside::write_system(alloc, request, out)?,
+        "pieces" => outside::write_pieces(alloc, rest, request, out)?,
         "cuts" => reading::write_cuts(alloc, request, out)?,
         "faults" => reading::write_faults(alloc, request, out)?,
         "query" => write_value(alloc, rest, out)?,
         "answer" => heads::write_answer(alloc, rest, out)?,
         "moments" => outside::write_moments(rest, out)?,
+        "unread" => outside::write_unread(out)?,
         _ => return Err("no such case".into()),
     }
     Ok(())

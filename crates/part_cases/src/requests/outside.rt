@@ -1,10 +1,13 @@
 //! Sources and clocks of the system.
 
-use crate::requests::reading::{name_of, write_head};
-use case_words::{Stop, cut, number_in};
-use ps_http::read_head;
+use crate::requests::reading::{name_of, write_fault, write_head};
+use crate::requests::words;
+use case_words::{Stop, cut, number_in, size_in};
+use ps_http::{read_body, read_head};
 use ps_io::{Clock, MemoryClock, Source, StdSource, WallClock};
 use std::alloc::Global;
+use std::io;
+use std::time::Duration;
 
 /// The head of a request that a reader of the system gives, and how often the source has failed.
 pub fn write_system(alloc: Global, request: &[u8], out: &mut String) -> Result<(), Stop> {
@@ -14,6 +17,68 @@ pub fn write_system(alloc: Global, request: &[u8], out: &mut String) -> Result<(
         Err(fault) => out.push_str(name_of(fault))?,
     }
     write!(out, "; {} faults", from.read_faults())?;
+    Ok(())
+}
+
+// A reader that gives at most so many bytes at a time.
+#[derive(Drop)]
+struct Pieces<'a> {
+    left: &'a [u8],
+    most: usize,
+}
+
+impl io::Read for Pieces<'_> {
+    fn read(&mut self, into: &mut [u8]) -> io::Result<usize> {
+        let count = self.left.len().min(self.most).min(into.len());
+        let (first, left) = self.left.split_at(count);
+        into[..count].copy_from_slice(first);
+        self.left = left;
+        Ok(count)
+    }
+}
+
+/// The body of a request that a reader of the system gives in pieces of at most so many bytes, and how often the source has failed.
+pub fn write_pieces(
+    alloc: Global,
+    most: &str,
+    request: &[u8],
+    out: &mut String,
+) -> Result<(), Stop> {
+    let most = size_in(most)?;
+    let mut from = StdSource::new(Pieces {
+        left: request,
+        most,
+    });
+    match read_head(alloc, &mut from) {
+        Ok(head) => match read_body(alloc, &head, &mut from) {
+            Ok(body) => words::push_shown(body.as_slice(), out)?,
+            Err(fault) => write_fault(fault, out)?,
+        },
+        Err(fault) => out.push_str(name_of(fault))?,
+    }
+    write!(out, "; {} faults", from.read_faults())?;
+    Ok(())
+}
+
+// A system whose clocks cannot be read.
+#[derive(Drop)]
+struct Unread;
+
+impl std::time::Clock for Unread {
+    fn monotonic(&self) -> io::Result<Duration> {
+        Err(io::Error::from(io::ErrorKind::Unsupported))
+    }
+
+    fn since_1970(&self) -> io::Result<Duration> {
+        Err(io::Error::from(io::ErrorKind::Unsupported))
+    }
+
+    fn sleep(&self, _duration: Duration) {}
+}
+
+/// What the clock gives of a system whose clocks cannot be read.
+pub fn write_unread(out: &mut String) -> Result<(), Stop> {
+    write!(out, "{}", WallClock::new(Unread).now())?;
     Ok(())
 }
 

@@ -33,7 +33,8 @@ pub fn name_of(fault: HeadFault) -> &'static str {
     }
 }
 
-fn write_fault(fault: BodyFault, out: &mut String) -> Result<(), Stop> {
+/// Writes the name of a body's fault.
+pub fn write_fault(fault: BodyFault, out: &mut String) -> Result<(), Stop> {
     match fault {
         BodyFault::LengthRequired => out.push_str("length-required")?,
         BodyFault::BodyTooLong { length } => write!(out, "body-too-long {length}")?,
