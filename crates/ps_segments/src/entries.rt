@@ -1,0 +1,59 @@
+//! The entries of a log, which are looked at by counted looks.
+
+ghost use Rattle.std.specs.Prelude.{◌≡◌, ◌+◌};
+
+use crate::steps::Steps;
+use ps_bucket_log::Op;
+use ps_checksum::Sum;
+use std::marker::Model;
+use std::sync::ledger::Ledger;
+
+/// An operation, with what its log has up to and with it.
+#[derive(Debug, Drop)]
+pub struct Entry {
+    /// The operation.
+    pub op: Op,
+    /// The sum of the checksums, modulo 2^32.
+    pub sum: Sum,
+    /// How many operations there are.
+    pub count: u64,
+}
+
+/// An entry in its place. Who counts looks sees it by `look` alone.
+#[derive(Debug, Drop)]
+pub struct Noted {
+    entry: Entry,
+}
+
+impl Model for Noted {
+    ghost use Rattle.ps_segments.specs.declared.entries.Entry.{Entry};
+
+    ghost Value = { Entry };
+
+    ghost view = { λ noted. noted.entry };
+}
+
+impl Noted {
+    /// Puts an entry in its place.
+    pub fn new(entry: Entry) -> Noted
+        ensures { result ≡ entry }
+    {
+        Noted { entry }
+    }
+
+    /// One look at it, which is a step.
+    pub fn look<L: Ledger>(&self, steps: &mut Steps<L>) -> &Entry
+        ensures entry { result.now ≡ self.now }
+        ensures counted { steps.new ≡ steps.old + 1 }
+    {
+        steps.tick();
+        &self.entry
+    }
+
+    /// Its operation, for what counts no looks.
+    pub fn op(&self) -> &Op
+        ensures { result.now ≡ self.now.op }
+    {
+        &self.entry.op
+    }
+}
