@@ -1,0 +1,9 @@
+mod Columns
+mod Rows
+mod Chunks
+mod Copying
+mod Pending
+mod Advancing
+mod Looking
+mod Judged
+mod Keeping

@@ -1,0 +1,9 @@
+pub mod Types
+pub mod Faults
+pub mod Reading
+pub mod FirstCopies
+pub mod Laws
+pub mod Judging
+pub mod Progress
+pub mod Writing
+pub mod Fillings
