@@ -1,0 +1,24 @@
+use Rattle.std.proofs.Common.{◌≡◌, ◌+◌, length, sym, ap, ◌∙◌, arith}
+use Rattle.ps_audit.specs.Places.{case_of}
+use Rattle.ps_audit.specs.Positions.{due_at}
+use Rattle.ps_audit.proofs.Placing.{counts_length, count_at}
+use Rattle.ps_audit.proofs.cursors.Cursor.fits.Goals as goal
+
+pub index-requires : goal.index-requires
+index-requires c =
+    let s = c.args.subject.now in
+    let many : length s.counts.items ≡ length s.transactions.now + 1 = counts_length s.rules.now.definitions s.transactions.now s.counts.items c.requires.counted.counts in
+    omega (arith, many, c.requires.stands.within)
+
+pub returns-then-index-op-clause-no : goal.returns-then-index-op-clause-no
+returns-then-index-op-clause-no c =
+    let s = c.args.subject.now in
+    λ e fits. c.if-index-op.true (c.index.ensures ∙ count_at s.rules.now.definitions s.transactions.now s.counts.items c.args.self.now.place c.index.result.now c.requires.counted.counts c.requires.stands.within ∙ fits.operations)
+
+pub returns-clause-yes : goal.returns-clause-yes
+returns-clause-yes c =
+    let s = c.args.subject.now in
+    λ e. record {
+      operations = sym (c.index.ensures ∙ count_at s.rules.now.definitions s.transactions.now s.counts.items c.args.self.now.place c.index.result.now c.requires.counted.counts c.requires.stands.within) ∙ c.if-index-op.false;
+      due = ap (due_at (case_of s)) (sym c.requires.stands.position) ∙ sym c.in_ok-due.ensures ∙ sym c.as_slice.ensures ∙ c.are_same.ensures.0 e;
+    }
