@@ -84,8 +84,9 @@ fn all_write(buffer: &[u8], headers: &[HeaderSpan], wanted: &[u8], number: u64) 
     true
 }
 
-// The length that the fields state, if any, or None where what they state is no length.
-pub(crate) fn stated_length(buffer: &[u8], headers: &[HeaderSpan]) -> Option<Option<u64>>
+/// The length that the fields of a head state, if any, or None where what they state is no length: the first `Content-Length` is one run of digits, and each
+/// further one writes the same number, where one above 2^64 - 1 counts as that number. The spans are of the buffer.
+pub fn stated_length(buffer: &[u8], headers: &[HeaderSpan]) -> Option<Option<u64>>
     requires { All (IsHeaderWithin (length buffer.now)) headers.now }
     ensures { result ≡ spec.stated_length (map (header_bytes buffer.now) headers.now) }
 {

@@ -11,6 +11,7 @@ mod takings;
 
 pub use answers::write_head;
 pub use bodies::{BODY_LIMIT, BodyFault, read_body};
+pub use fields::stated_length;
 pub use heads::{FIELD_LIMIT, HEAD_LIMIT, Head, HeadFault};
 pub use queries::query_value;
 pub use takings::read_head;

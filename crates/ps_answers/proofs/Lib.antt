@@ -1,0 +1,6 @@
+mod Answering
+mod Feeds
+mod Fillings
+mod Givings
+mod Judging
+mod Pieces
