@@ -1,0 +1,142 @@
+//! What the rows of each table stand for.
+
+ghost use Rattle.std.specs.Prelude.{◌≡◌, ◌≤◌, ◌<ℤ◌, List, ℕ, map, take, length, bytes_eq, IfOk, IsTrue};
+ghost use Rattle.std.specs.List.{All, IsDistinct};
+ghost use Rattle.ps_data.specs.Numbers.{greatest};
+ghost use Rattle.ps_bucket_log.specs.Ops.{same_key};
+ghost use Rattle.ps_changes.specs.LongLines.{IsLongChange};
+ghost use Rattle.ps_client_log.specs.Soundness.{IsSoundTarget, same_row};
+ghost use Rattle.ps_client_lines.specs.Rows.{bucket_row, line_of, entry_row, entry_rows, queue_rows, shown_rows};
+ghost use Rattle.ps_client_lines.specs.Holding.{AreAimRows, AreRising};
+
+use crate::faults::Refusal;
+use crate::reading::{bucket_in, entry_in, queued_in, shown_in, target_in};
+use crate::seen::note;
+use crate::{BucketLine, Cell, Queued};
+use indexmap::IndexSet;
+use ps_client_log::{BucketState, Held, Shown, Target};
+use ps_data::{Items, Text};
+use std::alloc::Global;
+
+// The buckets that rows are. No name stands twice.
+pub fn bucket_lines(alloc: Global, rows: &[Items<Cell>]) -> Result<Vec<BucketLine>, Refusal>
+    ensures rows { IfOk result (λ lines. map bucket_row lines.items ≡ rows.now) }
+    ensures positions { IfOk result (λ lines. All (λ line. line.position.0 ≤ greatest) lines.items) }
+    ensures names { IfOk result (λ lines. IsDistinct bytes_eq (map (λ line. line.name) lines.items)) }
+{
+    let mut names: IndexSet<Text> = IndexSet::new(alloc);
+    let mut lines = Vec::new(alloc);
+    'rows: for row in rows {
+        let line = bucket_in(alloc, row.as_slice())?;
+        note(&mut names, line.name.copy(alloc)?)?;
+        lines.push(line)?;
+    }
+    Ok(lines)
+}
+
+// What a bucket holds by the first of the rows: those up to the first of another bucket. No key stands twice.
+fn held_from(alloc: Global, name: &Text, rows: &[Items<Cell>]) -> Result<Items<Held>, Refusal>
+    ensures rows { IfOk result (λ held. map (entry_row name.now) held ≡ take (length held) rows.now) }
+    ensures within { IfOk result (λ held. length held ≤ length rows.now) }
+    ensures ids { IfOk result (λ held. All (λ one. one.id.0 ≤ greatest) held) }
+    ensures keys { IfOk result (λ held. IsDistinct same_key (map (λ one. one.key) held)) }
+{
+    let mut keys = IndexSet::new(alloc);
+    let mut held = Items::new(alloc);
+    'rows: for row in rows {
+        let (bucket, one) = entry_in(alloc, row.as_slice())?;
+        if !bucket.equals(name) {
+            return Ok(held);
+        }
+        note(&mut keys, one.key.copy(alloc)?)?;
+        held.push(one)?;
+    }
+    Ok(held)
+}
+
+// The buckets with what they hold. Each row is of a bucket, and they are in the order of the buckets.
+pub fn bucket_states(
+    alloc: Global,
+    lines: Vec<BucketLine>,
+    rows: &[Items<Cell>],
+) -> Result<Items<BucketState>, Refusal>
+    ensures lines { IfOk result (λ states. map line_of states ≡ lines.items) }
+    ensures rows { IfOk result (λ states. entry_rows states ≡ rows.now) }
+    ensures ids { IfOk result (λ states. All (λ state. All (λ one. one.id.0 ≤ greatest) state.held) states) }
+    ensures keys { IfOk result (λ states. All (λ state. IsDistinct same_key (map (λ one. one.key) state.held)) states) }
+{
+    let mut states = Items::new(alloc);
+    let mut start = 0usize;
+    'lines: for line in lines {
+        let parts = rows.split_at(start);
+        let held = held_from(alloc, &line.name, parts.1)?;
+        start += held.len();
+        states.push(BucketState {
+            name: line.name,
+            position: line.position,
+            added: line.added,
+            held,
+        })?;
+    }
+    if start < rows.len() {
+        return Err(Refusal::Bad);
+    }
+    Ok(states)
+}
+
+// Whether a number is past those of all lines.
+fn is_past(lines: &[Queued], seq: i64) -> bool
+    requires { AreRising lines.now }
+    ensures { IsTrue result → All (λ line. line.seq <ℤ seq) lines.now }
+{
+    match lines.last() {
+        Some(line) => line.seq < seq,
+        None => true,
+    }
+}
+
+// The local writes that rows are. Their numbers rise.
+pub fn queue_in(alloc: Global, rows: &[Items<Cell>]) -> Result<Items<Queued>, Refusal>
+    ensures rows { IfOk result (λ queue. queue_rows queue ≡ rows.now) }
+    ensures rising { IfOk result AreRising }
+    ensures texts { IfOk result (All (λ line. IsLongChange line.text line.change)) }
+{
+    let mut queue = Items::new(alloc);
+    'rows: for row in rows {
+        let line = queued_in(alloc, row.as_slice())?;
+        if !is_past(queue.as_slice(), line.seq) {
+            return Err(Refusal::Bad);
+        }
+        queue.push(line)?;
+    }
+    Ok(queue)
+}
+
+// The target that rows are: it has one row, or none where it is free.
+pub fn aim_in(rows: &[Items<Cell>]) -> Result<Target, Refusal>
+    ensures rows { IfOk result (λ target. AreAimRows target rows.now) }
+    ensures sound { IfOk result IsSoundTarget }
+{
+    let [row] = rows else {
+        if rows.is_empty() {
+            return Ok(Target::Free);
+        }
+        return Err(Refusal::Bad);
+    };
+    target_in(row.as_slice()).ok_or(Refusal::Bad)
+}
+
+// The shown rows that rows are. No kind and id stand twice.
+pub fn shown_list(alloc: Global, rows: &[Items<Cell>]) -> Result<Items<Shown>, Refusal>
+    ensures rows { IfOk result (λ shown. shown_rows shown ≡ rows.now) }
+    ensures objects { IfOk result (IsDistinct same_row) }
+{
+    let mut objects = IndexSet::new(alloc);
+    let mut shown = Items::new(alloc);
+    'rows: for row in rows {
+        let one = shown_in(alloc, row.as_slice())?;
+        note(&mut objects, (one.kind.copy(alloc)?, one.id.copy(alloc)?))?;
+        shown.push(one)?;
+    }
+    Ok(shown)
+}
