@@ -10,12 +10,6 @@ opened_after opened (Ok (Some connection)) = opened + 1
 opened_after opened (Ok None) = opened
 opened_after opened (Err failed) = opened
 
-module _ {S : Type 0} (g : Source.Ghosts S) where
-  -- the first of those that are to come, each told by the bytes that its source has, is this one, of which nothing was read
-  abbrev pub Arrives : List (List ℕ) → List (List ℕ) → S → Type 0
-  Arrives [] after from = ⊥
-  Arrives (bytes ∷ coming) after from = (after ≡ coming) × (g.input from ≡ Some (unread bytes))
-
 module _ {S K : Type 0} (g : Source.Ghosts S) where
   -- of the connections that are to come, each told by the bytes that its source has, `next` answers the first; it answers that none is to come where there is none, and a failure takes none
   abbrev pub Comes : Option (List (List ℕ)) → Option (List (List ℕ)) → Result (Option (S × K)) Failed → Type 0

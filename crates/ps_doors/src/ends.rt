@@ -1,11 +1,10 @@
 //! The two ends of a connection in memory.
 
-ghost use Rattle.std.specs.Prelude.{◌≡◌, ◌≤◌, ◌<◌, [], ◌∷◌, ◌++◌, map, IfOk, vec_len, vec_capacity};
+ghost use Rattle.std.specs.Prelude.{◌≡◌, ◌≤◌, ◌<◌, [], ◌∷◌, ◌++◌, vec_len, vec_capacity};
+ghost use Rattle.ps_io.specs.Memory.{HasItsMemory};
 
-use ps_data::{Items, Memory};
+use ps_data::Items;
 use ps_io::{MemorySink, MemorySource};
-use std::alloc::Global;
-use std::collections::VecDeque;
 
 /// What the other side of a connection in memory sends and takes.
 #[derive(Debug, Drop)]
@@ -36,36 +35,9 @@ pub(crate) struct Waiting {
     pub(crate) failing_reads: Items<u64>,
     pub(crate) to: MemorySink,
     pub(crate) ghost empty: { to.bytes.items ≡ [] },
+    pub(crate) ghost memory: { HasItsMemory to },
+    pub(crate) ghost unused: { to.calls.made ≡ 0 },
     pub(crate) ghost quiet: { to.calls.faults ≡ 0 },
-}
-
-// Makes a connection's sink.
-fn wait_for(alloc: Global, peer: Peer) -> Result<Waiting, Memory>
-    ensures { IfOk result (λ waiting. waiting.bytes ≡ peer.bytes) }
-{
-    let Peer {
-        bytes,
-        failing_reads,
-        room,
-        failing_writes,
-    } = peer;
-    let to = MemorySink::new(alloc, room, failing_writes)?;
-    Ok(Waiting {
-        bytes,
-        failing_reads,
-        to,
-    })
-}
-
-// Makes the sinks of all connections.
-pub(crate) fn wait_for_all(alloc: Global, peers: Items<Peer>) -> Result<VecDeque<Waiting>, Memory>
-    ensures { IfOk result (λ all. map (λ w. w.bytes) all.items ≡ map (λ p. p.bytes) peers) }
-{
-    let mut all = VecDeque::with_capacity(alloc, peers.len())?;
-    'peers: for peer in peers.into_vec() {
-        all.push_back(wait_for(alloc, peer)?)?;
-    }
-    Ok(all)
 }
 
 // Puts ends where there is room for them.

@@ -8,6 +8,7 @@ mod lent;
 mod links;
 mod memory_doors;
 mod memory_links;
+mod waiting;
 
 pub use bells::{Bell, QuietBell};
 pub use doors::Doors;

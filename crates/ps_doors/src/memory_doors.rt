@@ -6,9 +6,10 @@ ghost use Rattle.ps_io.specs.Calls.{fails_next, IsCounted, Begins};
 ghost use Rattle.ps_io.specs.Counts.{Rose};
 ghost use Rattle.ps_doors.specs.Connections.{connection_of, numbers_of, with_closed, AreEnds, IsFresh, IsOut};
 ghost use Rattle.ps_doors.specs.Doors.{opened_after, Comes};
-ghost use Rattle.ps_doors.specs.Memory.{connections_in};
+ghost use Rattle.ps_doors.specs.Memory.{bytes_of, connections_in, peers_of, Arrives};
 
-use crate::ends::{Waiting, keep, wait_for_all};
+use crate::ends::{Waiting, keep};
+use crate::waiting::wait_for_all;
 use crate::{Doors, Ends, Peer};
 use ps_data::{Items, Memory, Text};
 use ps_io::{Calls, Failed, MemorySink, MemorySource, Sink, Source};
@@ -39,6 +40,7 @@ impl MemoryDoors {
     ) -> Result<MemoryDoors, Memory>
         ensures coming { IfOk result (λ doors.
             ⟦<MemoryDoors as Doors>⟧.coming doors ≡ Some (map (λ p. p.bytes) peers)) }
+        ensures peers { IfOk result (λ doors. peers_of doors.coming.items ≡ peers) }
         ensures opened { IfOk result (λ doors. ⟦<MemoryDoors as Doors>⟧.opened doors ≡ 0) }
         ensures closed { IfOk result (λ doors. ⟦<MemoryDoors as Doors>⟧.closed doors ≡ Some []) }
         ensures faults { IfOk result (λ doors. ⟦<MemoryDoors as Doors>⟧.faults doors ≡ 0) }
@@ -69,7 +71,7 @@ impl Doors for MemoryDoors {
 
     ghost opened = { λ doors. doors.opened };
 
-    ghost coming = { λ doors. Some (map (λ w. w.bytes) doors.coming.items) };
+    ghost coming = { λ doors. Some (bytes_of doors.coming.items) };
 
     ghost closed = { λ doors. Some (connections_in doors.closed.items) };
 
@@ -103,16 +105,18 @@ impl Doors for MemoryDoors {
             IsFresh ⟦<MemorySource as Source>⟧ ⟦<MemorySink as Sink>⟧
             (Some (connections_in self.old.closed.items)) self.old.opened c.0 c.1)) }
         ensures coming { Comes ⟦<MemorySource as Source>⟧
-            (Some (map (λ w. w.bytes) self.old.coming.items))
-            (Some (map (λ w. w.bytes) self.new.coming.items)) result }
+            (Some (bytes_of self.old.coming.items)) (Some (bytes_of self.new.coming.items)) result }
         ensures closed { self.new.closed.items ≡ self.old.closed.items }
         ensures failed { OnErr result (Rose self.old.calls.faults self.new.calls.faults) }
         ensures faults { self.old.calls.faults ≤ self.new.calls.faults }
         ensures quiet { OnOk result (self.new.calls.faults ≡ self.old.calls.faults) }
 
-        // It fails exactly where its number is to fail.
+        // It fails exactly where its number is to fail, and else takes the first peer that is to come.
         ensures cause { OnErr result (fails_next self.old.calls ≡ true) }
         ensures fails { fails_next self.old.calls ≡ true → IsErr result }
+        ensures first { IfOk result (λ next. IfSome next (λ c.
+            Arrives (peers_of self.old.coming.items) (peers_of self.new.coming.items) c.0 c.1)) }
+        ensures kept { OnErr result (self.new.coming.items ≡ self.old.coming.items) }
         ensures calls { IsCounted self.old.calls self.new.calls }
     {
         if self.calls.next_fails() {

@@ -1,13 +1,13 @@
 //! A link in memory.
 
-ghost use Rattle.std.specs.Prelude.{◌≡◌, ◌⊎◌, ◌+◌, ◌≤◌, ◌<◌, ◌^◌, true, [], Some, length, map, IfOk, OnOk, OnErr, IsErr, vec_len, vec_capacity};
+ghost use Rattle.std.specs.Prelude.{◌≡◌, ◌⊎◌, ◌+◌, ◌≤◌, ◌<◌, ◌^◌, true, [], Some, length, IfOk, OnOk, OnErr, IsErr, vec_len, vec_capacity};
 ghost use Rattle.ps_io.specs.Calls.{fails_next, IsCounted, Begins};
 ghost use Rattle.ps_io.specs.Counts.{Rose};
 ghost use Rattle.ps_doors.specs.Connections.{connection_of, fresh, AreEnds};
-ghost use Rattle.ps_doors.specs.Doors.{Arrives};
-ghost use Rattle.ps_doors.specs.Memory.{connections_in};
+ghost use Rattle.ps_doors.specs.Memory.{connections_in, peers_of, Arrives};
 
-use crate::ends::{Waiting, keep, wait_for_all};
+use crate::ends::{Waiting, keep};
+use crate::waiting::wait_for_all;
 use crate::{Ends, Link, Peer};
 use ps_data::{Items, Memory, Text};
 use ps_io::{Calls, Failed, MemorySink, MemorySource, Sink, Source};
@@ -30,6 +30,7 @@ impl MemoryLink {
     /// A link of which these peers answer, in order; where none is left, no connection is made, which counts. The calls of `connect` whose numbers,
     /// from 1, are among `failing` fail. Each peer's sink and a place for what is closed are made here: no later call takes memory.
     pub fn new(alloc: Global, peers: Items<Peer>, failing: Items<u64>) -> Result<MemoryLink, Memory>
+        ensures peers { IfOk result (λ link. peers_of link.coming.items ≡ peers) }
         ensures out { IfOk result (λ link. ⟦<MemoryLink as Link>⟧.out link ≡ 0) }
         ensures closed { IfOk result (λ link. ⟦<MemoryLink as Link>⟧.closed link ≡ Some []) }
         ensures faults { IfOk result (λ link. ⟦<MemoryLink as Link>⟧.faults link ≡ 0) }
@@ -93,8 +94,8 @@ impl Link for MemoryLink {
         ensures cause { OnErr result ((fails_next self.old.calls ≡ true) ⊎ (self.old.coming.items ≡ [])) }
         ensures fails { fails_next self.old.calls ≡ true → IsErr result }
         ensures none_left { self.old.coming.items ≡ [] → IsErr result }
-        ensures first { IfOk result (λ c. Arrives ⟦<MemorySource as Source>⟧
-            (map (λ w. w.bytes) self.old.coming.items) (map (λ w. w.bytes) self.new.coming.items) c.0) }
+        ensures first { IfOk result (λ c.
+            Arrives (peers_of self.old.coming.items) (peers_of self.new.coming.items) c.0 c.1) }
         ensures kept { OnErr result (self.new.coming.items ≡ self.old.coming.items) }
         ensures calls { IsCounted self.old.calls self.new.calls }
     {

@@ -29,3 +29,11 @@ fn next_after_number(number: Option<i32>) -> Next {
 pub(crate) fn next_after(error: &io::Error) -> Next {
     next_after_number(error.raw_os_error())
 }
+
+/// What to do after this error of a connection that was accepted already: its peer is gone, or descriptors or memory are wanting.
+pub(crate) fn next_after_lost(error: &io::Error) -> Next {
+    match next_after(error) {
+        Next::Later => Next::Later,
+        Next::AtOnce | Next::Never => Next::AtOnce,
+    }
+}

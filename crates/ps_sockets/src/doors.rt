@@ -3,7 +3,7 @@
 ghost use Rattle.std.specs.Prelude.{◌≡◌, None, IfSome};
 ghost use Rattle.ps_doors.specs.Connections.{AreEnds};
 
-use crate::accepting::{Next, WHILE, next_after};
+use crate::accepting::{Next, WHILE, next_after, next_after_lost};
 use crate::{TcpSink, TcpSource};
 use ps_data::Text;
 use ps_doors::Doors;
@@ -43,11 +43,7 @@ where
     L::Stream: OpenStream,
 {
     match listener.accept() {
-        Ok((stream, _)) => match both_ends(stream) {
-            Ok(ends) => Ok(ends),
-            // Its peer is gone already, or descriptors are wanting.
-            Err(_) => Err(Next::Later),
-        },
+        Ok((stream, _)) => both_ends(stream).map_err(|error| next_after_lost(&error)),
         Err(error) => Err(next_after(&error)),
     }
 }
