@@ -16,10 +16,9 @@ use Rattle.ps_commands.specs.Replaying.{Game, GivesAll, GivesSome}
 use Rattle.ps_script.specs.Lines.{lines_of}
 use Rattle.ps_rows.specs.declared.changes.Transaction.{Transaction}
 use Rattle.ps_files.specs.ChangeFiles.{transactions_of}
-use Rattle.ps_commands.specs.Dues.{Answers}
 use Rattle.ps_files.specs.Compacting.{FindsReports, RefusesReports}
 use Rattle.ps_files.specs.Loading.{Loads, FindsRules, IsRulesFault, FindsKeys, IsKeysFault, FindsAsker, IsClaimsFault}
-use Rattle.ps_commands.specs.Loading.{Prepares, FindsRows, RefusesRows}
+use Rattle.ps_due_rows.specs.Loading.{FindsRows, RefusesRows}
 
 rose_later : (before mid now : ℕ) → before ≤ mid → Rose mid now → Rose before now
 rose_later before mid now le h = omega arith
@@ -266,19 +265,3 @@ module _ (held mid_held : Option Contents) (start mid now : ℕ) (words : List (
   rows_found names rules asker (Ok text) same risen is read claims h = (rows names, is, means_rows held mid_held mid now names rules asker text same read claims h)
   rows_found names rules asker (Err fault) same risen is read claims h = λ taken faults.
       cause_of_rows (reading held start now taken faults) mid_held mid words names rules asker fault same risen refl is read claims h
-
--- where an asker's rows are not answered, neither are they printed
-pub rows_refused : (rules : RuleSet) (asker : Asker) (bytes : List ℕ) (transactions : List Transaction) → transactions_of rules bytes ≡ Ok transactions
-    → (fault : Fault) → Answers rules (asker_of asker) transactions (Err fault) → Prepares rules asker bytes (Err fault)
-rows_refused rules asker bytes transactions read Usage h = absurd h
-rows_refused rules asker bytes transactions read (Rules line column why) h = absurd h
-rows_refused rules asker bytes transactions read (Change line why) h = absurd h
-rows_refused rules asker bytes transactions read (PastLimit limit) h = absurd h
-rows_refused rules asker bytes transactions read (TooManyBuckets count) h = record { transactions = transactions; read = read; count_is = h.0; more = h.1 }
-rows_refused rules asker bytes transactions read Claims h = absurd h
-rows_refused rules asker bytes transactions read Keys h = absurd h
-rows_refused rules asker bytes transactions read (TooLong seen) h = absurd h
-rows_refused rules asker bytes transactions read (CannotRead name) h = absurd h
-rows_refused rules asker bytes transactions read CannotWrite h = absurd h
-rows_refused rules asker bytes transactions read (Script place cause) h = absurd h
-rows_refused rules asker bytes transactions read Memory h = tt

@@ -1,13 +1,6 @@
-pub mod Leading
-pub mod SyncAnswers
-pub mod Passing
-pub mod Turns
-pub mod Ending
-pub mod Results
 pub mod ScriptLines
 pub mod Spelling
 pub mod Causes
-pub mod DueRows
 pub mod Exactness
 pub mod Missed
 pub mod Replays

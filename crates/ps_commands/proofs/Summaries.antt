@@ -25,9 +25,9 @@ use Rattle.ps_files.specs.Committing.{committed_ledger}
 use Rattle.ps_files.specs.Compacting.{reports_of}
 use Rattle.ps_files.specs.MadeRules.{users, mine, made_rule_set, MadeRulesAreRead}
 use Rattle.ps_files.specs.ReadingChanges.{usual, HasCommitted}
-use Rattle.ps_commands.specs.Dues.{due, own_buckets, rows_after}
+use Rattle.ps_due_rows.specs.Dues.{due, own_buckets, rows_after}
 use Rattle.ps_commands.specs.Generating.{all_before, all_after, totals_text, rest_text, made_asker, made_rows, made_summary, summary_line, summary_by, summary_after, summary_under, summary_of, generated}
-use Rattle.ps_commands.specs.Syncing.{AreSynced}
+use Rattle.ps_due_rows.specs.Syncing.{AreSynced}
 
 -- ---- rows
 

@@ -28,12 +28,12 @@ use Rattle.ps_claims.specs.Claims.{asker_of_claims}
 use Rattle.ps_files.specs.Compacting.{compact_text}
 use Rattle.ps_commands.specs.declared.commands.Command.{Command as CommandSeen}
 use Rattle.ps_commands.specs.declared.commands.Command.TheVariants as coded
-use Rattle.ps_commands.specs.Dues.{due, own_buckets, rows_after}
+use Rattle.ps_due_rows.specs.Dues.{due, own_buckets, rows_after}
 use Rattle.ps_commands.specs.Generating.{generated}
 use Rattle.ps_commands.specs.Replaying.{Game, GivesAll, GivesSome, GivesUntil}
 use Rattle.ps_files.specs.RulesFaults.{rules_of_file}
 use Rattle.ps_files.specs.Making.{lines_text}
-use Rattle.ps_core.specs.Texts.{rows_text}
+use Rattle.ps_showing.specs.Printing.{rows_text}
 
 -- ---- words
 

@@ -15,7 +15,7 @@ use Rattle.ps_files.specs.ChangeFiles.{admitted, ◌>>=◌}
 use Rattle.ps_files.specs.Committing.{committed_ledger}
 use Rattle.ps_files.specs.Compacting.{reports_of}
 use Rattle.ps_files.specs.MadeRules.{made_rule_set}
-use Rattle.ps_commands.specs.Dues.{due, rows_after}
+use Rattle.ps_due_rows.specs.Dues.{due, rows_after}
 use Rattle.ps_files.specs.RulesFaults.{rules_of_file}
 
 -- the asker of the one stream

@@ -1,10 +1,6 @@
 pub mod Causes
 pub mod Commands
-pub mod Dues
 pub mod Generating
-pub mod Loading
 pub mod Replaying
 pub mod Replays
 pub mod Scripts
-pub mod Syncing
-pub mod Turning

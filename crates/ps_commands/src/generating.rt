@@ -8,8 +8,8 @@ ghost use Rattle.ps_files.specs.Making.{made_limit};
 ghost use Rattle.ps_files.specs.ReadingChanges.{HasCommitted};
 ghost use Rattle.ps_commands.specs.Generating.{all_after, all_before, generated, made_asker as made_asker_of, made_rows, made_summary, rest_text, totals_text};
 
-use crate::syncing::synced_rows;
 use ps_data::{Memory, Text};
+use ps_due_rows::synced_rows;
 use ps_files::{Compacted, compact_all, made_input_is_admitted, made_rules_are_read, write_made};
 use ps_sql_eval::Asker;
 use ps_store::{Store, TakeFault, Totals, ledgers_tell_ops};

@@ -11,9 +11,9 @@ ghost use Rattle.ps_files.specs.declared.faults.ScriptCause.{ScriptCause as Scri
 
 use crate::commands::{Command, read_words};
 use crate::generating::print_summary;
-use crate::loading::load_rows;
 use crate::replaying::replay_files;
 use ps_data::Text;
+use ps_due_rows::load_rows;
 use ps_files::{
     Fault, load_asker, load_keys, load_reports, load_rules, print_check, print_made, say, sign_line,
 };

@@ -1,7 +1,7 @@
 use Rattle.std.proofs.Common.{subst}
 use Rattle.ps_queries.specs.Meaning.{Asker}
 use Rattle.ps_sql_eval.specs.Evaluated.{asker_of}
-use Rattle.ps_commands.specs.Syncing.{AreSynced}
+use Rattle.ps_due_rows.specs.Syncing.{AreSynced}
 use Rattle.ps_files.specs.MadeRules.{made_rule_set}
 use Rattle.ps_files.specs.ReadingChanges.{usual}
 use Rattle.ps_commands.proofs.Summaries.{counted}

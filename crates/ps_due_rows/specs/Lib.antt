@@ -1,0 +1,4 @@
+pub mod Dues
+pub mod Loading
+pub mod Syncing
+pub mod Turning
