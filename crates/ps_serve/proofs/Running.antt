@@ -33,7 +33,7 @@ told_on : (course : Course) (s : SessionState) (turns more : List Turn) → AreT
 told_on course s [] more first then' = then'
 told_on course s (t ∷ ts) more first then' = (first.0, told_on course (turn course t.place s).session ts more first.1 then')
 
-reached_on : (course : Course) (s : SessionState) (turns more : List Turn) → reached course s (turns ++ more) ≡ reached course (reached course s turns) more
+pub reached_on : (course : Course) (s : SessionState) (turns more : List Turn) → reached course s (turns ++ more) ≡ reached course (reached course s turns) more
 reached_on course s [] more = refl
 reached_on course s (t ∷ ts) more = reached_on course (turn course t.place s).session ts more
 
@@ -79,7 +79,7 @@ taken_on keeps course place s taken = subst (λ (at : ℕ). HasTaken course at (
 
 -- ---- texts
 
-lines_text-append : (xs ys : List Line) → lines_text (xs ++ ys) ≡ lines_text xs ++ lines_text ys
+pub lines_text-append : (xs ys : List Line) → lines_text (xs ++ ys) ≡ lines_text xs ++ lines_text ys
 lines_text-append [] ys = refl
 lines_text-append (x ∷ xs) ys = ap (λ (text : List ℕ). text_of x ++ text) (lines_text-append xs ys) ∙ sym (append_assoc (text_of x) (lines_text xs) (lines_text ys))
 

@@ -39,6 +39,14 @@ TellsPosition (Err (feeding.NotRising last given)) old new before now status end
 TellsPosition (Err (feeding.PositionFull head)) old new before now status end = Refuses Conflict old new before now status end
 TellsPosition (Err feeding.Memory) old new before now status end = Refuses Memory old new before now status end
 
+-- no upload is refused for its position
+abbrev pub IsUploadAnswer : Result Position FeedFault → Type 0
+IsUploadAnswer (Ok position) = Unit {0}
+IsUploadAnswer (Err feeding.FeedClosed) = Unit {0}
+IsUploadAnswer (Err (feeding.NotRising last given)) = ⊥
+IsUploadAnswer (Err (feeding.PositionFull head)) = Unit {0}
+IsUploadAnswer (Err feeding.Memory) = Unit {0}
+
 -- the changes were to be fed, and this was told of it
 pub record AnswersUpload (fixed : Fixed) (history : List Event) (changes : List Change) (store : Store) (old new : Option (List ℕ)) (before now status : ℕ) (end : End) : Type 0 where
   pub fed : Result Position FeedFault

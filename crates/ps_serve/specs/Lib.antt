@@ -1,8 +1,14 @@
 pub mod Alone
 pub mod Answers
 pub mod Changing
+pub mod Readers
 pub mod Reading
 pub mod Refusals
 pub mod Requests
 pub mod Runs
+pub mod SharedAnswers
+pub mod SharedLaws
+pub mod SharedRuns
+pub mod SharedStreams
+pub mod Steps
 pub mod Turning

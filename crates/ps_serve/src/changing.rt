@@ -20,7 +20,7 @@ use ps_write_cp::NumberFault;
 use std::alloc::Global;
 
 // Tells the number of a write checkpoint.
-fn tell_number<K: Sink>(alloc: Global, number: u64, to: &mut K) -> (u16, End)
+pub(crate) fn tell_number<K: Sink>(alloc: Global, number: u64, to: &mut K) -> (u16, End)
     ensures written { IsWritten ends.Answered 200 (body_answer (number_told number)) (K.taken to.old) (K.taken to.new) (K.faults to.old) (K.faults to.new) result.0 result.1 }
     ensures faults { K.faults to.old ≤ K.faults to.new }
     ensures number { K.number to.new ≡ K.number to.old }
@@ -32,7 +32,7 @@ fn tell_number<K: Sink>(alloc: Global, number: u64, to: &mut K) -> (u16, End)
 }
 
 // Tells the position of an upload.
-fn tell_position<K: Sink>(alloc: Global, position: Position, to: &mut K) -> (u16, End)
+pub(crate) fn tell_position<K: Sink>(alloc: Global, position: Position, to: &mut K) -> (u16, End)
     ensures written { IsWritten ends.Answered 200 (body_answer (position_told position.0)) (K.taken to.old) (K.taken to.new) (K.faults to.old) (K.faults to.new) result.0 result.1 }
     ensures faults { K.faults to.old ≤ K.faults to.new }
     ensures number { K.number to.new ≡ K.number to.old }

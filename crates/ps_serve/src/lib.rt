@@ -4,15 +4,25 @@
 mod alone;
 mod asked;
 mod changing;
+mod connections;
 mod ends;
+mod outcomes;
 mod passes;
+mod readers;
 mod refusals;
 mod requests;
+mod shared;
+mod shared_laws;
 mod sites;
+mod steps;
 mod streams;
+mod turning;
 mod ways;
 mod writing;
 
 pub use alone::answer_alone;
+pub use connections::answer_connection;
 pub use ends::End;
+pub use outcomes::{Outcome, Served};
+pub use shared_laws::answers_stay;
 pub use sites::Site;

@@ -27,7 +27,7 @@ use ps_streams::{calls_make_turns, runs_go_on, take_turn_of};
 use std::alloc::Global;
 
 // Writes the line of a turn, if it gives one.
-fn send<K: Sink>(alloc: Global, line: Option<Line>, to: &mut K) -> Result<(), End>
+pub(crate) fn send<K: Sink>(alloc: Global, line: Option<Line>, to: &mut K) -> Result<(), End>
     requires { IfSome line IsWritable }
     ensures sends { Sends line (K.taken to.old) (K.taken to.new) (K.faults to.old) (K.faults to.new) result }
     ensures faults { K.faults to.old ≤ K.faults to.new }
@@ -220,7 +220,7 @@ fn first_line(alloc: Global, store: &Store, session: &mut Session) -> Result<Vec
 }
 
 // The head of a stream, and the bytes behind it.
-fn opening(alloc: Global, line: &[u8]) -> Result<Vec<u8>, Memory>
+pub(crate) fn opening(alloc: Global, line: &[u8]) -> Result<Vec<u8>, Memory>
     ensures { IfOk result (λ bytes. bytes.items ≡ head_text 200 None ++ line.now) }
 {
     let mut bytes = head(alloc, 200, None)?;

@@ -1,0 +1,13 @@
+//! What a session reads from where others use the store: a seat at the store's lock, each of whose calls is one turn.
+
+use ps_lock::Seat;
+use ps_store::{Checkpoint, Store};
+
+/// A seat at the store's lock, and the checkpoint of all that it has seen.
+#[derive(Drop)]
+pub struct Reader {
+    /// The seat.
+    pub seat: Seat<Store>,
+    /// The checkpoint.
+    pub checkpoint: Checkpoint,
+}

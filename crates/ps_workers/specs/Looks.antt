@@ -1,0 +1,46 @@
+-- What one turn of a seat at the store's lock reads of the history at which it came.
+use Rattle.std.specs.Prelude.{◌≡◌, ℕ, List, IfOk, Result}
+use Rattle.ps_bucket_log.specs.declared.batches.Batch.{Batch}
+use Rattle.ps_bucket_log.specs.declared.takes.Taken.{Taken}
+use Rattle.ps_data.specs.declared.ids.OpId.{OpId}
+use Rattle.ps_data.specs.declared.shortage.Memory.{Memory}
+use Rattle.ps_kept.specs.declared.values.Kept.{Ghosts}
+use Rattle.ps_lock.specs.declared.tables.Seat.{Seat}
+use Rattle.ps_queries.specs.Meaning.{Asker}
+use Rattle.ps_store.specs.declared.events.Event.{Event}
+use Rattle.ps_store.specs.declared.fixed.Fixed.{Fixed}
+use Rattle.ps_store.specs.declared.readings.TakeFault.{TakeFault}
+use Rattle.ps_store.specs.declared.stores.Store.{Store}
+use Rattle.ps_store.specs.Ledgers.{Ledger, ledger_of, head_of}
+use Rattle.ps_store.specs.Readings.{Takes, batch_of}
+use Rattle.ps_store.specs.Stores.{StoreStandsFor}
+use Rattle.ps_workers.specs.declared.looks.Look.{Look}
+use Rattle.ps_workers.specs.Gains.{LooksAt}
+
+-- what a ledger shows
+pub record IsLook (l : Ledger) (look : Look) : Type 0 where
+  pub position : look.checkpoint.position.0 ≡ l.position
+  pub op : look.checkpoint.op.0 ≡ l.op
+  pub head : look.head.0 ≡ head_of l.fed
+  pub closed : look.closed ≡ l.closed
+
+-- a store stood for the history, so that it is legal
+abbrev pub IsStoodFor : Fixed → List Event → Type 0
+IsStoodFor fixed history = (store : Store) × StoreStandsFor fixed store history
+
+module _ {V : Type 0} {d : Ghosts V Event Fixed} (fixed : Fixed) (history : List Event) where
+  -- the turn came at this history, and this is what it found
+  pub record LooksIn (before after : Seat V Event Fixed d) (look : Look) : Type 0 where
+    pub looks : LooksAt history before after
+    pub stood : IsStoodFor fixed history
+    pub found : IsLook (ledger_of fixed.rules history) look
+
+  -- an asker's checkpoint was taken, or there are too many buckets
+  pub record TakesIn (asker : Asker) (before after : Seat V Event Fixed d) (look : Look) (result : Result Taken TakeFault) : Type 0 where
+    pub looks : LooksIn before after look
+    pub takes : Takes fixed history asker result
+
+  -- a batch of a bucket was read
+  pub record ReadsIn (bucket : List ℕ) (low high : OpId) (before after : Seat V Event Fixed d) (look : Look) (result : Result Batch Memory) : Type 0 where
+    pub looks : LooksIn before after look
+    pub reads : IfOk result (λ batch. batch ≡ batch_of (ledger_of fixed.rules history) bucket low.0 high.0)
