@@ -1,5 +1,2 @@
-pub mod Filled
-pub mod Newest
-pub mod Rising
 pub mod Staying
 pub mod Turning

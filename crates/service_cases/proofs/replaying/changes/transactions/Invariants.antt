@@ -1,5 +1,0 @@
-use Rattle.ps_core.specs.Scripts.{AreLow}
-use Rattle.service_cases.proofs.replaying.changes.transactions.Given as goal
-
-abbrev pub invariant-transactions : goal.invariant-transactions
-invariant-transactions l = AreLow l.all.items

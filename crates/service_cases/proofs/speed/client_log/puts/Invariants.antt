@@ -1,7 +1,0 @@
-use Rattle.std.proofs.Common.{◌≡◌, ◌+◌}
-use Rattle.ps_bucket_log.specs.Ops.{place_after}
-use Rattle.ps_bucket_log.specs.Logs.{IsRising}
-use Rattle.service_cases.proofs.speed.client_log.puts.Given as goal
-
-abbrev pub invariant-ops : goal.invariant-ops
-invariant-ops l = IsRising l.after l.ops.items × (place_after l.after l.ops.items ≡ l.after + l.before)

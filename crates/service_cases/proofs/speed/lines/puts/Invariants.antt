@@ -1,7 +1,0 @@
-use Rattle.std.proofs.Common.{◌≡◌}
-use Rattle.ps_bucket_log.specs.Ops.{newest}
-use Rattle.ps_bucket_log.specs.Logs.{IsRising}
-use Rattle.service_cases.proofs.speed.lines.puts.Given as goal
-
-abbrev pub invariant-ops : goal.invariant-ops
-invariant-ops l = IsRising 0 l.ops.items × (newest l.ops.items ≡ l.before)

@@ -1,6 +1,0 @@
-use Rattle.std.proofs.Common.{◌≡◌, ◌≤◌}
-use Rattle.service_cases.proofs.speed.lookups.noted.Given as goal
-
--- nothing is noted past the first position, and nothing is forgotten
-abbrev pub invariant-rows : goal.invariant-rows
-invariant-rows l = (l.index.last ≤ 1) × (l.index.rules ≡ l.rules) × (l.index.forgotten ≡ 0)

@@ -1,0 +1,6 @@
+use Rattle.case_stores.specs.Histories.{HasHistory}
+use Rattle.speed_cases.proofs.store.do_all.Given as goal
+
+-- the store stays one
+abbrev pub invariant-batches : goal.invariant-batches
+invariant-batches l = HasHistory l.store

@@ -1,0 +1,6 @@
+use Rattle.case_stores.specs.Histories.{HasHistory}
+use Rattle.store_cases.proofs.changing.feed_all.Given as goal
+
+-- the store stays one
+abbrev pub invariant-lines : goal.invariant-lines
+invariant-lines l = HasHistory l.store
