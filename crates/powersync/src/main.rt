@@ -1,9 +1,13 @@
 //! The program `powersync`, over `ps_commands`: the system's words, files and streams.
 #![tactic(auto)]
 
+mod help;
+
+use help::help_for;
 use ps_commands::run_plain;
 use ps_data::Text;
-use ps_io::{DiskFiles, StdSink};
+use ps_files::{Fault, say};
+use ps_io::{DiskFiles, Sink, StdSink};
 use std::process::ExitCode;
 use std::{env, io, thread};
 
@@ -24,6 +28,14 @@ fn words_of(rt: &HostRuntime) -> Vec<Text> {
     words
 }
 
+// Prints what the program says of itself.
+fn tell<K: Sink, E: Sink>(text: &str, out: &mut K, err: &mut E) -> u8 {
+    match out.write(text.as_bytes()) {
+        Ok(()) => 0,
+        Err(_) => say(err, &Fault::CannotWrite),
+    }
+}
+
 fn run(rt: &HostRuntime) -> u8 {
     let words = words_of(rt);
     let stdout = rt.stdout();
@@ -31,7 +43,10 @@ fn run(rt: &HostRuntime) -> u8 {
     let mut files = DiskFiles::new(*rt);
     let mut out = StdSink::new(io::writer(&stdout));
     let mut err = StdSink::new(io::writer(&stderr));
-    run_plain(rt.alloc(), words.as_slice(), &mut files, &mut out, &mut err)
+    match help_for(words.as_slice()) {
+        Some(text) => tell(text, &mut out, &mut err),
+        None => run_plain(rt.alloc(), words.as_slice(), &mut files, &mut out, &mut err),
+    }
 }
 
 fn main(rt: HostRuntime) -> ExitCode {

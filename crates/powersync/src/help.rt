@@ -1,0 +1,86 @@
+//! What the program says of itself where nothing else is asked: its commands, their words and options, and its version.
+
+use ps_data::Text;
+
+const COMMANDS: &str = "powersync: a sync service for offline-first applications, its client, and tools around both
+
+  check RULES                         what the rules have, and warnings; or the first fault, with its place
+  rows RULES CHANGES CLAIMS           the rows that one user gets, after all changes
+  replay RULES CHANGES SCRIPT         what each event of a script does
+  compact RULES CHANGES               what the compaction of each bucket reports
+  token KEYS KID CLAIMS               a signed token (RFC 7519, HS256)
+  generate N [lines]                  a summary of N made transactions, or their lines
+
+powersync COMMAND --help says more of one command. docs/FORMATS.md has the files, the texts and the statuses.
+Example: powersync rows examples/todo/rules.yaml examples/todo/changes.jsonl examples/todo/ann.json
+";
+
+const VERSION: &str = "powersync 0.1.0\n";
+
+const CHECK: &str = "powersync check RULES
+
+Prints a line for each bucket definition of the rules file, and a line for each warning. A fault is said with its line and column, status 2.
+Example: powersync check examples/todo/rules.yaml
+";
+
+const ROWS: &str = "powersync rows RULES CHANGES CLAIMS
+
+Prints the rows that the asker of the claims file gets, after all transactions of the change file: the type, the id and the data, one row on a line.
+Example: powersync rows examples/todo/rules.yaml examples/todo/changes.jsonl examples/todo/ann.json
+";
+
+const REPLAY: &str = "powersync replay RULES CHANGES SCRIPT
+
+Plays a script of events against a store: feeding, writing, committing and compacting, and clients with their streams. Prints what each event did.
+Example: powersync replay examples/todo/rules.yaml examples/todo/changes.jsonl examples/todo/script.txt
+";
+
+const COMPACT: &str = "powersync compact RULES CHANGES
+
+Writes the change file into buckets, compacts each bucket once, and prints a report of each.
+Example: powersync compact examples/items/rules.yaml examples/items/changes.jsonl
+";
+
+const TOKEN: &str = "powersync token KEYS KID CLAIMS
+
+Prints a token of the claims file's token, signed with the key of that kid of the key file.
+Example: powersync token examples/todo/keys.json k1 examples/todo/ann.json
+";
+
+const GENERATE: &str = "powersync generate N [lines]
+
+Makes N transactions, from 1 to 100,000, and prints a summary of them, or with `lines` the change lines themselves.
+Example: powersync generate 10
+";
+
+/// The text for words that ask for help or for the version and for nothing else: `--help`, `-h` or `--version` alone, or a command's name and
+/// `--help`. None for all other words.
+pub(crate) fn help_for(words: &[Text]) -> Option<&'static str> {
+    match words {
+        [word] => help_of_all(word.as_str()),
+        [command, word] if word.as_str() == "--help" => help_of(command.as_str()),
+        _ => None,
+    }
+}
+
+// The text for a single word.
+fn help_of_all(word: &str) -> Option<&'static str> {
+    match word {
+        "--help" | "-h" => Some(COMMANDS),
+        "--version" => Some(VERSION),
+        _ => None,
+    }
+}
+
+// The text of one command.
+fn help_of(command: &str) -> Option<&'static str> {
+    match command {
+        "check" => Some(CHECK),
+        "rows" => Some(ROWS),
+        "replay" => Some(REPLAY),
+        "compact" => Some(COMPACT),
+        "token" => Some(TOKEN),
+        "generate" => Some(GENERATE),
+        _ => None,
+    }
+}
