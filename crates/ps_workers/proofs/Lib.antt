@@ -1,1 +1,5 @@
+pub mod Compactor
+pub mod Drained
 pub mod Turning
+pub mod Working
+pub mod Writer

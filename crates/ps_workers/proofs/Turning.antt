@@ -1,7 +1,8 @@
 -- What a turn at the store's lock begins with, and what it leaves.
 use Rattle.std.proofs.Common.{◌≡◌, ℕ, ◌+◌, List, [], ◌∷◌, ◌++◌, length, sym, ap, ◌∙◌, subst}
-use Rattle.std.specs.Prelude.{Err}
+use Rattle.std.specs.Prelude.{Result, Ok, Err, IfOk}
 use mathlib.Core.List.{IsPrefix}
+use Rattle.ps_data.specs.declared.shortage.Memory.{Memory}
 use Rattle.ps_rows.specs.declared.changes.Change.{Change}
 use Rattle.ps_rows.specs.declared.changes.Transaction.{Transaction}
 use Rattle.ps_lock.specs.declared.tables.Seat.{Seat}
@@ -12,12 +13,17 @@ use Rattle.ps_lock.specs.Words.{seen_by, own_entries_of, own_entries_in, history
 use Rattle.ps_store.specs.declared.events.Event.{Event}
 use Rattle.ps_store.specs.declared.faults.FeedFault.{FeedFault}
 use Rattle.ps_store.specs.declared.faults.FeedFault.TheVariants as feeding
+use Rattle.ps_store.specs.declared.faults.CompactFault.{CompactFault}
+use Rattle.ps_store.specs.declared.faults.CompactFault.TheVariants as compacting
 use Rattle.ps_store.specs.declared.fixed.Fixed.{Fixed}
 use Rattle.ps_store.specs.declared.stores.Store.{Store}
 use Rattle.ps_write_cp.specs.declared.faults.NumberFault.{NumberFault}
 use Rattle.ps_write_cp.specs.declared.faults.NumberFault.TheVariants as numbering
 use Rattle.ps_workers.specs.Sharing.{fixed_of}
-use Rattle.ps_store.specs.Stores.{StoreStandsFor, Feeds, Uploads, MakesNumber}
+use Rattle.ps_store.specs.Ledgers.{ledger_of}
+use Rattle.ps_store.specs.Stores.{StoreStandsFor, Feeds, Uploads, MakesNumber, Compacts}
+use Rattle.ps_store.specs.Totals.{bucket_names_of}
+use Rattle.ps_workers.specs.Compactions.{CompactsIn}
 use Rattle.ps_workers.specs.Gains.{LooksAt, AddsTo, FeedsIn, UploadsIn, NumbersIn}
 
 -- what is lent in a turn stands for the history at which it came
@@ -75,3 +81,19 @@ refused_number fixed history user client before after new numbering.Memory looke
 pub number_stands : (fixed : Fixed) (history : List Event) (user client : List ℕ) (new : Store) (fault : NumberFault) → MakesNumber fixed history user client new (Err fault) → StoreStandsFor fixed new history
 number_stands fixed history user client new (numbering.NumberFull last) said = said.2
 number_stands fixed history user client new numbering.Memory said = said.1
+
+-- a compaction that was refused
+pub refused_compaction : {d : Ghosts Store Event Fixed} (fixed : Fixed) (history : List Event) (bucket : List ℕ) (before after : Seat Store Event Fixed d) (new : Store) (fault : CompactFault)
+    → LooksAt history before after → Compacts fixed history bucket new (Err fault) → CompactsIn fixed history bucket before after (Err fault)
+refused_compaction fixed history bucket before after new compacting.NoBucket looked said = (looked, (new, said.1), said.0)
+refused_compaction fixed history bucket before after new compacting.Memory looked said = looked
+
+pub compaction_stands : (fixed : Fixed) (history : List Event) (bucket : List ℕ) (new : Store) (fault : CompactFault) → Compacts fixed history bucket new (Err fault) → StoreStandsFor fixed new history
+compaction_stands fixed history bucket new compacting.NoBucket said = said.1
+compaction_stands fixed history bucket new compacting.Memory said = said.1
+
+-- the names that a store gave, at the history that it stands for
+pub names_at : (fixed : Fixed) (history : List Event) (store : Store) → StoreStandsFor fixed store history → (result : Result (List (List ℕ)) Memory)
+    → IfOk result (λ names. (f : Fixed) (h : List Event) → StoreStandsFor f store h → names ≡ bucket_names_of (ledger_of f.rules h)) → IfOk result (λ names. names ≡ bucket_names_of (ledger_of fixed.rules history))
+names_at fixed history store stands (Ok names) told = told fixed history stands
+names_at fixed history store stands (Err refused) told = tt

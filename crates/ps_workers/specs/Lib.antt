@@ -1,3 +1,7 @@
+pub mod Compacting
+pub mod Compactions
 pub mod Gains
 pub mod Looks
 pub mod Sharing
+pub mod Work
+pub mod Writing

@@ -1,5 +1,5 @@
 -- What one turn of a seat at the store's lock reads of the history at which it came.
-use Rattle.std.specs.Prelude.{◌≡◌, ℕ, List, IfOk, Result}
+use Rattle.std.specs.Prelude.{◌≡◌, ℕ, List, IfOk, map, Result}
 use Rattle.ps_bucket_log.specs.declared.batches.Batch.{Batch}
 use Rattle.ps_bucket_log.specs.declared.takes.Taken.{Taken}
 use Rattle.ps_data.specs.declared.ids.OpId.{OpId}
@@ -11,9 +11,11 @@ use Rattle.ps_store.specs.declared.events.Event.{Event}
 use Rattle.ps_store.specs.declared.fixed.Fixed.{Fixed}
 use Rattle.ps_store.specs.declared.readings.TakeFault.{TakeFault}
 use Rattle.ps_store.specs.declared.stores.Store.{Store}
+use Rattle.ps_store.specs.declared.totals.Totals.{Totals}
 use Rattle.ps_store.specs.Ledgers.{Ledger, ledger_of, head_of}
-use Rattle.ps_store.specs.Readings.{Takes, batch_of}
+use Rattle.ps_store.specs.Readings.{Takes, batch_of, log_length_of}
 use Rattle.ps_store.specs.Stores.{StoreStandsFor}
+use Rattle.ps_store.specs.Totals.{totals_of, bucket_names_of}
 use Rattle.ps_workers.specs.declared.looks.Look.{Look}
 use Rattle.ps_workers.specs.Gains.{LooksAt}
 
@@ -44,3 +46,18 @@ module _ {V : Type 0} {d : Ghosts V Event Fixed} (fixed : Fixed) (history : List
   pub record ReadsIn (bucket : List ℕ) (low high : OpId) (before after : Seat V Event Fixed d) (look : Look) (result : Result Batch Memory) : Type 0 where
     pub looks : LooksIn before after look
     pub reads : IfOk result (λ batch. batch ≡ batch_of (ledger_of fixed.rules history) bucket low.0 high.0)
+
+  -- the names of the buckets were read
+  pub record NamesIn (before after : Seat V Event Fixed d) (look : Look) (result : Result (List (List ℕ)) Memory) : Type 0 where
+    pub looks : LooksIn before after look
+    pub names : IfOk result (λ names. names ≡ bucket_names_of (ledger_of fixed.rules history))
+
+  -- the lengths of the logs of some buckets were read
+  pub record LengthsIn (buckets : List (List ℕ)) (before after : Seat V Event Fixed d) (look : Look) (lengths : List ℕ) : Type 0 where
+    pub looks : LooksIn before after look
+    pub lengths_are : lengths ≡ map (log_length_of (ledger_of fixed.rules history)) buckets
+
+  -- what is counted was read
+  pub record TotalsIn (before after : Seat V Event Fixed d) (look : Look) (totals : Totals) : Type 0 where
+    pub looks : LooksIn before after look
+    pub totals_are : totals ≡ totals_of (ledger_of fixed.rules history)

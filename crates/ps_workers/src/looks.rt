@@ -1,21 +1,22 @@
-//! What clients read, each in one turn that adds nothing to the history.
+//! What is read of a shared store, each in one turn that adds nothing to the history.
 
-ghost use Rattle.std.specs.Prelude.{◌≡◌, List};
+ghost use Rattle.std.specs.Prelude.{◌≡◌, ◌↔◌, ◌+◌, ◌≤◌, ◌++◌, true, List, IfOk, OnErr, IsTrue, length, map, vec_len, vec_capacity};
 ghost use Rattle.ps_lock.specs.Words.{IsSeatOf};
 ghost use Rattle.ps_sql_eval.specs.Evaluated.{asker_of};
 ghost use Rattle.ps_store.specs.declared.events.Event.{Event as EventSeen};
 ghost use Rattle.ps_store.specs.declared.fixed.Fixed.{Fixed as FixedSeen};
 ghost use Rattle.ps_store.specs.Ledgers.{ledger_of};
+ghost use Rattle.ps_store.specs.Readings.{log_length_of};
 ghost use Rattle.ps_store.specs.Stores.{StoreStandsFor};
 ghost use Rattle.ps_workers.specs.Sharing.{fixed_of};
-ghost use Rattle.ps_workers.specs.Looks.{IsLook, LooksIn, TakesIn, ReadsIn};
+ghost use Rattle.ps_workers.specs.Looks.{IsLook, LooksIn, TakesIn, ReadsIn, NamesIn, LengthsIn, TotalsIn};
 
 use ps_bucket_log::{Batch, Taken};
-use ps_data::{Memory, OpId, Position, Text};
+use ps_data::{Items, Memory, OpId, Position, Text};
 use ps_lock::{Seat, StoreLock};
 use ps_sql_eval::Asker;
-use ps_store::{Checkpoint, Store, TakeFault};
-use std::alloc::Global;
+use ps_store::{Checkpoint, Store, TakeFault, Totals};
+use std::alloc::{AllocError, Global};
 use std::sync::Wait;
 
 /// What a turn finds of the store.
@@ -29,8 +30,17 @@ pub struct Look {
     pub closed: bool,
 }
 
+impl Look {
+    /// Whether the store is drained: nothing more is fed, and the checkpoint is at the head.
+    pub fn is_drained(&self) -> bool
+        ensures { IsTrue result ↔ ((self.now.closed ≡ true) × (self.now.checkpoint.position.0 ≡ self.now.head.0)) }
+    {
+        self.closed && self.checkpoint.position.0 == self.head.0
+    }
+}
+
 // What a store tells of itself.
-fn look_at(store: &Store) -> Look
+pub(crate) fn look_at(store: &Store) -> Look
     ensures { (fixed : FixedSeen) (history : List EventSeen) → StoreStandsFor fixed store.now history → IsLook (ledger_of fixed.rules history) result }
 {
     Look {
@@ -91,4 +101,73 @@ pub fn read_in_turn<R: Wait>(
     let look = look_at(turn.value());
     let batch = turn.value().read_batch(alloc, bucket, after, upto);
     (turn.leave(), look, batch)
+}
+
+/// Reads the names of the buckets of the generation in force that ever had an operation, in byte order, in one turn, and looks at the
+/// store in it. The turn is as long as there are buckets. The seat is one of the lock's.
+pub fn names_in_turn<R: Wait>(
+    rt: &R,
+    alloc: Global,
+    lock: &StoreLock<Store>,
+    seat: Seat<Store>,
+) -> (Seat<Store>, Look, Result<Items<Text>, Memory>)
+    requires { IsSeatOf lock.now seat }
+    ensures lock { IsSeatOf lock.now result.0 }
+    ensures turn { (history : List EventSeen) × NamesIn (fixed_of lock.now) history seat result.0 result.1 result.2 }
+{
+    let mut turn = lock.turn(rt, seat);
+    let look = look_at(turn.value());
+    let names = turn.value().bucket_names(alloc);
+    (turn.leave(), look, names)
+}
+
+// How many operations the logs of buckets have, written behind what is there, in room that is there.
+fn lengths_of(store: &Store, buckets: &[Text], lengths: &mut Vec<u64>)
+    requires { vec_len lengths.old + length buckets.now ≤ vec_capacity lengths.old }
+    ensures { (fixed : FixedSeen) (history : List EventSeen) → StoreStandsFor fixed store.now history
+        → lengths.new.items ≡ lengths.old.items ++ map (log_length_of (ledger_of fixed.rules history)) buckets.now }
+{
+    'buckets: for bucket in buckets {
+        lengths.push_reserved(store.log_length(bucket));
+    }
+}
+
+/// Reads how many operations the logs of buckets have, of each in its turn, in one turn, and looks at the store in it. Memory is taken
+/// before the turn, and none is taken where there is no memory. The seat is one of the lock's.
+pub fn lengths_in_turn<R: Wait>(
+    rt: &R,
+    alloc: Global,
+    lock: &StoreLock<Store>,
+    seat: Seat<Store>,
+    buckets: &[Text],
+) -> (Seat<Store>, Result<(Look, Vec<u64>), Memory>)
+    requires { IsSeatOf lock.now seat }
+    ensures lock { IsSeatOf lock.now result.0 }
+    ensures turn { IfOk result.1 (λ found. (history : List EventSeen) × LengthsIn (fixed_of lock.now) history buckets.now seat result.0 found.0 found.1.items) }
+    ensures none { OnErr result.1 (result.0 ≡ seat) }
+{
+    let mut lengths = match Vec::with_capacity(alloc, buckets.len()) {
+        Ok(lengths) => lengths,
+        Err(AllocError) => return (seat, Err(Memory)),
+    };
+    let mut turn = lock.turn(rt, seat);
+    let look = look_at(turn.value());
+    lengths_of(turn.value(), buckets, &mut lengths);
+    (turn.leave(), Ok((look, lengths)))
+}
+
+/// Reads what a store counts in one turn, and looks at the store in it. The seat is one of the lock's.
+pub fn totals_in_turn<R: Wait>(
+    rt: &R,
+    lock: &StoreLock<Store>,
+    seat: Seat<Store>,
+) -> (Seat<Store>, Look, Totals)
+    requires { IsSeatOf lock.now seat }
+    ensures lock { IsSeatOf lock.now result.0 }
+    ensures turn { (history : List EventSeen) × TotalsIn (fixed_of lock.now) history seat result.0 result.1 result.2 }
+{
+    let mut turn = lock.turn(rt, seat);
+    let look = look_at(turn.value());
+    let totals = turn.value().totals();
+    (turn.leave(), look, totals)
 }

@@ -1,0 +1,318 @@
+//! The compactor: it compacts buckets after commits, and all of them once the store is drained.
+
+ghost use Rattle.std.specs.Prelude.{◌≡◌, ◌<◌, true, OnOk};
+ghost use Rattle.ps_lock.specs.Words.{IsSeatOf, seen_by};
+ghost use Rattle.ps_workers.specs.Sharing.{fixed_of};
+ghost use Rattle.ps_workers.specs.Compacting.{IsOver, IsOverWith, HasCompacted, CompactsOn};
+ghost use Rattle.ps_workers.specs.Work.{HasWorked, IsOfCompactor, CompactsAll};
+
+use crate::compactions::compact_in_turn;
+use crate::ends::WorkEnd;
+use crate::gates::Gate;
+use crate::levels::{Buckets, Levels};
+use crate::looks::{lengths_in_turn, names_in_turn, totals_in_turn};
+use crate::workplaces::{Passes, Workplace};
+use ps_data::{Memory, OpId, Text};
+use ps_doors::Bell;
+use ps_lock::{Seat, StoreLock};
+use ps_store::{CompactFault, Store, ledgers_tell_ops, totals_tell_histories};
+use std::alloc::Global;
+use std::sync::Wait;
+
+// The most buckets whose lengths are read in one turn.
+const SLICE: usize = 256;
+
+// Compacts a bucket in a turn, and notes how many operations are left. One that the store does not have is left out.
+fn compact_one<R: Wait, G: Gate>(
+    place: &Workplace<R>,
+    passes: &mut Passes<G>,
+    seat: Seat<Store>,
+    name: &Text,
+    levels: &mut Levels,
+) -> (Seat<Store>, Result<(), Memory>)
+    requires { IsSeatOf place.now.lock.now seat }
+    ensures lock { IsSeatOf place.now.lock.now result.0 }
+    ensures worked { HasWorked IsOfCompactor seat result.0 }
+{
+    passes.pass();
+    let (seat, compacted) = compact_in_turn(place.rt, place.alloc, place.lock, seat, name);
+    let noted = match compacted {
+        Ok(report) => levels.note(place.alloc, name, report.after),
+        Err(CompactFault::NoBucket) => Ok(()),
+        Err(CompactFault::Memory) => Err(Memory),
+    };
+    (seat, noted)
+}
+
+// Compacts those buckets, one in a turn, whose logs have grown, by their lengths in the same order.
+fn compact_grown<R: Wait, G: Gate>(
+    place: &Workplace<R>,
+    passes: &mut Passes<G>,
+    seat: Seat<Store>,
+    names: &[Text],
+    lengths: &[u64],
+    levels: &mut Levels,
+) -> (Seat<Store>, Result<(), Memory>)
+    requires { IsSeatOf place.now.lock.now seat }
+    ensures lock { IsSeatOf place.now.lock.now result.0 }
+    ensures worked { HasWorked IsOfCompactor seat result.0 }
+{
+    let mut here = seat;
+    'buckets: for index in 0..names.len().min(lengths.len()) {
+        if !levels.has_grown(&names[index], lengths[index]) {
+            continue;
+        }
+        let (next, done) = compact_one(place, passes, here, &names[index], levels);
+        here = next;
+        match done {
+            Ok(()) => {}
+            Err(Memory) => return (here, Err(Memory)),
+        }
+    }
+    (here, Ok(()))
+}
+
+// Reads the lengths of buckets in one turn, and compacts those that have grown.
+fn sweep_slice<R: Wait, G: Gate>(
+    place: &Workplace<R>,
+    passes: &mut Passes<G>,
+    seat: Seat<Store>,
+    names: &[Text],
+    levels: &mut Levels,
+) -> (Seat<Store>, Result<(), Memory>)
+    requires { IsSeatOf place.now.lock.now seat }
+    ensures lock { IsSeatOf place.now.lock.now result.0 }
+    ensures worked { HasWorked IsOfCompactor seat result.0 }
+{
+    passes.pass();
+    let (seat, found) = lengths_in_turn(place.rt, place.alloc, place.lock, seat, names);
+    match found {
+        Ok((_look, lengths)) => {
+            compact_grown(place, passes, seat, names, lengths.as_slice(), levels)
+        }
+        Err(Memory) => (seat, Err(Memory)),
+    }
+}
+
+// Compacts those of all known buckets that have grown. Their lengths are read in slices, so that no turn is as long as there are buckets.
+fn sweep<R: Wait, G: Gate>(
+    place: &Workplace<R>,
+    passes: &mut Passes<G>,
+    seat: Seat<Store>,
+    names: &[Text],
+    levels: &mut Levels,
+) -> (Seat<Store>, Result<(), Memory>)
+    requires { IsSeatOf place.now.lock.now seat }
+    ensures lock { IsSeatOf place.now.lock.now result.0 }
+    ensures worked { HasWorked IsOfCompactor seat result.0 }
+{
+    let mut here = seat;
+    'slices: for slice in names.chunks(SLICE) {
+        let (next, done) = sweep_slice(place, passes, here, slice, levels);
+        here = next;
+        match done {
+            Ok(()) => {}
+            Err(Memory) => return (here, Err(Memory)),
+        }
+    }
+    (here, Ok(()))
+}
+
+// Reads the names of the buckets anew, in one turn, where the store counts others than when they were read last.
+fn learn_names<R: Wait, G: Gate>(
+    place: &Workplace<R>,
+    passes: &mut Passes<G>,
+    seat: Seat<Store>,
+    buckets: &mut Buckets,
+    counted: u64,
+) -> (Seat<Store>, Result<(), Memory>)
+    requires { IsSeatOf place.now.lock.now seat }
+    ensures lock { IsSeatOf place.now.lock.now result.0 }
+    ensures worked { HasWorked IsOfCompactor seat result.0 }
+{
+    if buckets.counted == counted {
+        return (seat, Ok(()));
+    }
+    passes.pass();
+    let (seat, _look, names) = names_in_turn(place.rt, place.alloc, place.lock, seat);
+    match names {
+        Ok(names) => {
+            buckets.names = names;
+            buckets.counted = counted;
+            (seat, Ok(()))
+        }
+        Err(Memory) => (seat, Err(Memory)),
+    }
+}
+
+// Compacts what has grown, where there was a commit since this was done last: the checkpoint's op is another.
+fn compact_after<R: Wait, G: Gate>(
+    place: &Workplace<R>,
+    passes: &mut Passes<G>,
+    seat: Seat<Store>,
+    buckets: &mut Buckets,
+    op: OpId,
+    counted: u64,
+) -> (Seat<Store>, Result<(), Memory>)
+    requires { IsSeatOf place.now.lock.now seat }
+    ensures lock { IsSeatOf place.now.lock.now result.0 }
+    ensures worked { HasWorked IsOfCompactor seat result.0 }
+{
+    if buckets.op == op {
+        return (seat, Ok(()));
+    }
+    let (seat, learnt) = learn_names(place, passes, seat, buckets, counted);
+    match learnt {
+        Ok(()) => {
+            buckets.op = op;
+            sweep(
+                place,
+                passes,
+                seat,
+                buckets.names.as_slice(),
+                &mut buckets.levels,
+            )
+        }
+        Err(Memory) => (seat, Err(Memory)),
+    }
+}
+
+// Compacts each of the buckets of a drained store, one in a turn.
+fn compact_each<R: Wait, G: Gate>(
+    place: &Workplace<R>,
+    passes: &mut Passes<G>,
+    seat: Seat<Store>,
+    names: &[Text],
+) -> (Seat<Store>, Result<(), Memory>)
+    requires lock { IsSeatOf place.now.lock.now seat }
+    requires over { IsOverWith (fixed_of place.now.lock.now) names.now (seen_by seat) }
+    ensures lock { IsSeatOf place.now.lock.now result.0 }
+    ensures worked { HasWorked IsOfCompactor seat result.0 }
+    ensures each { OnOk result.1 (HasCompacted (fixed_of place.now.lock.now) (seen_by seat) (seen_by result.0) names.now) }
+{
+    ledgers_tell_ops();
+    totals_tell_histories();
+    let mut here = seat;
+    'buckets: for name in names {
+        passes.pass();
+        let (next, compacted) = compact_in_turn(place.rt, place.alloc, place.lock, here, name);
+        here = next;
+        match compacted {
+            Ok(_) => {}
+            Err(fault) => match fault {
+                CompactFault::Memory => return (here, Err(Memory)),
+                // What is drained loses no bucket.
+                CompactFault::NoBucket => unreachable!(),
+            },
+        }
+    }
+    (here, Ok(()))
+}
+
+// Compacts each bucket of a drained store once more, and ends.
+fn compact_last<R: Wait, G: Gate>(
+    place: &Workplace<R>,
+    passes: &mut Passes<G>,
+    seat: Seat<Store>,
+) -> (Seat<Store>, WorkEnd)
+    requires lock { IsSeatOf place.now.lock.now seat }
+    requires over { IsOver (fixed_of place.now.lock.now) (seen_by seat) }
+    ensures lock { IsSeatOf place.now.lock.now result.0 }
+    ensures work { CompactsAll (fixed_of place.now.lock.now) ⊥ seat result.0 result.1 }
+{
+    ledgers_tell_ops();
+    passes.pass();
+    let (seat, _look, names) = names_in_turn(place.rt, place.alloc, place.lock, seat);
+    let names = match names {
+        Ok(names) => names,
+        Err(Memory) => return (seat, WorkEnd::Memory),
+    };
+    let (seat, done) = compact_each(place, passes, seat, names.as_slice());
+    match done {
+        Ok(()) => (seat, WorkEnd::Drained),
+        Err(Memory) => (seat, WorkEnd::Memory),
+    }
+}
+
+// One round, before which the bell was closed or not: the store is looked at, and what has grown is compacted, or all where the store is
+// drained, which ends the compactor.
+fn round<R: Wait, G: Gate>(
+    place: &Workplace<R>,
+    passes: &mut Passes<G>,
+    seat: Seat<Store>,
+    buckets: &mut Buckets,
+    was_closed: bool,
+) -> (Seat<Store>, Result<(), WorkEnd>)
+    requires { IsSeatOf place.now.lock.now seat }
+    ensures lock { IsSeatOf place.now.lock.now result.0 }
+    ensures goes_on { CompactsOn (fixed_of place.now.lock.now) (was_closed ≡ true) seat result.0 result.1 }
+{
+    ledgers_tell_ops();
+    passes.pass();
+    let (seat, look, totals) = totals_in_turn(place.rt, place.lock, seat);
+    if look.is_drained() {
+        let (seat, end) = compact_last(place, passes, seat);
+        return (seat, Err(end));
+    }
+    if was_closed {
+        return (seat, Err(WorkEnd::Stopped));
+    }
+    let op = look.checkpoint.op;
+    let (seat, done) = compact_after(place, passes, seat, buckets, op, totals.buckets);
+    match done {
+        Ok(()) => (seat, Ok(())),
+        Err(Memory) => (seat, Err(WorkEnd::Memory)),
+    }
+}
+
+// Rounds, until one ends the compactor.
+fn compact_on<R: Wait, G: Gate, B: Bell>(
+    place: &Workplace<R>,
+    passes: &mut Passes<G>,
+    seat: Seat<Store>,
+    buckets: &mut Buckets,
+    bell: &mut B,
+) -> (Seat<Store>, WorkEnd)
+    requires { IsSeatOf place.now.lock.now seat }
+    ensures lock { IsSeatOf place.now.lock.now result.0 }
+    ensures work { CompactsAll (fixed_of place.now.lock.now) (B.closings bell.old < B.closings bell.new) seat result.0 result.1 }
+{
+    let mut here = seat;
+    'rounds: for _ in place.rt.forever() {
+        // Heard before the round and before it is asked whether the bell is closed: a ring since then is not slept over.
+        let heard = bell.heard();
+        let was_closed = bell.closed();
+        let (next, done) = round(place, passes, here, buckets, was_closed);
+        here = next;
+        match done {
+            Ok(()) => {
+                let _heard = bell.wait(heard);
+            }
+            Err(end) => return (here, end),
+        }
+    }
+    unreachable!()
+}
+
+/// After each commit that it hears, compacts, one in a turn, each bucket whose log has at least `at` operations more than after its last
+/// compaction. Where the store is drained it compacts each bucket once more and ends `Drained`: the feed is closed and the checkpoint is at
+/// the head. Where the bell is closed and a later turn finds the store not drained, it ends `Stopped`. The seat is one of the lock's, and the
+/// gate is passed before each turn. It never rings or closes the bell.
+pub fn compact_all<R: Wait, G: Gate, B: Bell>(
+    rt: &R,
+    alloc: Global,
+    lock: &StoreLock<Store>,
+    seat: Seat<Store>,
+    at: u64,
+    gate: &G,
+    bell: &mut B,
+) -> (Seat<Store>, WorkEnd)
+    requires { IsSeatOf lock.now seat }
+    ensures lock { IsSeatOf lock.now result.0 }
+    ensures work { CompactsAll (fixed_of lock.now) (B.closings bell.old < B.closings bell.new) seat result.0 result.1 }
+{
+    let place = Workplace { rt, alloc, lock };
+    let mut passes = Passes::new(gate);
+    let mut buckets = Buckets::new(alloc, at);
+    compact_on(&place, &mut passes, seat, &mut buckets, bell)
+}

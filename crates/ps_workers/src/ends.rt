@@ -1,0 +1,24 @@
+//! How workers end.
+
+use ps_data::OpId;
+
+/// How a writer or a compactor ended.
+#[derive(Clone, Copy, Debug, PartialEq, Eq)]
+pub enum WorkEnd {
+    /// The feed is closed, and all is written and committed.
+    Drained,
+    /// A transaction of the writer's could not be fed, or the compactor's bell was closed and the store was not drained then.
+    Stopped,
+    /// The row of the next unwritten change has more entries than the store's limit.
+    TooWide {
+        /// One more than the limit: no entry past it was counted.
+        count: u32,
+    },
+    /// The next unwritten change needs more ids than are left up to the store's limit.
+    OpsFull {
+        /// The last id that was given, 0 where none.
+        last: OpId,
+    },
+    /// Want of memory.
+    Memory,
+}
