@@ -1,0 +1,5 @@
+pub mod Sent
+pub mod Closed
+pub mod Coming
+pub mod Answering
+pub mod Crew

@@ -1,0 +1,67 @@
+//! The loop that takes connections.
+
+ghost use Rattle.std.specs.Prelude.{◌≡◌, ℕ, ◌+◌, length, vec_len};
+ghost use Rattle.ps_lock.specs.Words.{IsSeatOf, seen_by, own_entries_of};
+ghost use Rattle.ps_connections.specs.Taken.{HasTaken};
+ghost use Rattle.ps_connections.specs.Workers.{AreWorkersOf};
+
+use crate::ended::Stop;
+use crate::services::Service;
+use crate::starting::start;
+use crate::works::Worker;
+use ps_doors::Doors;
+use ps_io::{Clock, Sink, Source};
+use ps_lock::Seat;
+use ps_store::Store;
+use std::sync::Wait;
+use std::thread::{Scope, Threads};
+use std::time;
+
+/// Takes at most so many connections, each with a worker of its own. Room for the worker is made before its connection is taken.
+pub(crate) fn take_connections<
+    's,
+    E,
+    R: Wait + time::Clock + Threads + Sync,
+    S: Source + Send + Drop + 's,
+    K: Sink + Send + Drop + 's,
+    C: Clock + Sync,
+    D: Doors<In = S, Out = K>,
+>(
+    scope: &'s Scope<'s, E>,
+    service: &'s Service<'s, R, C>,
+    seat: &mut Seat<Store>,
+    doors: &mut D,
+    most: u64,
+) -> (Vec<Worker<S, K, C>>, Stop)
+    requires { IsSeatOf service.now.lock.now seat.old }
+    ensures lock { IsSeatOf service.now.lock.now seat.new }
+    ensures seen { seen_by seat.new ≡ seen_by seat.old }
+    ensures own { own_entries_of seat.new ≡ own_entries_of seat.old }
+    ensures place { D.place doors.new ≡ D.place doors.old }
+    ensures closed { D.closed doors.new ≡ D.closed doors.old }
+    ensures taken { HasTaken most (D.opened doors.old) (D.opened doors.new) (D.coming doors.old) (D.coming doors.new)
+        (D.faults doors.old) (D.faults doors.new) result.1 (vec_len result.0) }
+    ensures workers { AreWorkersOf S.Source K.Sink C.Clock service.now.lock.now service.now.site.now service.now.clock.now (seen_by seat.old)
+        (D.closed doors.old) (D.opened doors.old) result.0.items }
+{
+    let mut workers = Vec::new(service.alloc);
+    'connections: for _ in 0..most {
+        if let Err(_) = workers.reserve(1) {
+            return (workers, Stop::NoRoom);
+        }
+        let Ok(mine) = service.lock.split(seat) else {
+            return (workers, Stop::NoRoom);
+        };
+        match doors.next() {
+            Ok(Some((from, to))) => {
+                let worker = start(scope, service, mine, from, to);
+                let Ok(()) = workers.push(worker) else {
+                    unreachable!()
+                };
+            }
+            Ok(None) => return (workers, Stop::NoneToCome),
+            Err(_) => return (workers, Stop::Failed),
+        }
+    }
+    (workers, Stop::Most)
+}
