@@ -3,6 +3,7 @@ mod Rows
 mod Chunks
 mod Copying
 mod Pending
+mod Runs
 mod Advancing
 mod Looking
 mod Judged

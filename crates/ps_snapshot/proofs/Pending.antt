@@ -1,5 +1,6 @@
 -- What feeding and writing do to what is known of a history.
-use Rattle.std.proofs.Common.{◌≡◌, ℕ, zero, suc, ◌+◌, ◌<◌, ◌≤◌, List, [], ◌∷◌, ◌++◌, length, take, drop, refl, sym, ap, ◌∙◌, arith, append_assoc, append-nil, length-append, fold, Ok}
+use Rattle.std.proofs.Common.{◌≡◌, ℕ, zero, suc, ◌+◌, ◌<◌, ◌≤◌, List, [], ◌∷◌, ◌++◌, length, take, drop, refl, sym, ap, ◌∙◌, arith, append_assoc, append-nil, length-append, fold, subst, Some, Ok}
+use Rattle.std.proofs.lemmas.List.{take-append-le}
 use Rattle.ps_rows.specs.declared.changes.Change.{Change}
 use Rattle.ps_rows.specs.declared.changes.Transaction.{Transaction}
 use Rattle.ps_definitions.specs.RuleSets.{RuleSet}
@@ -9,8 +10,11 @@ use Rattle.ps_store.specs.declared.fixed.Fixed.{Fixed}
 use Rattle.ps_store.specs.declared.stores.Store.{Store}
 use Rattle.ps_store.specs.Ledgers.{Ledger, fresh, timed_of, unwritten, write_next, ledger_after, ledger_of, CanCome, IsLegalFrom}
 use Rattle.ps_store.specs.Originals.{Timed, timed, timed_from}
-use Rattle.ps_store.specs.Stores.{StoreStandsFor}
-use Rattle.ps_snapshot.specs.Writing.{IsPending, WritesSome}
+use Rattle.ps_store.specs.Stores.{StoreStandsFor, IsRefused, next_run}
+use Rattle.ps_store.specs.declared.faults.WriteFault.TheVariants as writing
+use Rattle.ps_data.specs.declared.ids.OpId.{OpId}
+use Rattle.ps_snapshot.specs.Writing.{too_wide as is_too_wide, ids_full as are_full, stop_on, stop_by, written_on as all_written_on, CanBeWritten, IsPending, IsRefusedBy, WritesSome}
+use Rattle.ps_snapshot.proofs.Runs.{is_wide, is_full, counted, more_written, first_stop}
 
 -- ---- lists
 
@@ -64,11 +68,29 @@ written_on (u ∷ us) l =
     let w : (fold write_next (write_next l u) us).written ≡ (l.written + 1) + length us = on.written in
     record { fed = on.fed; closed = on.closed; written = omega (arith, w); position = on.position; op = on.op }
 
+from_zero : (m n : ℕ) → m ≡ n → n ≡ 0 + m
+from_zero m n h = omega (arith, h)
+
 -- ---- calls
 
 module _ (fixed : Fixed) (fed : List Transaction) (left : ℕ) (old : Store) (h : IsPending fixed fed left old) where
   abbrev l : Ledger
   l = ledger_of fixed.rules h.history
+
+  -- feeding writes nothing
+  fed_able : (t : Transaction) (now : Ledger) → now ≡ ledger_after l (Feed t) → CanBeWritten fixed now
+  fed_able t now next =
+      let within = h.stands.stands.kept.within in
+      let front : take l.written (timed (l.fed ++ t ∷ [])) ≡ take l.written (timed l.fed) =
+      ap (λ us. take l.written us) (timed_more l.fed t) ∙ take-append-le l.written (timed l.fed) (timed_of t) within in
+      let same : CanBeWritten fixed (ledger_after l (Feed t)) = record {
+        all = ap (λ us. stop_on fixed us) front ∙ h.able.all;
+        alike = record {
+          force = h.able.alike.force ∙ sym (ap (λ us. (all_written_on fixed us).force) front);
+          last = h.able.alike.last ∙ sym (ap (λ us. (all_written_on fixed us).last) front);
+        };
+      } in
+      subst (λ (x : Ledger). CanBeWritten fixed x) (sym next) same
 
   -- a transaction was fed
   pub fed_more : (t : Transaction) (new : Store) → left ≡ 0 → StoreStandsFor fixed new (h.history ++ Feed t ∷ []) → IsPending fixed (fed ++ t ∷ []) (length t.changes) new
@@ -85,6 +107,7 @@ module _ (fixed : Fixed) (fed : List Transaction) (left : ℕ) (old : Store) (h 
         left_are = omega (arith, written, were, none, count_more fed t);
         position = ap (λ (l : Ledger). l.position) next ∙ h.position;
         op = ap (λ (l : Ledger). l.op) next ∙ h.op;
+        able = fed_able t now next;
       }
 
   -- so many changes are left
@@ -99,8 +122,8 @@ module _ (fixed : Fixed) (fed : List Transaction) (left : ℕ) (old : Store) (h 
   some_left some none = let e : length (unwritten l) ≡ 0 = ap length none in omega (arith, left_is, some, e)
 
   -- some of them were written
-  pub wrote_some : (n : ℕ) (new : Store) → 1 ≤ n → StoreStandsFor fixed new (h.history ++ Write n ∷ []) → WritesSome fixed fed left new (Ok n)
-  wrote_some n new some stands =
+  pub wrote_some : (limit n : ℕ) (new : Store) → 1 ≤ n → n ≡ (next_run fixed h.history limit).count → StoreStandsFor fixed new (h.history ++ Write n ∷ []) → WritesSome fixed fed left new (Ok n)
+  wrote_some limit n new some count stands =
       let now : Ledger = ledger_of fixed.rules (h.history ++ Write n ∷ []) in
       let can = could_come h.history (fresh fixed.rules) (Write n) stands.legal in
       let many : n ≤ length (unwritten l) = can.1 in
@@ -119,5 +142,33 @@ module _ (fixed : Fixed) (fed : List Transaction) (left : ℕ) (old : Store) (h 
           left_are = omega (arith, written, few, were);
           position = ap (λ (x : Ledger). x.position) next ∙ on.position ∙ h.position;
           op = ap (λ (x : Ledger). x.op) next ∙ on.op ∙ h.op;
+          able =
+              more_written fixed l h.able n now (counted fixed.limits (unwritten l) limit n l 0 (from_zero n (next_run fixed h.history limit).count count)) next
+              (ap (λ (x : Ledger). x.fed) next ∙ on.fed) written;
         },
       )
+
+  -- the next one is refused, and it is the first that is
+  pub too_wide : (new : Store) (table id : List ℕ) (count : ℕ) → IsRefused fixed.limits l (writing.TooWide table id count) → StoreStandsFor fixed new h.history
+      → IsRefusedBy fixed fed (writing.TooWide table id count)
+  too_wide new table id count why stands = record {
+    store = new;
+    history = h.history;
+    stands = stands;
+    fed_are = h.fed_are;
+    refused = why;
+    first = ap (λ (ts : List Transaction). stop_by fixed ts) (sym h.fed_are) ∙ first_stop fixed l h.able why.0 why.1 (is_too_wide count) why.2 (is_wide fixed.limits l why.0 count why.3 why.6);
+  }
+
+  pub ids_full : (new : Store) (last : OpId) → IsRefused fixed.limits l (writing.OpsFull last) → StoreStandsFor fixed new h.history → IsRefusedBy fixed fed (writing.OpsFull last)
+  ids_full new last why stands = record {
+    store = new;
+    history = h.history;
+    stands = stands;
+    fed_are = h.fed_are;
+    refused = why;
+    first =
+        ap (λ (ts : List Transaction). stop_by fixed ts) (sym h.fed_are)
+        ∙ first_stop fixed l h.able why.0 why.1 (are_full l.last) why.2 (is_full fixed.limits l why.0 why.3 why.4)
+        ∙ ap (λ n. Some (are_full n)) (sym why.5);
+  }
