@@ -8,6 +8,7 @@ pub mod MadeLines
 pub mod MadeRules
 pub mod Pending
 pub mod Reaching
+pub mod RisingLines
 pub mod RulesReading
 pub mod Telling
 pub mod Writing

@@ -48,7 +48,7 @@ past_by number last t u true e g = let same : t ≡ u = cc in subst (λ (x : Tra
 past_by number last t u false e g = absurd (cc)
 
 -- a transaction that is read is past the last one
-past_last : (number last : ℕ) (r : Result Transaction ChangeFault) (t : Transaction) → rising number last r ≡ Ok t → last < t.position.0
+pub past_last : (number last : ℕ) (r : Result Transaction ChangeFault) (t : Transaction) → rising number last r ≡ Ok t → last < t.position.0
 past_last number last (Err fault) t h = absurd (cc)
 past_last number last (Ok u) t h = past_by number last u t (ltb last u.position.0) refl h
 

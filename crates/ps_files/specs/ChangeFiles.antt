@@ -106,6 +106,20 @@ all_from done number (line ∷ lines) = if is_blank line then all_from done (num
 unfoldable pub all_transactions_of : List ℕ → Result (List Transaction) Fault
 all_transactions_of bytes = all_from [] 1 (lines_of bytes)
 
+-- ---- lines whose positions rise, whatever limits they pass
+
+-- the transactions of lines, counted from a number on, behind others: blank lines are skipped and counted, and the first line that is refused
+-- decides
+abbrev pub rising_from : List Transaction → ℕ → List (List ℕ) → Result (List Transaction) Fault
+rising_from done number [] = Ok done
+rising_from done number (line ∷ lines) = if is_blank line then rising_from done (number + 1) lines else (do
+  transaction ← rising number (last_position 0 done) (line_of line)
+  rising_from (done ++ transaction ∷ []) (number + 1) lines)
+
+-- the transactions of a change file whose positions rise, or the fault of the first line that is refused
+unfoldable pub rising_transactions_of : List ℕ → Result (List Transaction) Fault
+rising_transactions_of bytes = rising_from [] 1 (lines_of bytes)
+
 -- ---- transactions that no file holds
 
 -- positions rise from past a last one, up to the greatest

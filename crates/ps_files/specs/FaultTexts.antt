@@ -7,7 +7,7 @@ use Rattle.ps_files.specs.declared.faults.Fault.TheVariants.{Usage, Rules, Chang
 use Rattle.ps_files.specs.declared.faults.Limit.{Limit}
 use Rattle.ps_files.specs.declared.faults.Limit.TheVariants.{LineBytes, Entries, Operations}
 use Rattle.ps_files.specs.declared.faults.LineFault.{LineFault}
-use Rattle.ps_files.specs.declared.faults.LineFault.TheVariants.{BadJson, BadShape, BadPosition, BadValue, NotRising}
+use Rattle.ps_files.specs.declared.faults.LineFault.TheVariants.{BadJson, BadShape, BadPosition, BadValue, NotRising, BadChunk, NotCovered, NoEnd}
 use Rattle.ps_files.specs.declared.faults.ScriptCause.{ScriptCause}
 use Rattle.ps_files.specs.declared.faults.ScriptCause.TheVariants.{BadEvent, UnknownClient, WrongPhase}
 use Rattle.ps_files.specs.RulesFaults.{cause_text}
@@ -32,6 +32,9 @@ line_fault_text BadShape = codes "bad-shape"
 line_fault_text BadPosition = codes "bad-position"
 line_fault_text BadValue = codes "bad-value"
 line_fault_text (NotRising last given) = codes "not-rising " ++ decimal last ++ codes " " ++ decimal given
+line_fault_text BadChunk = codes "bad-chunk"
+line_fault_text NotCovered = codes "not-covered"
+line_fault_text NoEnd = codes "no-end"
 
 abbrev pub limit_text : Limit → List ℕ
 limit_text (LineBytes length) = codes "line-bytes " ++ decimal length

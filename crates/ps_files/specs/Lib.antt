@@ -5,10 +5,12 @@ pub mod Committing
 pub mod Compacting
 pub mod FaultTexts
 pub mod HeldFiles
+pub mod LineEnds
 pub mod Loading
 pub mod MadeRules
 pub mod Making
 pub mod ReadingAll
 pub mod ReadingChanges
+pub mod ReadingRising
 pub mod RulesFaults
 pub mod Saying

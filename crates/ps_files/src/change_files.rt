@@ -151,8 +151,8 @@ fn commit(store: &mut Store)
     }
 }
 
-// The transaction of a line, where its position is past the last one.
-fn read_rising<'a>(
+/// The transaction of a line, where its position is past the last one.
+pub(crate) fn read_rising<'a>(
     alloc: Global,
     reader: &mut LineReader,
     line: &[u8],

@@ -19,6 +19,12 @@ pub enum LineFault {
         /// The line's position.
         given: u64,
     },
+    /// Of a first copy: a mark or a chunk is not of its form, or the line does not belong where it stands.
+    BadChunk,
+    /// Of a first copy: the mark of the end comes before the last rows of a table.
+    NotCovered,
+    /// Of a first copy: no mark of the end comes. The line's number is one more than that of the last line.
+    NoEnd,
 }
 
 /// A limit that a change line passes: docs/FORMATS.md, "Fault texts".

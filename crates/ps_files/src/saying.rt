@@ -69,6 +69,9 @@ fn tell_change<E: Sink>(err: &mut E, line: u64, why: LineFault)
         LineFault::BadPosition => tell_number(err, "powersync: change ", line, " bad-position\n"),
         LineFault::BadValue => tell_number(err, "powersync: change ", line, " bad-value\n"),
         LineFault::NotRising { last, given } => tell_not_rising(err, line, last, given),
+        LineFault::BadChunk => tell_number(err, "powersync: change ", line, " bad-chunk\n"),
+        LineFault::NotCovered => tell_number(err, "powersync: change ", line, " not-covered\n"),
+        LineFault::NoEnd => tell_number(err, "powersync: change ", line, " no-end\n"),
     }
 }
 

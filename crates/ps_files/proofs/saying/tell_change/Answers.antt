@@ -1,5 +1,5 @@
 use Rattle.std.proofs.Common.{subst}
-use Rattle.ps_files.specs.declared.faults.LineFault.TheVariants.{BadJson, BadShape, BadPosition, BadValue}
+use Rattle.ps_files.specs.declared.faults.LineFault.TheVariants.{BadJson, BadShape, BadPosition, BadValue, BadChunk, NotCovered, NoEnd}
 use Rattle.ps_files.specs.FaultTexts.{Tells}
 use Rattle.ps_files.proofs.FaultLines.{change_line}
 use Rattle.ps_files.proofs.saying.tell_change.Goals as goal
@@ -18,3 +18,12 @@ returns-in-BadValue g c = rw c.in-BadValue.is (subst (λ text. Tells (g.E.Sink.t
 
 pub returns-in-NotRising : goal.returns-in-NotRising
 returns-in-NotRising g c = rw c.in-NotRising.is c.tell_not_rising.ensures
+
+pub returns-in-BadChunk : goal.returns-in-BadChunk
+returns-in-BadChunk g c = rw c.in-BadChunk.is (subst (λ text. Tells (g.E.Sink.taken c.args.err.now) (g.E.Sink.taken c.tell_number-in-BadChunk.new.err) (g.E.Sink.faults c.args.err.now) (g.E.Sink.faults c.tell_number-in-BadChunk.new.err) text) (change_line c.args.line BadChunk) c.tell_number-in-BadChunk.ensures)
+
+pub returns-in-NotCovered : goal.returns-in-NotCovered
+returns-in-NotCovered g c = rw c.in-NotCovered.is (subst (λ text. Tells (g.E.Sink.taken c.args.err.now) (g.E.Sink.taken c.tell_number-in-NotCovered.new.err) (g.E.Sink.faults c.args.err.now) (g.E.Sink.faults c.tell_number-in-NotCovered.new.err) text) (change_line c.args.line NotCovered) c.tell_number-in-NotCovered.ensures)
+
+pub returns-in-NoEnd : goal.returns-in-NoEnd
+returns-in-NoEnd g c = rw c.in-NoEnd.is (subst (λ text. Tells (g.E.Sink.taken c.args.err.now) (g.E.Sink.taken c.tell_number-in-NoEnd.new.err) (g.E.Sink.faults c.args.err.now) (g.E.Sink.faults c.tell_number-in-NoEnd.new.err) text) (change_line c.args.line NoEnd) c.tell_number-in-NoEnd.ensures)
