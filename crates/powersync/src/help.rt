@@ -10,6 +10,7 @@ const COMMANDS: &str = "powersync: a sync service for offline-first applications
   compact RULES CHANGES               what the compaction of each bucket reports
   token KEYS KID CLAIMS               a signed token (RFC 7519, HS256)
   generate N [lines]                  a summary of N made transactions, or their lines
+  snapshot RULES LINES CLAIMS         the rows that one user gets, from a first copy of tables that runs beside changes
 
 powersync COMMAND --help says more of one command. docs/FORMATS.md has the files, the texts and the statuses.
 Example: powersync rows examples/todo/rules.yaml examples/todo/changes.jsonl examples/todo/ann.json
@@ -53,6 +54,12 @@ Makes N transactions, from 1 to 100,000, and prints a summary of them, or with `
 Example: powersync generate 10
 ";
 
+const SNAPSHOT: &str = "powersync snapshot RULES LINES CLAIMS
+
+Prints rows as `rows` does, from a file in which a first copy of tables runs beside changes: docs/FORMATS.md, First copies.
+Example: powersync snapshot examples/first/rules.yaml examples/first/lines.jsonl examples/first/ann.json
+";
+
 /// The text for words that ask for help or for the version and for nothing else: `--help`, `-h` or `--version` alone, or a command's name and
 /// `--help`. None for all other words.
 pub(crate) fn help_for(words: &[Text]) -> Option<&'static str> {
@@ -81,6 +88,7 @@ fn help_of(command: &str) -> Option<&'static str> {
         "compact" => Some(COMPACT),
         "token" => Some(TOKEN),
         "generate" => Some(GENERATE),
+        "snapshot" => Some(SNAPSHOT),
         _ => None,
     }
 }

@@ -15,7 +15,6 @@ use Rattle.ps_commands.specs.Commands.{Names, Inputs, check, rows, compact, toke
 use Rattle.ps_commands.specs.Replaying.{Game, GivesAll, GivesSome}
 use Rattle.ps_script.specs.Lines.{lines_of}
 use Rattle.ps_rows.specs.declared.changes.Transaction.{Transaction}
-use Rattle.ps_files.specs.ChangeFiles.{transactions_of}
 use Rattle.ps_files.specs.Compacting.{FindsReports, RefusesReports}
 use Rattle.ps_files.specs.Loading.{Loads, FindsRules, IsRulesFault, FindsKeys, IsKeysFault, FindsAsker, IsClaimsFault}
 use Rattle.ps_due_rows.specs.Loading.{FindsRows, RefusesRows}
@@ -124,7 +123,7 @@ module _ (o : Outside) (words : List (List ℕ)) (names : Names) (kept : Kept o)
   abbrev files_before : ReadsRulesAndClaims o.held names
   files_before = record { rules = rules; asker = asker_of asker; rules_read = rules_read; claims_read = claims_read }
 
-  changes_refused : (fault : Fault) (bytes : List ℕ) → HoldsWithin o.held names.changes file_limit bytes → RefusesRows rules asker fault bytes → Caused o words fault
+  changes_refused : (fault : Fault) (bytes : List ℕ) → HoldsWithin o.held names.changes file_limit bytes → RefusesRows names.feeding rules asker fault bytes → Caused o words fault
   changes_refused Usage bytes file h = absurd h
   changes_refused (Rules line column why) bytes file h = absurd h
   changes_refused (Change line why) bytes file h = (kept, inl (record { names = names; is = is; before = files_before; bytes = bytes; file = file; refused = h }))
@@ -195,11 +194,11 @@ cause_of_asker o mid_held mid words name fault same risen kept reached h =
 
 cause_of_rows : (o : Outside) (mid_held : Option Contents) (mid : ℕ) (words : List (List ℕ)) (names : Names) (rules : RuleSet) (asker : Asker) (fault : Fault) → mid_held ≡ o.held → o.read_before ≤ mid → Kept o
     → command_of words ≡ Some (rows names) → ReadsRules o.held names.rules rules → ReadsAsker o.held names.claims (asker_of asker)
-    → Loads {X = Vec ℕ Global} mid_held names.changes file_limit mid o.read_now (FindsRows rules asker) (RefusesRows rules asker) (Err fault) → Caused o words fault
+    → Loads {X = Vec ℕ Global} mid_held names.changes file_limit mid o.read_now (FindsRows names.feeding rules asker) (RefusesRows names.feeding rules asker) (Err fault) → Caused o words fault
 cause_of_rows o mid_held mid words names rules asker fault same risen kept is rules_read claims_read h =
     let read : ReadsRulesAndClaims o.held names = record { rules = rules; asker = asker_of asker; rules_read = rules_read; claims_read = claims_read } in
     let reached : Reaches o.held words for_changes names.changes = record { command = rows names; is = is; comes = (refl, read) } in
-    cause_of o mid_held mid words for_changes names.changes same risen kept reached (FindsRows rules asker) (RefusesRows rules asker)
+    cause_of o mid_held mid words for_changes names.changes same risen kept reached (FindsRows names.feeding rules asker) (RefusesRows names.feeding rules asker)
     (changes_refused o words names kept is rules asker rules_read claims_read) fault h
 
 cause_of_reports : (o : Outside) (mid_held : Option Contents) (mid : ℕ) (words : List (List ℕ)) (names : Inputs) (rules : RuleSet) (fault : Fault) → mid_held ≡ o.held → o.read_before ≤ mid → Kept o
@@ -238,7 +237,7 @@ means_compact held mid_held mid now names rules text same read h = record {
 
 means_rows : (held mid_held : Option Contents) (mid now : ℕ) (names : Names) (rules : RuleSet) (asker : Asker) (text : Vec ℕ Global) → mid_held ≡ held
     → ReadsRules held names.rules rules → ReadsAsker held names.claims (asker_of asker)
-    → Loads mid_held names.changes file_limit mid now (FindsRows rules asker) (RefusesRows rules asker) (Ok text) → MeansRows held names text.items
+    → Loads mid_held names.changes file_limit mid now (FindsRows names.feeding rules asker) (RefusesRows names.feeding rules asker) (Ok text) → MeansRows held names text.items
 means_rows held mid_held mid now names rules asker text same read claims h = record {
   rules = rules;
   asker = asker_of asker;
@@ -261,7 +260,7 @@ module _ (held mid_held : Option Contents) (start mid now : ℕ) (words : List (
 
   pub rows_found : (names : Names) (rules : RuleSet) (asker : Asker) (result : Result (Vec ℕ Global) Fault) → mid_held ≡ held → start ≤ mid → command_of words ≡ Some (rows names) → ReadsRules held names.rules rules
       → ReadsAsker held names.claims (asker_of asker)
-      → Loads mid_held names.changes file_limit mid now (FindsRows rules asker) (RefusesRows rules asker) result → Finds held start now words result
+      → Loads mid_held names.changes file_limit mid now (FindsRows names.feeding rules asker) (RefusesRows names.feeding rules asker) result → Finds held start now words result
   rows_found names rules asker (Ok text) same risen is read claims h = (rows names, is, means_rows held mid_held mid now names rules asker text same read claims h)
   rows_found names rules asker (Err fault) same risen is read claims h = λ taken faults.
       cause_of_rows (reading held start now taken faults) mid_held mid words names rules asker fault same risen refl is read claims h

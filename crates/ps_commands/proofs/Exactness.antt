@@ -15,7 +15,7 @@ use Rattle.ps_files.specs.declared.faults.Fault.{Fault}
 use Rattle.ps_files.specs.declared.faults.Fault.TheVariants.{Usage, Rules, Change, PastLimit, TooManyBuckets, Claims, Keys, TooLong, CannotRead, CannotWrite, Script, Memory}
 use Rattle.ps_files.specs.declared.faults.LineFault.{LineFault}
 use Rattle.ps_files.specs.declared.faults.ScriptCause.{ScriptCause}
-use Rattle.ps_files.specs.ChangeFiles.{transactions_of, all_transactions_of}
+use Rattle.ps_files.specs.ChangeFiles.{all_transactions_of}
 use Rattle.ps_store.specs.Laws.{last_position}
 use Rattle.ps_store.specs.Limits.{usual_limits}
 use Rattle.ps_files.specs.Checking.{check_text}
@@ -24,7 +24,10 @@ use Rattle.ps_files.specs.FaultTexts.{status_of}
 use Rattle.ps_files.specs.Loading.{unread_name, JoinsThese}
 use Rattle.ps_files.specs.HeldFiles.{rules_limit, file_limit, HoldsWithin}
 use Rattle.ps_commands.specs.Commands.{Names, Inputs, Scripting, Signing, Command, check, rows, replay, compact, token, generate, generate_lines, command_of, ReadsRules, ReadsAsker, ReadsChanges, ReadsTransactions, ReadsGame, ReadsKeyFile, token_text, Means, Prints, Role, for_rules, for_keys, for_claims, for_changes, for_script, limit_of, Reaches, ComesTo, RefusesRules, RefusesKeyFile, HasUnknownKid, RefusesKeys, RefusesClaims, RefusesChanges, RefusesCompaction, RefusesFed, RefusesScript, RefusesLines, HasTooManyBuckets, ExceedsFile, ExceedsLimit, IsNext, BeginsWithin, PrintsFront, PrintsSome, Kept, Outside, Caused, Refusal, exceeds, refused, refusal_status, within_limit, or_refused, or_refused_as, or_none, rules_meant, keys_meant, asker_meant, transactions_meant, rows_meant, all_meant, script_meant, Meant, prints, plays, printing, meaning, IsPlayed, IsAnswer, IsAnswerAlone, IsExact, ◌>>=◌}
+use Rattle.ps_due_rows.specs.declared.feedings.Feeding.{Feeding}
+use Rattle.ps_due_rows.specs.declared.feedings.Feeding.TheVariants.{Changes}
 use Rattle.ps_due_rows.specs.Dues.{due, own_buckets}
+use Rattle.ps_due_rows.specs.FirstCopies.{fed_by}
 use Rattle.ps_files.specs.Compacting.{compact_text}
 use Rattle.ps_commands.specs.Generating.{generated}
 use Rattle.ps_commands.specs.Replaying.{Game}
@@ -58,8 +61,8 @@ module _ (held : Contents) (name : List ℕ) where
   asker_from : (bytes : List ℕ) → HoldsWithin (Some held) name file_limit bytes → asker_meant held name ≡ or_none Claims (asker_of_claims bytes)
   asker_from bytes file = ap (λ x. x >>= λ bytes. or_none Claims (asker_of_claims bytes)) (fits held name file_limit bytes file)
 
-  transactions_from : (rules : RuleSet) (bytes : List ℕ) → HoldsWithin (Some held) name file_limit bytes → transactions_meant held rules name ≡ or_refused (transactions_of rules bytes)
-  transactions_from rules bytes file = ap (λ x. x >>= λ bytes. or_refused (transactions_of rules bytes)) (fits held name file_limit bytes file)
+  transactions_from : (feeding : Feeding) (rules : RuleSet) (bytes : List ℕ) → HoldsWithin (Some held) name file_limit bytes → transactions_meant held feeding rules name ≡ or_refused (fed_by feeding rules bytes)
+  transactions_from feeding rules bytes file = ap (λ x. x >>= λ bytes. or_refused (fed_by feeding rules bytes)) (fits held name file_limit bytes file)
 
   all_from_file : (bytes : List ℕ) → HoldsWithin (Some held) name file_limit bytes → all_meant held name ≡ or_refused (all_transactions_of bytes)
   all_from_file bytes file = ap (λ x. x >>= λ bytes. or_refused (all_transactions_of bytes)) (fits held name file_limit bytes file)
@@ -76,15 +79,16 @@ module _ (held : Contents) (name : List ℕ) where
   asker_is : (asker : Asker) → ReadsAsker (Some held) name asker → asker_meant held name ≡ Ok asker
   asker_is asker r = asker_from r.bytes r.file ∙ ap (or_none Claims) r.read
 
-  transactions_are : (rules : RuleSet) (transactions : List Transaction) → ReadsChanges (Some held) name rules transactions → transactions_meant held rules name ≡ Ok transactions
-  transactions_are rules transactions r = transactions_from rules r.bytes r.file ∙ ap or_refused r.read
+  transactions_are : (feeding : Feeding) (rules : RuleSet) (transactions : List Transaction) → ReadsChanges (Some held) feeding name rules transactions
+      → transactions_meant held feeding rules name ≡ Ok transactions
+  transactions_are feeding rules transactions r = transactions_from feeding rules r.bytes r.file ∙ ap or_refused r.read
 
   -- a file in its role, refused
   abbrev pub IsRefusedIn : Role → Refusal → Type 0
   IsRefusedIn for_rules refusal = rules_meant held name ≡ Err refusal
   IsRefusedIn for_keys refusal = keys_meant held name ≡ Err refusal
   IsRefusedIn for_claims refusal = asker_meant held name ≡ Err refusal
-  IsRefusedIn for_changes refusal = ((rules : RuleSet) → transactions_meant held rules name ≡ Err refusal) × (all_meant held name ≡ Err refusal)
+  IsRefusedIn for_changes refusal = ((feeding : Feeding) (rules : RuleSet) → transactions_meant held feeding rules name ≡ Err refusal) × (all_meant held name ≡ Err refusal)
   IsRefusedIn for_script refusal = script_meant held name ≡ Err refusal
 
   too_long : (role : Role) (seen : ℕ) → limit_of role < seen → HasLength (Some held) name seen → IsRefusedIn role exceeds
@@ -92,7 +96,7 @@ module _ (held : Contents) (name : List ℕ) where
   too_long for_keys seen more file = ap (λ x. x >>= λ bytes. or_refused_as Keys (keys_of_file bytes)) (exceeds_by held name file_limit seen more file)
   too_long for_claims seen more file = ap (λ x. x >>= λ bytes. or_none Claims (asker_of_claims bytes)) (exceeds_by held name file_limit seen more file)
   too_long for_changes seen more file = (
-    λ rules. ap (λ x. x >>= λ bytes. or_refused (transactions_of rules bytes)) (exceeds_by held name file_limit seen more file),
+    λ feeding rules. ap (λ x. x >>= λ bytes. or_refused (fed_by feeding rules bytes)) (exceeds_by held name file_limit seen more file),
     ap (λ x. x >>= λ bytes. or_refused (all_transactions_of bytes)) (exceeds_by held name file_limit seen more file),
   )
   too_long for_script seen more file = exceeds_by held name file_limit seen more file
@@ -125,7 +129,7 @@ module _ (held : Contents) where
   changes_left rules asker r = r >>= λ transactions. rows_left (rows_meant rules asker transactions)
 
   abbrev claims_left : RuleSet → Names → Result Asker Refusal → Result Meant Refusal
-  claims_left rules names r = r >>= λ asker. changes_left rules asker (transactions_meant held rules names.changes)
+  claims_left rules names r = r >>= λ asker. changes_left rules asker (transactions_meant held names.feeding rules names.changes)
 
   abbrev rules_left : Names → Result RuleSet Refusal → Result Meant Refusal
   rules_left names r = r >>= λ rules. claims_left rules names (asker_meant held names.claims)
@@ -143,7 +147,7 @@ module _ (held : Contents) where
   compact_left rules r = r >>= λ transactions. Ok (prints (compact_text rules transactions))
 
   abbrev compact_rules : Inputs → Result RuleSet Refusal → Result Meant Refusal
-  compact_rules names r = r >>= λ rules. compact_left rules (transactions_meant held rules names.changes)
+  compact_rules names r = r >>= λ rules. compact_left rules (transactions_meant held Changes rules names.changes)
 
   abbrev key_left : Signing → Asker → Result Key Refusal → Result Meant Refusal
   key_left names asker r = r >>= λ key. Ok (prints (token_text key names.kid asker))
@@ -158,7 +162,7 @@ module _ (held : Contents) where
   past_rules names rules r = ap (rules_left names) (rules_are held names.rules rules r)
 
   past_claims : (names : Names) (rules : RuleSet) (asker : Asker) → ReadsRules (Some held) names.rules rules → ReadsAsker (Some held) names.claims asker
-      → meaning held (rows names) ≡ changes_left rules asker (transactions_meant held rules names.changes)
+      → meaning held (rows names) ≡ changes_left rules asker (transactions_meant held names.feeding rules names.changes)
   past_claims names rules asker r a = past_rules names rules r ∙ ap (claims_left rules names) (asker_is held names.claims asker a)
 
   past_scripting : (names : Scripting) (rules : RuleSet) → ReadsRules (Some held) names.rules rules → meaning held (replay names) ≡ fed_left names rules (all_meant held names.changes)
@@ -176,7 +180,7 @@ module _ (held : Contents) where
       past_fed names game.rules game.transactions read.rules_read read.changes_read
       ∙ ap (script_left game.rules game.transactions) (fits held names.script file_limit game.script read.script_read)
 
-  past_inputs : (names : Inputs) (rules : RuleSet) → ReadsRules (Some held) names.rules rules → meaning held (compact names) ≡ compact_left rules (transactions_meant held rules names.changes)
+  past_inputs : (names : Inputs) (rules : RuleSet) → ReadsRules (Some held) names.rules rules → meaning held (compact names) ≡ compact_left rules (transactions_meant held Changes rules names.changes)
   past_inputs names rules r = ap (compact_rules names) (rules_are held names.rules rules r)
 
   past_keys : (names : Signing) (keys : List Key) → ReadsKeyFile (Some held) names.keys keys → meaning held (token names) ≡ signing_left names keys (asker_meant held names.claims)
@@ -198,12 +202,12 @@ module _ (held : Contents) where
   means_that (replay names) text m = (plays (same_game m.game), past_script names m.game m.read, λ old new gains. inl (refl, text, m.gives, gains))
   means_that (rows names) text m =
       a_text (rows names) text (past_claims names m.rules m.asker m.rules_read m.claims_read
-      ∙ ap (changes_left m.rules m.asker) (transactions_are held names.changes m.rules m.transactions m.changes_read)
+      ∙ ap (changes_left m.rules m.asker) (transactions_are held names.changes names.feeding m.rules m.transactions m.changes_read)
       ∙ ap rows_left (rows_are m.rules m.asker m.transactions m.within)
       ∙ ap said (sym m.is))
   means_that (compact names) text m =
       a_text (compact names) text (past_inputs names m.rules m.rules_read
-      ∙ ap (compact_left m.rules) (transactions_are held names.changes m.rules m.transactions m.changes_read)
+      ∙ ap (compact_left m.rules) (transactions_are held names.changes Changes m.rules m.transactions m.changes_read)
       ∙ ap said (sym m.is))
   means_that (token names) text m =
       a_text (token names) text (past_signing names m.keys m.asker m.keys_read m.claims_read ∙ ap (λ k. key_left names m.asker (or_none Keys k)) m.found ∙ ap said (sym m.is))
@@ -222,7 +226,7 @@ module _ (held : Contents) where
   refused_at (rows names) for_claims name refusal h r =
       past_rules names h.1 h.2 ∙ ap (claims_left h.1 names) (subst (λ n. asker_meant held n ≡ Err refusal) h.0 r)
   refused_at (rows names) for_changes name refusal h r =
-      past_claims names h.1.rules h.1.asker h.1.rules_read h.1.claims_read ∙ ap (changes_left h.1.rules h.1.asker) (subst (λ n. transactions_meant held h.1.rules n ≡ Err refusal) h.0 (r.0 h.1.rules))
+      past_claims names h.1.rules h.1.asker h.1.rules_read h.1.claims_read ∙ ap (changes_left h.1.rules h.1.asker) (subst (λ n. transactions_meant held names.feeding h.1.rules n ≡ Err refusal) h.0 (r.0 names.feeding h.1.rules))
   refused_at (rows names) for_script name refusal h r = absurd h
   refused_at (replay names) for_rules name refusal h r = ap (replay_rules names) (subst (λ n. rules_meant held n ≡ Err refusal) h r)
   refused_at (replay names) for_keys name refusal h r = absurd h
@@ -236,7 +240,7 @@ module _ (held : Contents) where
   refused_at (compact names) for_keys name refusal h r = absurd h
   refused_at (compact names) for_claims name refusal h r = absurd h
   refused_at (compact names) for_changes name refusal h r =
-      past_inputs names h.1 h.2 ∙ ap (compact_left h.1) (subst (λ n. transactions_meant held h.1 n ≡ Err refusal) h.0 (r.0 h.1))
+      past_inputs names h.1 h.2 ∙ ap (compact_left h.1) (subst (λ n. transactions_meant held Changes h.1 n ≡ Err refusal) h.0 (r.0 Changes h.1))
   refused_at (compact names) for_script name refusal h r = absurd h
   refused_at (token names) for_rules name refusal h r = absurd h
   refused_at (token names) for_keys name refusal h r = ap (keys_left names) (subst (λ n. keys_meant held n ≡ Err refusal) h r)
@@ -297,13 +301,13 @@ module _ (held : Contents) (words : List (List ℕ)) (command : Command) (is : c
       let b = r.before in
       at_command held words command (rows r.names) (Err (refused fault)) old new status is r.is
       (past_claims held r.names b.rules b.asker b.rules_read b.claims_read
-      ∙ ap (changes_left held b.rules b.asker) (transactions_from held r.names.changes b.rules r.bytes r.file ∙ ap or_refused r.refused)) (inl h)
+      ∙ ap (changes_left held b.rules b.asker) (transactions_from held r.names.changes r.names.feeding b.rules r.bytes r.file ∙ ap or_refused r.refused)) (inl h)
 
   compaction_answer : (fault : Fault) → RefusesCompaction (Some held) words fault → (status ≡ status_of fault) × (new ≡ old) → IsAnswer (meaning held command) old new status
   compaction_answer fault r h =
       at_command held words command (compact r.names) (Err (refused fault)) old new status is r.is
       (past_inputs held r.names r.rules r.rules_read
-      ∙ ap (compact_left held r.rules) (transactions_from held r.names.changes r.rules r.bytes r.file ∙ ap or_refused r.refused)) (inl h)
+      ∙ ap (compact_left held r.rules) (transactions_from held r.names.changes Changes r.rules r.bytes r.file ∙ ap or_refused r.refused)) (inl h)
 
   fed_answer : (fault : Fault) → RefusesFed (Some held) words fault → (status ≡ status_of fault) × (new ≡ old) → IsAnswer (meaning held command) old new status
   fed_answer fault r h =
@@ -331,7 +335,7 @@ module _ (held : Contents) (words : List (List ℕ)) (command : Command) (is : c
       let b = r.before in
       at_command held words command (rows r.names) (Err (refused (TooManyBuckets count))) old new status is r.is
       (past_claims held r.names b.rules b.asker b.rules_read b.claims_read
-      ∙ ap (changes_left held b.rules b.asker) (transactions_are held r.names.changes b.rules r.transactions r.changes_read)
+      ∙ ap (changes_left held b.rules b.asker) (transactions_are held r.names.changes r.names.feeding b.rules r.transactions r.changes_read)
       ∙ ap (rows_left held) (too_many b.rules b.asker r.transactions count r.count_is r.more)) (inl h)
 
   key_file_answer : RefusesKeyFile (Some held) words → (status ≡ 4) × (new ≡ old) → IsAnswer (meaning held command) old new status

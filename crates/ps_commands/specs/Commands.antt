@@ -1,4 +1,4 @@
--- The commands `check`, `rows`, `replay`, `compact`, `token` and `generate`: their words, what their files mean, and the cause of each answer.
+-- The commands `check`, `rows`, `snapshot`, `replay`, `compact`, `token` and `generate`: their words, what their files mean, and the cause of each answer.
 use Rattle.std.specs.Prelude.{◌≡◌, ◌⊎◌, ℕ, ◌<◌, ◌≤◌, nat_le, ◌&&◌, List, [], ◌∷◌, ◌++◌, length, codes, bytes_eq, Option, Some, None, option_map, Result, Ok, Err, if◌then◌else◌, Vec}
 use Rattle.std.specs.declared.alloc.Global.{Global}
 use Rattle.ps_io.specs.Contents.{Contents, HasLength, Gains, GainsFront}
@@ -17,7 +17,7 @@ use Rattle.ps_files.specs.declared.faults.Fault.{Fault}
 use Rattle.ps_files.specs.declared.faults.Fault.TheVariants.{Usage, Rules, Change, PastLimit, TooManyBuckets, Claims, Keys, TooLong, CannotRead, CannotWrite, Script, Memory}
 use Rattle.ps_files.specs.declared.faults.Limit.{Limit}
 use Rattle.ps_files.specs.declared.faults.ScriptCause.{ScriptCause}
-use Rattle.ps_files.specs.ChangeFiles.{transactions_of, all_transactions_of}
+use Rattle.ps_files.specs.ChangeFiles.{all_transactions_of}
 use Rattle.ps_files.specs.FaultTexts.{status_of}
 use Rattle.ps_files.specs.HeldFiles.{rules_limit, file_limit, HoldsWithin}
 use Rattle.ps_files.specs.Making.{count_of, made_limit}
@@ -28,7 +28,10 @@ use Rattle.ps_claims.specs.Claims.{asker_of_claims}
 use Rattle.ps_files.specs.Compacting.{compact_text}
 use Rattle.ps_commands.specs.declared.commands.Command.{Command as CommandSeen}
 use Rattle.ps_commands.specs.declared.commands.Command.TheVariants as coded
+use Rattle.ps_due_rows.specs.declared.feedings.Feeding.{Feeding}
+use Rattle.ps_due_rows.specs.declared.feedings.Feeding.TheVariants.{Changes, FirstCopy}
 use Rattle.ps_due_rows.specs.Dues.{due, own_buckets, rows_after}
+use Rattle.ps_due_rows.specs.FirstCopies.{fed_by}
 use Rattle.ps_commands.specs.Generating.{generated}
 use Rattle.ps_commands.specs.Replaying.{Game, GivesAll, GivesSome, GivesUntil}
 use Rattle.ps_files.specs.RulesFaults.{rules_of_file}
@@ -37,8 +40,9 @@ use Rattle.ps_showing.specs.Printing.{rows_text}
 
 -- ---- words
 
--- the files that `rows` names
+-- the files that `rows` and `snapshot` name, and what the second of them feeds: change lines, or a first copy of tables beside them
 pub record Names : Type 0 where
+  pub feeding : Feeding
   pub rules : List ℕ
   pub changes : List ℕ
   pub claims : List ℕ
@@ -70,7 +74,7 @@ pub data Command : Type 0 where
   generate : ℕ → Command
   generate_lines : ℕ → Command
 
--- the words `check RULES`, `rows RULES CHANGES CLAIMS`, `replay RULES CHANGES SCRIPT`, `compact RULES CHANGES`, `token KEYS KID CLAIMS`,
+-- the words `check RULES`, `rows RULES CHANGES CLAIMS`, `snapshot RULES LINES CLAIMS`, `replay RULES CHANGES SCRIPT`, `compact RULES CHANGES`, `token KEYS KID CLAIMS`,
 -- `generate N` or `generate N lines`, and no others
 abbrev pub command_of : List (List ℕ) → Option Command
 command_of [] = None
@@ -82,7 +86,8 @@ command_of (w ∷ a ∷ b ∷ []) =
     if bytes_eq w (codes "compact") then Some (compact (record { rules = a; changes = b })) else
     if bytes_eq w (codes "generate") && bytes_eq b (codes "lines") then option_map generate_lines (count_of a) else None
 command_of (w ∷ a ∷ b ∷ c ∷ []) =
-    if bytes_eq w (codes "rows") then Some (rows (record { rules = a; changes = b; claims = c })) else
+    if bytes_eq w (codes "rows") then Some (rows (record { feeding = Changes; rules = a; changes = b; claims = c })) else
+    if bytes_eq w (codes "snapshot") then Some (rows (record { feeding = FirstCopy; rules = a; changes = b; claims = c })) else
     if bytes_eq w (codes "token") then Some (token (record { keys = a; kid = b; claims = c })) else
     if bytes_eq w (codes "replay") then Some (replay (record { rules = a; changes = b; script = c })) else None
 command_of (w ∷ a ∷ b ∷ c ∷ d ∷ more) = None
@@ -90,7 +95,7 @@ command_of (w ∷ a ∷ b ∷ c ∷ d ∷ more) = None
 -- what a command of the program's code is
 abbrev pub named : CommandSeen → Command
 named (coded.Check rules) = check rules.now
-named (coded.Rows rules changes claims) = rows (record { rules = rules.now; changes = changes.now; claims = claims.now })
+named (coded.Rows feeding rules changes claims) = rows (record { feeding = feeding; rules = rules.now; changes = changes.now; claims = claims.now })
 named (coded.Replay rules changes script) = replay (record { rules = rules.now; changes = changes.now; script = script.now })
 named (coded.Compact rules changes) = compact (record { rules = rules.now; changes = changes.now })
 named (coded.Token keys kid claims) = token (record { keys = keys.now; kid = kid.now; claims = claims.now })
@@ -100,7 +105,7 @@ named (coded.GenerateLines count) = generate_lines count
 -- as many transactions as may be made
 abbrev pub IsMade : CommandSeen → Type 0
 IsMade (coded.Check rules) = Unit {0}
-IsMade (coded.Rows rules changes claims) = Unit {0}
+IsMade (coded.Rows feeding rules changes claims) = Unit {0}
 IsMade (coded.Replay rules changes script) = Unit {0}
 IsMade (coded.Compact rules changes) = Unit {0}
 IsMade (coded.Token keys kid claims) = Unit {0}
@@ -121,11 +126,11 @@ pub record ReadsAsker (held : Option Contents) (name : List ℕ) (asker : Asker)
   pub file : HoldsWithin held name file_limit bytes
   pub read : asker_of_claims bytes ≡ Some asker
 
--- a change file is read as those transactions, each of which the rules write within the limits
-pub record ReadsChanges (held : Option Contents) (name : List ℕ) (rules : RuleSet) (transactions : List Transaction) : Type 0 where
+-- a file that feeds so is read as those transactions, each of which the rules write within the limits
+pub record ReadsChanges (held : Option Contents) (feeding : Feeding) (name : List ℕ) (rules : RuleSet) (transactions : List Transaction) : Type 0 where
   pub bytes : List ℕ
   pub file : HoldsWithin held name file_limit bytes
-  pub read : transactions_of rules bytes ≡ Ok transactions
+  pub read : fed_by feeding rules bytes ≡ Ok transactions
 
 -- a change file is read as those transactions, whatever their positions
 pub record ReadsTransactions (held : Option Contents) (name : List ℕ) (transactions : List Transaction) : Type 0 where
@@ -153,7 +158,7 @@ pub record MeansCheck (held : Option Contents) (name text : List ℕ) : Type 0 w
   pub rules_read : ReadsRules held name rules
   pub is : text ≡ check_text rules
 
--- `rows`: the printed rows that are due to the asker over all transactions of the change file at the last position, where the asker has no
+-- `rows` and `snapshot`: the printed rows that are due to the asker over all transactions that are fed, at the last position, where the asker has no
 -- more buckets than an asker may have
 pub record MeansRows (held : Option Contents) (names : Names) (text : List ℕ) : Type 0 where
   pub rules : RuleSet
@@ -161,7 +166,7 @@ pub record MeansRows (held : Option Contents) (names : Names) (text : List ℕ) 
   pub transactions : List Transaction
   pub rules_read : ReadsRules held names.rules rules
   pub claims_read : ReadsAsker held names.claims asker
-  pub changes_read : ReadsChanges held names.changes rules transactions
+  pub changes_read : ReadsChanges held names.feeding names.changes rules transactions
   pub within : length (own_buckets rules asker transactions) ≤ usual_limits.buckets
   pub is : text ≡ rows_text (due rules asker transactions (last_position 0 transactions))
 
@@ -182,7 +187,7 @@ pub record MeansCompact (held : Option Contents) (names : Inputs) (text : List �
   pub rules : RuleSet
   pub transactions : List Transaction
   pub rules_read : ReadsRules held names.rules rules
-  pub changes_read : ReadsChanges held names.changes rules transactions
+  pub changes_read : ReadsChanges held Changes names.changes rules transactions
   pub is : text ≡ compact_text rules transactions
 
 -- the token of an asker's payload, signed with a key, and a line feed
@@ -260,7 +265,7 @@ limit_of for_claims = file_limit
 limit_of for_changes = file_limit
 limit_of for_script = file_limit
 
--- the files of `rows` before the change file are read
+-- the files of `rows` and `snapshot` before the one that is fed are read
 pub record ReadsRulesAndClaims (held : Option Contents) (names : Names) : Type 0 where
   pub rules : RuleSet
   pub asker : Asker
@@ -359,7 +364,7 @@ pub record RefusesCompaction (held : Option Contents) (words : List (List ℕ)) 
   pub rules_read : ReadsRules held names.rules rules
   pub bytes : List ℕ
   pub file : HoldsWithin held names.changes file_limit bytes
-  pub refused : transactions_of rules bytes ≡ Err fault
+  pub refused : fed_by Changes rules bytes ≡ Err fault
 
 -- the rules of `replay` are read, and that is the fault of the first line of its change file that is refused
 pub record RefusesFed (held : Option Contents) (words : List (List ℕ)) (fault : Fault) : Type 0 where
@@ -382,14 +387,14 @@ pub record RefusesScript (held : Option Contents) (words : List (List ℕ)) (lin
   pub gives : GivesUntil game line why text
   pub printed : Gains old new text
 
--- rules and claims are read, and that is the fault of the first line of the change file of `rows` that is refused
+-- rules and claims are read, and that is the fault of the first line of the file of `rows` or `snapshot` that is refused
 pub record RefusesChanges (held : Option Contents) (words : List (List ℕ)) (fault : Fault) : Type 0 where
   pub names : Names
   pub is : command_of words ≡ Some (rows names)
   pub before : ReadsRulesAndClaims held names
   pub bytes : List ℕ
   pub file : HoldsWithin held names.changes file_limit bytes
-  pub refused : transactions_of before.rules bytes ≡ Err fault
+  pub refused : fed_by names.feeding before.rules bytes ≡ Err fault
 
 -- that is the fault of the first line of a change file that is refused, once what comes before the file is read
 abbrev pub RefusesLines : Option Contents → List (List ℕ) → Fault → Type 0
@@ -401,7 +406,7 @@ pub record HasTooManyBuckets (held : Option Contents) (words : List (List ℕ)) 
   pub is : command_of words ≡ Some (rows names)
   pub before : ReadsRulesAndClaims held names
   pub transactions : List Transaction
-  pub changes_read : ReadsChanges held names.changes before.rules transactions
+  pub changes_read : ReadsChanges held names.feeding names.changes before.rules transactions
   pub count_is : count ≡ length (own_buckets before.rules before.asker transactions)
   pub more : usual_limits.buckets < count
 
@@ -522,8 +527,8 @@ keys_meant held name = within_limit file_limit (held name) >>= λ bytes. or_refu
 abbrev pub asker_meant : Contents → List ℕ → Result Asker Refusal
 asker_meant held name = within_limit file_limit (held name) >>= λ bytes. or_none Claims (asker_of_claims bytes)
 
-abbrev pub transactions_meant : Contents → RuleSet → List ℕ → Result (List Transaction) Refusal
-transactions_meant held rules name = within_limit file_limit (held name) >>= λ bytes. or_refused (transactions_of rules bytes)
+abbrev pub transactions_meant : Contents → Feeding → RuleSet → List ℕ → Result (List Transaction) Refusal
+transactions_meant held feeding rules name = within_limit file_limit (held name) >>= λ bytes. or_refused (fed_by feeding rules bytes)
 
 abbrev pub rows_meant : RuleSet → Asker → List Transaction → Result (List Shown) Refusal
 rows_meant rules asker transactions = or_refused (rows_after rules asker transactions)
@@ -551,7 +556,7 @@ meaning held (check name) = do
 meaning held (rows names) = do
   rules ← rules_meant held names.rules
   asker ← asker_meant held names.claims
-  transactions ← transactions_meant held rules names.changes
+  transactions ← transactions_meant held names.feeding rules names.changes
   shown ← rows_meant rules asker transactions
   Ok (prints (rows_text shown))
 meaning held (replay names) = do
@@ -561,7 +566,7 @@ meaning held (replay names) = do
   Ok (plays (record { rules = rules; transactions = transactions; script = script }))
 meaning held (compact names) = do
   rules ← rules_meant held names.rules
-  transactions ← transactions_meant held rules names.changes
+  transactions ← transactions_meant held Changes rules names.changes
   Ok (prints (compact_text rules transactions))
 meaning held (token names) = do
   keys ← keys_meant held names.keys

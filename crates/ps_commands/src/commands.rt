@@ -4,6 +4,7 @@ ghost use Rattle.std.specs.Prelude.{◌≡◌, [], ◌∷◌, option_map, IfSome
 ghost use Rattle.ps_commands.specs.Commands.{command_of, named, IsMade};
 
 use ps_data::Text;
+use ps_due_rows::Feeding;
 use ps_files::made_count;
 
 /// A command with what its words say: the names of files, a key's kid, or how many transactions are made. docs/FORMATS.md,
@@ -14,8 +15,9 @@ pub(crate) enum Command<'a> {
     Check {
         rules: &'a Text,
     },
-    /// Prints the rows that are due to the asker of the claims.
+    /// Prints the rows that are due to the asker of the claims over a file that feeds so.
     Rows {
+        feeding: Feeding,
         rules: &'a Text,
         changes: &'a Text,
         claims: &'a Text,
@@ -105,6 +107,13 @@ fn of_four<'a>(
 {
     match word.as_str() {
         "rows" => Some(Command::Rows {
+            feeding: Feeding::Changes,
+            rules: second,
+            changes: third,
+            claims: fourth,
+        }),
+        "snapshot" => Some(Command::Rows {
+            feeding: Feeding::FirstCopy,
             rules: second,
             changes: third,
             claims: fourth,

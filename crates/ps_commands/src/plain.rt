@@ -13,7 +13,7 @@ use crate::commands::{Command, read_words};
 use crate::generating::print_summary;
 use crate::replaying::replay_files;
 use ps_data::Text;
-use ps_due_rows::load_rows;
+use ps_due_rows::{Feeding, load_rows};
 use ps_files::{
     Fault, load_asker, load_keys, load_reports, load_rules, print_check, print_made, say, sign_line,
 };
@@ -31,21 +31,22 @@ fn check<'a, F: Files>(alloc: Global, rules: &'a Text, files: &mut F) -> Result<
     Ok(print_check(alloc, &rules)?)
 }
 
-// One user's rows.
+// One user's rows of a file that feeds so.
 fn rows<'a, F: Files>(
     alloc: Global,
+    feeding: Feeding,
     rules: &'a Text,
     changes: &'a Text,
     claims: &'a Text,
     files: &mut F,
 ) -> Result<Vec<u8>, Fault<'a>>
-    ensures finds { (words : List (List ℕ)) → command_of words ≡ Some (rows_command (record { rules = rules.now; changes = changes.now; claims = claims.now }))
+    ensures finds { (words : List (List ℕ)) → command_of words ≡ Some (rows_command (record { feeding = feeding; rules = rules.now; changes = changes.now; claims = claims.now }))
         → Finds (F.held files.old) (F.faults files.old) (F.faults files.new) words result }
     ensures missed { MissesNamed (F.missed files.old) (F.missed files.new) result }
 {
     let rules = load_rules(alloc, files, rules)?;
     let asker = load_asker(alloc, files, claims)?;
-    load_rows(alloc, files, changes, rules, asker)
+    load_rows(alloc, files, changes, feeding, rules, asker)
 }
 
 // What the compaction of each bucket reports.
@@ -149,10 +150,11 @@ fn command<'a, F: Files, K: Sink>(
     match command {
         Command::Check { rules } => print(check(alloc, rules, files), out),
         Command::Rows {
+            feeding,
             rules,
             changes,
             claims,
-        } => print(rows(alloc, rules, changes, claims, files), out),
+        } => print(rows(alloc, feeding, rules, changes, claims, files), out),
         Command::Replay {
             rules,
             changes,
@@ -170,8 +172,9 @@ fn command<'a, F: Files, K: Sink>(
 /// Does a command that does not wait, and answers its status: docs/FORMATS.md, "Commands" and "Statuses".
 ///
 /// The words are those after the program's name. `check RULES` prints what the rules have. `rows RULES CHANGES CLAIMS` prints the rows
-/// that are due to the asker of the claims over all transactions of the change file. `replay RULES CHANGES SCRIPT` prints the text of each
-/// event of the script as it comes. `compact RULES CHANGES` prints what the compaction of each bucket reports. `token KEYS KID CLAIMS` prints
+/// that are due to the asker of the claims over all transactions of the change file, and `snapshot RULES LINES CLAIMS` over all that a file
+/// with a first copy of tables feeds. `replay RULES CHANGES SCRIPT` prints the text of each event of the script as it comes.
+/// `compact RULES CHANGES` prints what the compaction of each bucket reports. `token KEYS KID CLAIMS` prints
 /// the token of the claims' payload, signed with the key of that kid. `generate N lines` prints N made change lines, and `generate N` a
 /// summary of them. Where anything is refused, nothing is printed, but for the texts of the lines of a script before the refused one.
 pub fn run_plain<F: Files, K: Sink, E: Sink>(

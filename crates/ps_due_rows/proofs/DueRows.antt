@@ -17,9 +17,10 @@ use Rattle.ps_store.specs.Limits.{usual_limits}
 use Rattle.ps_store.specs.Readings.{names_of, AreTooMany}
 use Rattle.ps_due_rows.specs.Syncing.{AreSynced}
 use Rattle.ps_due_rows.specs.Dues.{due, own_buckets}
-use Rattle.ps_files.specs.ReadingChanges.{usual, HasCommitted}
+use Rattle.ps_files.specs.ReadingChanges.{usual}
+use Rattle.ps_due_rows.specs.Filling.{IsServed}
 
-module _ (one : LedgersTellOneGeneration) (reads : OneGenerationReads) (rules : RuleSet) (ts : List Transaction) (store : Store) (h : HasCommitted rules ts store) (asker : Asker) where
+module _ (one : LedgersTellOneGeneration) (reads : OneGenerationReads) (rules : RuleSet) (ts : List Transaction) (store : Store) (h : IsServed rules ts store) (asker : Asker) where
   abbrev l : Ledger
   l = ledger_of rules h.history
 

@@ -6,3 +6,4 @@ pub mod Ending
 pub mod Results
 pub mod DueRows
 pub mod Refusing
+pub mod FirstLines

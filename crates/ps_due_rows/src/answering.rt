@@ -1,11 +1,11 @@
-//! What an asker is answered over a change file that was written into a store.
+//! What an asker is answered over a file that was fed to a store.
 
 ghost use Rattle.std.specs.Prelude.{List};
 ghost use Rattle.ps_rows.specs.declared.changes.Transaction.{Transaction};
 ghost use Rattle.ps_definitions.specs.RuleSets.{RuleSet};
 ghost use Rattle.ps_sql_eval.specs.Evaluated.{asker_of};
 ghost use Rattle.ps_due_rows.specs.Dues.{Answers};
-ghost use Rattle.ps_files.specs.ReadingChanges.{HasCommitted};
+ghost use Rattle.ps_due_rows.specs.Filling.{IsServed};
 
 use crate::syncing::synced_rows;
 use ps_data::Items;
@@ -15,12 +15,12 @@ use ps_sql_eval::Asker;
 use ps_store::{Store, TakeFault, ledgers_tell_ops};
 use std::alloc::Global;
 
-/// The rows that are due to an asker over all transactions of a change file that was written into a store: those that a new client
+/// The rows that are due to an asker over all transactions of a file that was fed to a store: those that a new client
 /// shows once it has taken the store's checkpoint, line by line, from the asker's session.
 /// Fails with `TooManyBuckets` where the asker has more buckets than an asker may have.
 pub fn due_rows<'a>(alloc: Global, store: &Store, asker: Asker) -> Result<Items<Shown>, Fault<'a>>
-    requires { (rules : RuleSet) × (transactions : List Transaction) × HasCommitted rules transactions store.now }
-    ensures { (rules : RuleSet) (transactions : List Transaction) → HasCommitted rules transactions store.now → Answers rules (asker_of asker) transactions result }
+    requires { (rules : RuleSet) × (transactions : List Transaction) × IsServed rules transactions store.now }
+    ensures { (rules : RuleSet) (transactions : List Transaction) → IsServed rules transactions store.now → Answers rules (asker_of asker) transactions result }
 {
     ledgers_tell_ops();
     match synced_rows(alloc, store, asker) {

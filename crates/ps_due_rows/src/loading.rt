@@ -1,12 +1,14 @@
-//! The printed rows of a change file.
+//! The printed rows of a file.
 
 ghost use Rattle.std.specs.Prelude.{◌≡◌, ◌≤◌, ◌<◌, ◌^◌, length};
-ghost use Rattle.ps_files.specs.ChangeFiles.{transactions_of};
 ghost use Rattle.ps_files.specs.Loading.{Loads, MissesNamed};
-ghost use Rattle.ps_files.specs.ReadingChanges.{Writes};
+ghost use Rattle.ps_due_rows.specs.Filling.{Feeds};
+ghost use Rattle.ps_due_rows.specs.FirstCopies.{fed_by};
 ghost use Rattle.ps_due_rows.specs.Loading.{FindsRows, RefusesRows, Prepares};
 
 use crate::answering::due_rows;
+use crate::feedings::Feeding;
+use crate::filling::fill_store;
 use ps_data::Text;
 use ps_definitions::Rules;
 use ps_files::{FILE_LIMIT, Fault, load, write_changes};
@@ -16,44 +18,54 @@ use ps_sql_eval::Asker;
 use ps_store::Store;
 use std::alloc::Global;
 
-// The store that a change file's bytes are written into, which are dropped then.
-fn write_file<'a>(alloc: Global, rules: Rules, changes: Vec<u8>) -> Result<Store, Fault<'a>>
-    requires { length changes.items < 2 ^ 63 }
-    ensures { Writes rules (transactions_of rules changes.items) result }
+// The store that a file's bytes are fed to, which are dropped then.
+fn feed_file<'a>(
+    alloc: Global,
+    feeding: Feeding,
+    rules: Rules,
+    bytes: Vec<u8>,
+) -> Result<Store, Fault<'a>>
+    requires { length bytes.items < 2 ^ 63 }
+    ensures { Feeds rules (fed_by feeding rules bytes.items) result }
 {
-    write_changes(alloc, rules, changes.as_slice())
+    match feeding {
+        Feeding::Changes => write_changes(alloc, rules, bytes.as_slice()),
+        Feeding::FirstCopy => fill_store(alloc, rules, bytes.as_slice()),
+    }
 }
 
-// The printed rows of a change file's bytes that are due to an asker.
+// The printed rows of a file's bytes that are due to an asker.
 fn prepare<'a>(
     alloc: Global,
+    feeding: Feeding,
     rules: Rules,
     asker: Asker,
-    changes: Vec<u8>,
+    bytes: Vec<u8>,
 ) -> Result<Vec<u8>, Fault<'a>>
-    requires { length changes.items < 2 ^ 63 }
-    ensures { Prepares rules asker changes.items result }
+    requires { length bytes.items < 2 ^ 63 }
+    ensures { Prepares feeding rules asker bytes.items result }
 {
-    let store = write_file(alloc, rules, changes)?;
+    let store = feed_file(alloc, feeding, rules, bytes)?;
     let rows = due_rows(alloc, &store, asker)?;
     let text = print_rows(alloc, rows.as_slice())?;
     Ok(text)
 }
 
-/// Loads the printed rows of a change file that are due to an asker.
+/// Loads the printed rows that are due to an asker of a file, which feeds a store so.
 pub fn load_rows<'a, F: Files>(
     alloc: Global,
     files: &mut F,
     name: &'a Text,
+    feeding: Feeding,
     rules: Rules,
     asker: Asker,
 ) -> Result<Vec<u8>, Fault<'a>>
     ensures loads { Loads (F.held files.old) name.now FILE_LIMIT (F.faults files.old) (F.faults files.new)
-        (FindsRows rules asker) (RefusesRows rules asker) result }
+        (FindsRows feeding rules asker) (RefusesRows feeding rules asker) result }
     ensures missed { MissesNamed (F.missed files.old) (F.missed files.new) result }
     ensures held { F.held files.new ≡ F.held files.old }
     ensures faults { F.faults files.old ≤ F.faults files.new }
 {
     let bytes = load(alloc, files, name, FILE_LIMIT)?;
-    prepare(alloc, rules, asker, bytes)
+    prepare(alloc, feeding, rules, asker, bytes)
 }

@@ -10,7 +10,7 @@ returns-in-Check-clause-outcome g c =
 
 pub returns-in-Rows-clause-outcome : goal.returns-in-Rows-clause-outcome
 returns-in-Rows-clause-outcome g c =
-    let is : command_of c.args.words.now ≡ Some (rows (record { rules = c.in-Rows.rules.now; changes = c.in-Rows.changes.now; claims = c.in-Rows.claims.now })) = search rules in
+    let is : command_of c.args.words.now ≡ Some (rows (record { feeding = c.in-Rows.feeding; rules = c.in-Rows.rules.now; changes = c.in-Rows.changes.now; claims = c.in-Rows.claims.now })) = search rules in
     c.print-in-Rows.ensures.outcome (g.F.Files.held c.args.files.now) (g.F.Files.faults c.args.files.now) (g.F.Files.faults c.rows.new.files) c.args.words.now (c.rows.ensures.finds c.args.words.now is)
 
 pub returns-in-Compact-clause-outcome : goal.returns-in-Compact-clause-outcome

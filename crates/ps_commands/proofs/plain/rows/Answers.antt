@@ -11,7 +11,7 @@ pub returns-in_err-rules-clause-finds : goal.returns-in_err-rules-clause-finds
 returns-in_err-rules-clause-finds g c =
     let p = err_from_is_err_and c.from_residual.result c.from_residual.ensures.1 in
     rw (p.1, p.2) (λ words is taken faults.
-    let names : Names = record { rules = c.args.rules.now; changes = c.args.changes.now; claims = c.args.claims.now } in
+    let names : Names = record { feeding = c.args.feeding; rules = c.args.rules.now; changes = c.args.changes.now; claims = c.args.claims.now } in
     cause_of_rules (reading (g.F.Files.held c.args.files.now) (g.F.Files.faults c.args.files.now) (g.F.Files.faults c.load_rules.new.files) taken faults) words
     c.args.rules.now c.in_err-rules.field-0.0 refl (record { command = rows names; is = is; comes = refl }) c.in_err-rules.ensures.loads)
 
@@ -19,7 +19,7 @@ pub returns-in_err-asker-clause-finds : goal.returns-in_err-asker-clause-finds
 returns-in_err-asker-clause-finds g c =
     let p = err_from_is_err_and c.from_residual-in_err-asker.result c.from_residual-in_err-asker.ensures.1 in
     rw (p.1, p.2) (λ words is taken faults.
-    let names : Names = record { rules = c.args.rules.now; changes = c.args.changes.now; claims = c.args.claims.now } in
+    let names : Names = record { feeding = c.args.feeding; rules = c.args.rules.now; changes = c.args.changes.now; claims = c.args.claims.now } in
     let held : Option Contents = g.F.Files.held c.args.files.now in
     let start : ℕ = g.F.Files.faults c.args.files.now in
     let mid : ℕ = g.F.Files.faults c.load_rules.new.files in
@@ -29,7 +29,7 @@ returns-in_err-asker-clause-finds g c =
 
 pub returns-clause-finds : goal.returns-clause-finds
 returns-clause-finds g c = λ words is.
-    let names : Names = record { rules = c.args.rules.now; changes = c.args.changes.now; claims = c.args.claims.now } in
+    let names : Names = record { feeding = c.args.feeding; rules = c.args.rules.now; changes = c.args.changes.now; claims = c.args.claims.now } in
     let held : Option Contents = g.F.Files.held c.args.files.now in
     let start : ℕ = g.F.Files.faults c.args.files.now in
     let held_1 : Option Contents = g.F.Files.held c.load_rules.new.files in
