@@ -2,7 +2,7 @@
 use Rattle.std.proofs.Common.{◌≡◌, ℕ, ◌+◌, ◌<◌, Bool, true, false, ◌||◌, List, [], ◌∷◌, ◌++◌, length, take, get_or, bytes_eq, Result, Ok, Err, refl, ap, sym, ◌∙◌, subst, append_assoc}
 use Rattle.std.specs.List.{AllByRecursion}
 use Rattle.std.specs.Prelude.{OnOk}
-use Rattle.std.proofs.lemmas.List.{append-nil, take_more}
+use Rattle.std.proofs.lemmas.List.{take_more}
 use Rattle.ps_compact.specs.declared.reports.Report.{Report}
 use Rattle.ps_data.specs.declared.shortage.Memory.{Memory}
 use Rattle.ps_kept.specs.declared.values.Kept.{Ghosts}
@@ -18,15 +18,14 @@ use Rattle.ps_store.specs.Histories.{compacts, LedgersTellOneGeneration}
 use Rattle.ps_store.specs.Ledgers.{ledger_of}
 use Rattle.ps_store.specs.Totals.{bucket_names_of}
 use Rattle.ps_store.specs.TotalsLaws.{BucketNamesTell}
-use Rattle.ps_workers.specs.declared.ends.WorkEnd.{WorkEnd}
-use Rattle.ps_workers.specs.declared.ends.WorkEnd.TheVariants.{Drained, Stopped, TooWide, OpsFull, Memory as MemoryEnd}
+use Rattle.ps_workers.specs.declared.ends.WorkEnd.TheVariants.{Drained}
 use Rattle.ps_workers.specs.declared.looks.Look.{Look}
 use Rattle.ps_workers.specs.Compacting.{IsOver, IsOverWith, HasCompacted}
 use Rattle.ps_workers.specs.Compactions.{CompactsIn}
 use Rattle.ps_workers.specs.Looks.{IsStoodFor, LooksIn, NamesIn}
-use Rattle.ps_workers.specs.Work.{HasWorked, IsOfCompactor, IsStoreDrained, EndsCompacting, CompactsAll}
+use Rattle.ps_workers.specs.Work.{HasWorked, IsOfCompactor, EndsCompacting}
 use Rattle.ps_workers.proofs.Drained.{same_name, true_behind, drained_by, stays_drained, has_operation}
-use Rattle.ps_workers.proofs.Working.{prefix_then, all_both, all_along, worked_looking, worked_adding, worked_then}
+use Rattle.ps_workers.proofs.Working.{prefix_then, all_both, all_along, worked_looking, worked_adding}
 
 -- ---- Compacts in a history
 
@@ -62,9 +61,6 @@ compacts_last bucket (Abandon ∷ xs) = compacts_last bucket xs
 
 -- ---- buckets of a drained store
 
-pub compacted_none : (fixed : Fixed) (history : List Event) → IsStoodFor fixed history → HasCompacted fixed history history []
-compacted_none fixed history stood = record { stood = stood; came = []; whole = append-nil history; each = tt }
-
 -- each has a Compact past the last Commit
 pub ends_drained : (fixed : Fixed) (one : LedgersTellOneGeneration) (start later : List Event) (names : List (List ℕ)) → IsOverWith fixed names start → HasCompacted fixed start later names
     → EndsCompacting ⊥ fixed later Drained
@@ -79,13 +75,6 @@ ends_drained fixed one start later names over it =
         each = subst (λ (ns : List (List ℕ)). AllByRecursion (λ (n : List ℕ). compacts n it.came ≡ true) ns) (over.names_are ∙ sym stays.names) it.each;
       },
     )
-
-ends_along : (P Q : Type 0) (fixed : Fixed) (history : List Event) (end : WorkEnd) → (P → Q) → EndsCompacting P fixed history end → EndsCompacting Q fixed history end
-ends_along P Q fixed history Drained along it = it
-ends_along P Q fixed history Stopped along it = (along it.0, it.1)
-ends_along P Q fixed history (TooWide count) along it = it
-ends_along P Q fixed history (OpsFull last) along it = it
-ends_along P Q fixed history MemoryEnd along it = it
 
 -- what holds where a result is Ok
 pub where_ok : {X E : Type 0} (P : Type 0) (result : Result X E) (value : X) → result ≡ Ok value → OnOk result P → P
@@ -160,27 +149,9 @@ module _ {d : Ghosts Store Event Fixed} (fixed : Fixed) where
     over_with history before after look result names same over it =
         over_with_at history before after look names over (subst (λ (r : Result (List (List ℕ)) Memory). NamesIn fixed history before after look r) same it)
 
-  -- ---- rounds
-
-  pub compacts_then : (P : Type 0) (before between after : Seat Store Event Fixed d) (end : WorkEnd) → HasWorked IsOfCompactor before between → CompactsAll fixed P between after end
-      → CompactsAll fixed P before after end
-  compacts_then P before between after end first it = record { worked = worked_then IsOfCompactor before between after first it.worked; ends = it.ends }
-
-  pub compacts_along : (P Q : Type 0) (before after : Seat Store Event Fixed d) (end : WorkEnd) → (P → Q) → CompactsAll fixed P before after end → CompactsAll fixed Q before after end
-  compacts_along P Q before after end along it = record { worked = it.worked; ends = ends_along P Q fixed (seen_by after) end along it.ends }
-
-  -- a look shows that the store is drained, or is not
+  -- a look shows that the store is drained
   pub over_by : (history : List Event) (before after : Seat Store Event Fixed d) (look : Look) → LooksIn fixed history before after look
       → (look.closed ≡ true) × (look.checkpoint.position.0 ≡ look.head.0) → IsOver fixed (seen_by after)
   over_by history before after look it shows =
       let here : IsOver fixed history = record { stood = it.stood; drained = drained_by fixed history it.stood look it.found shows } in
       subst (λ (xs : List Event). IsOver fixed xs) (sym it.looks.seen) here
-
-  pub stopped_by : (P : Type 0) (history : List Event) (before after : Seat Store Event Fixed d) (look : Look) (drained : Bool) → P → LooksIn fixed history before after look → drained ≡ false
-      → ((look.closed ≡ true) × (look.checkpoint.position.0 ≡ look.head.0) → drained ≡ true) → CompactsAll fixed P before after Stopped
-  stopped_by P history before after look drained closed it is_not shows =
-      let never : ¬ IsStoreDrained (ledger_of fixed.rules history) = λ over. absurd (cc (is_not, shows (it.found.closed ∙ over.closed, it.found.position ∙ (over.committed ∙ sym it.found.head)))) in
-      record {
-        worked = worked_looking IsOfCompactor history before after it.looks;
-        ends = (closed, subst (λ (xs : List Event). ¬ IsStoreDrained (ledger_of fixed.rules xs)) (sym it.looks.seen) never);
-      }

@@ -247,7 +247,6 @@ fn round<R: Wait, G: Gate>(
     ensures lock { IsSeatOf place.now.lock.now result.0 }
     ensures goes_on { CompactsOn (fixed_of place.now.lock.now) (was_closed ≡ true) seat result.0 result.1 }
 {
-    ledgers_tell_ops();
     passes.pass();
     let (seat, look, totals) = totals_in_turn(place.rt, place.lock, seat);
     if look.is_drained() {

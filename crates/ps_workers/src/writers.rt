@@ -2,8 +2,7 @@
 
 ghost use Rattle.std.specs.Prelude.{◌≡◌, ℕ, ◌≤◌, List, []};
 ghost use Rattle.std.specs.List.{All};
-ghost use mathlib.Core.List.{IsPrefix};
-ghost use Rattle.ps_lock.specs.Words.{IsSeatOf, seen_by};
+ghost use Rattle.ps_lock.specs.Words.{IsSeatOf};
 ghost use Rattle.ps_rows.specs.declared.changes.Transaction.{Transaction as TransactionSeen};
 ghost use Rattle.ps_store.specs.declared.events.Event.{Event as EventSeen};
 ghost use Rattle.ps_store.specs.Limits.{greatest};
