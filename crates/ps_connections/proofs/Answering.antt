@@ -1,5 +1,5 @@
 -- What a worker's answer says of its connection once that is closed.
-use Rattle.std.proofs.Common.{◌≡◌, ℕ, Bool, false, List, [], ◌++◌, length, Option, Some, None, refl, sym, ap, ◌∙◌, subst}
+use Rattle.std.proofs.Common.{◌≡◌, ℕ, Bool, false, List, [], length, Option, Some, None, refl, sym, ap, ◌∙◌, subst}
 use mathlib.Core.List.{IsPrefix}
 use Rattle.ps_io.specs.Sources.{Input, unread}
 use Rattle.ps_io.specs.declared.outputs.Sink as Sink
@@ -8,12 +8,11 @@ use Rattle.ps_doors.specs.Connections.{Connection, fresh, told_by}
 use Rattle.ps_store.specs.declared.events.Event.{Event}
 use Rattle.ps_store.specs.declared.fixed.Fixed.{Fixed}
 use Rattle.ps_streams.specs.Serving.{IsValid}
-use Rattle.ps_serve.specs.declared.ends.End.{End}
 use Rattle.ps_serve.specs.declared.outcomes.Outcome.{Outcome}
 use Rattle.ps_serve.specs.declared.sites.Site.{Site}
 use Rattle.ps_serve.specs.SharedAnswers.{AnswersAt}
 use Rattle.ps_serve.specs.SharedLaws.{AnswersStay}
-use Rattle.ps_connections.specs.Answers.{Upshot, StaysAnswered}
+use Rattle.ps_connections.specs.Answers.{StaysAnswered}
 use Rattle.ps_connections.specs.Tasks.{HasAnswered}
 
 -- ---- what a new connection tells

@@ -1,5 +1,5 @@
 -- The connections that are to come, as they come.
-use Rattle.std.proofs.Common.{◌≡◌, ℕ, ◌+◌, List, [], ◌∷◌, ◌++◌, length, Option, Some, None, Ok, refl, sym, ap, ◌∙◌, arith, append_assoc, length-append}
+use Rattle.std.proofs.Common.{◌≡◌, ℕ, ◌+◌, List, [], ◌∷◌, ◌++◌, Option, Some, None, Ok, sym, ap, ◌∙◌, arith, append_assoc, length-append}
 use Rattle.ps_io.specs.declared.sources.Source as Source
 use Rattle.ps_doors.specs.Doors.{Comes}
 use Rattle.ps_connections.specs.Taken.{HaveCome}

@@ -1,5 +1,5 @@
 -- Lists of workers.
-use Rattle.std.proofs.Common.{◌≡◌, ℕ, ◌+◌, Bool, ◌||◌, List, [], ◌∷◌, ◌++◌, length, Option, Some, None, IfSome, refl, sym, ap, ◌∙◌, subst, arith}
+use Rattle.std.proofs.Common.{◌≡◌, ℕ, ◌+◌, Bool, ◌||◌, List, [], ◌∷◌, ◌++◌, length, Option, Some, None, IfSome, ◌∙◌, subst, arith}
 use mathlib.Core.List.{IsPrefix}
 use Rattle.ps_io.specs.declared.clocks.Clock as Clock
 use Rattle.ps_io.specs.declared.outputs.Sink as Sink

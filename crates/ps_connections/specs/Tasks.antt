@@ -1,5 +1,5 @@
 -- What the worker of a connection is given, and what it owes.
-use Rattle.std.specs.Prelude.{◌≡◌, ℕ, List, length, Option}
+use Rattle.std.specs.Prelude.{◌≡◌, ℕ, List, length}
 use mathlib.Core.List.{IsPrefix}
 use Rattle.ps_io.specs.declared.sources.Source as Source
 use Rattle.ps_io.specs.declared.outputs.Sink as Sink

@@ -9,6 +9,7 @@ ghost use Rattle.ps_connections.specs.Workers.{IsAtWork};
 
 use crate::services::Service;
 use crate::works::{Done, Task, Worker, work};
+use core::thread::Stack;
 use ps_io::{Clock, Sink, Source};
 use ps_lock::Seat;
 use ps_store::Store;
@@ -17,7 +18,7 @@ use std::sync::Wait;
 use std::thread::{Scope, Threads};
 use std::time;
 
-/// Starts a worker, which runs here where no thread can be made.
+/// Starts a worker in a thread with the service's stack. It runs here where no thread can be made.
 pub(crate) fn start<
     's,
     E,
@@ -51,7 +52,10 @@ pub(crate) fn start<
             (C.may_give service.entry.now.clock.now) (seen_by seat) (seen_by result.seat) (own_entries_of seat) (own_entries_of result.seat) from to
             result.from result.to result.end }
     { work(service, seat, from, to) };
-    match scope.spawn_with(task, job) {
+    match Stack::new()
+        .stack_size(service.stack)
+        .spawn_scoped_with(scope, task, job)
+    {
         Ok(child) => Worker::There(child),
         Err(refused) => Worker::Here((refused.value)()),
     }

@@ -1,11 +1,10 @@
-use Rattle.std.proofs.Common.{◌≡◌, ℕ, ◌+◌, ◌-◌, ◌≤◌, ◌<◌, ◌||◌, List, [], ◌∷◌, ◌++◌, length, vec_len, Option, Some, None, IfSome, refl, ap, sym, ◌∙◌, arith, subst}
-use Rattle.std.specs.Vec.Iter.{into_iter_items, into_iter_len}
-use mathlib.Core.List.{IsPrefix}
-use Rattle.ps_doors.specs.Connections.{Connection, connection_of, IsOut, Lacks}
-use Rattle.ps_lock.specs.Words.{IsSeatOf, seen_by, own_entries_of}
+use Rattle.std.proofs.Common.{◌≡◌, ℕ, ◌+◌, ◌-◌, ◌<◌, length, vec_len, refl, sym, ◌∙◌, arith, subst}
+use Rattle.std.specs.Vec.Iter.{into_iter_items}
+use Rattle.ps_doors.specs.Connections.{IsOut}
+use Rattle.ps_lock.specs.Words.{seen_by, own_entries_of}
 use Rattle.ps_lock.proofs.Prefixes.{prefix_self, prefix_trans}
 use Rattle.ps_workers.specs.Sharing.{fixed_of}
-use Rattle.ps_connections.specs.Answers.{Upshot, HaveServed, StaysAnswered}
+use Rattle.ps_connections.specs.Answers.{Upshot, StaysAnswered}
 use Rattle.ps_connections.proofs.Closed.{next_lacks, none_closed}
 use Rattle.ps_connections.proofs.Crew.{next_ended, next_closed}
 use Rattle.ps_connections.proofs.closing.close_all.Goals as goal

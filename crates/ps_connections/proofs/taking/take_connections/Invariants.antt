@@ -1,4 +1,4 @@
-use Rattle.std.proofs.Common.{◌≡◌, ◌+◌, ◌≤◌, length, vec_len}
+use Rattle.std.proofs.Common.{◌≡◌, ◌+◌, length}
 use Rattle.ps_lock.specs.Words.{IsSeatOf, seen_by, own_entries_of}
 use Rattle.ps_connections.specs.Taken.{HaveCome}
 use Rattle.ps_connections.specs.Workers.{AreWorkersOf}
