@@ -11,6 +11,7 @@ const COMMANDS: &str = "powersync: a sync service for offline-first applications
   token KEYS KID CLAIMS               a signed token (RFC 7519, HS256)
   generate N [lines]                  a summary of N made transactions, or their lines
   snapshot RULES LINES CLAIMS         the rows that one user gets, from a first copy of tables that runs beside changes
+  audit RULES CHANGES CLAIMS STREAM   whether a recorded stream showed its user the right rows
 
 powersync COMMAND --help says more of one command. docs/FORMATS.md has the files, the texts and the statuses.
 Example: powersync rows examples/todo/rules.yaml examples/todo/changes.jsonl examples/todo/ann.json
@@ -60,6 +61,13 @@ Prints rows as `rows` does, from a file in which a first copy of tables runs bes
 Example: powersync snapshot examples/first/rules.yaml examples/first/lines.jsonl examples/first/ann.json
 ";
 
+const AUDIT: &str = "powersync audit RULES CHANGES CLAIMS STREAM
+
+Judges a recorded stream without a service: a line for each checkpoint that it completed, then `yes` and their number, or the line that breaks it and how, status 15.
+The first line of the stream file is the body of the stream's request, and names no bucket. The other lines are the stream's.
+Example: powersync audit rules.yaml changes.jsonl claims.json recorded.jsonl
+";
+
 /// The text for words that ask for help or for the version and for nothing else: `--help`, `-h` or `--version` alone, or a command's name and
 /// `--help`. None for all other words.
 pub(crate) fn help_for(words: &[Text]) -> Option<&'static str> {
@@ -89,6 +97,7 @@ fn help_of(command: &str) -> Option<&'static str> {
         "token" => Some(TOKEN),
         "generate" => Some(GENERATE),
         "snapshot" => Some(SNAPSHOT),
+        "audit" => Some(AUDIT),
         _ => None,
     }
 }

@@ -11,7 +11,8 @@ use Rattle.ps_token.specs.declared.key_lists.Key.{Key}
 use Rattle.ps_files.specs.declared.faults.Fault.{Fault}
 use Rattle.ps_files.specs.declared.faults.Fault.TheVariants.{Usage, Rules, Change, PastLimit, TooManyBuckets, Claims, Keys, TooLong, CannotRead, CannotWrite, Script, Memory}
 use Rattle.ps_files.specs.HeldFiles.{file_limit, rules_limit, HoldsWithin}
-use Rattle.ps_commands.specs.Commands.{Names, Inputs, check, rows, compact, token, generate, generate_lines, command_of, ReadsRules, ReadsAsker, ReadsKeyFile, Role, for_rules, for_keys, for_claims, for_changes, for_script, limit_of, ComesTo, FirstFits, ReadsRulesAndClaims, Reaches, Command, replay, Means, MeansRows, MeansCompact, Begins, Outside, Kept, Caused, reading, Finds}
+use Rattle.ps_commands.specs.Commands.{Names, Inputs, check, rows, compact, token, generate, generate_lines, audit, Recording, command_of, ReadsRules, ReadsAsker, ReadsKeyFile, ReadsRising, ReadsAuditor, ReadsSource, Role, for_rules, for_keys, for_claims, for_changes, for_script, for_stream, limit_of, ComesTo, FirstFits, ReadsRulesAndClaims, Reaches, Command, replay, Means, MeansRows, MeansCompact, Begins, Outside, Kept, Caused, reading, Finds}
+use Rattle.ps_audit.specs.declared.verdicts.Verdict.TheVariants.{Yes}
 use Rattle.ps_commands.specs.Replaying.{Game, GivesAll, GivesSome}
 use Rattle.ps_script.specs.Lines.{lines_of}
 use Rattle.ps_rows.specs.declared.changes.Transaction.{Transaction}
@@ -32,28 +33,39 @@ first_fits held (check rules) for_keys name c bytes file = absurd c
 first_fits held (check rules) for_claims name c bytes file = absurd c
 first_fits held (check rules) for_changes name c bytes file = absurd c
 first_fits held (check rules) for_script name c bytes file = absurd c
+first_fits held (check rules) for_stream name c bytes file = absurd c
 first_fits held (rows names) for_rules name c bytes file = (bytes, subst (λ (own : List ℕ). HoldsWithin held own rules_limit bytes) c file)
 first_fits held (rows names) for_keys name c bytes file = absurd c
 first_fits held (rows names) for_claims name c bytes file = (c.2.bytes, c.2.file)
 first_fits held (rows names) for_changes name c bytes file = (c.1.rules_read.bytes, c.1.rules_read.file)
 first_fits held (rows names) for_script name c bytes file = absurd c
+first_fits held (rows names) for_stream name c bytes file = absurd c
 first_fits held (replay names) for_rules name c bytes file = (bytes, subst (λ (own : List ℕ). HoldsWithin held own rules_limit bytes) c file)
 first_fits held (replay names) for_keys name c bytes file = absurd c
 first_fits held (replay names) for_claims name c bytes file = absurd c
 first_fits held (replay names) for_changes name c bytes file = (c.2.bytes, c.2.file)
 first_fits held (replay names) for_script name c bytes file = (c.1.rules_read.bytes, c.1.rules_read.file)
+first_fits held (replay names) for_stream name c bytes file = absurd c
 first_fits held (compact names) for_rules name c bytes file = (bytes, subst (λ (own : List ℕ). HoldsWithin held own rules_limit bytes) c file)
 first_fits held (compact names) for_keys name c bytes file = absurd c
 first_fits held (compact names) for_claims name c bytes file = absurd c
 first_fits held (compact names) for_changes name c bytes file = (c.2.bytes, c.2.file)
 first_fits held (compact names) for_script name c bytes file = absurd c
+first_fits held (compact names) for_stream name c bytes file = absurd c
 first_fits held (token names) for_rules name c bytes file = absurd c
 first_fits held (token names) for_keys name c bytes file = (bytes, subst (λ (own : List ℕ). HoldsWithin held own file_limit bytes) c file)
 first_fits held (token names) for_claims name c bytes file = (c.2.bytes, c.2.file)
 first_fits held (token names) for_changes name c bytes file = absurd c
 first_fits held (token names) for_script name c bytes file = absurd c
+first_fits held (token names) for_stream name c bytes file = absurd c
 first_fits held (generate count) role name c bytes file = absurd c
 first_fits held (generate_lines count) role name c bytes file = absurd c
+first_fits held (audit names) for_rules name c bytes file = (bytes, subst (λ (own : List ℕ). HoldsWithin held own rules_limit bytes) c file)
+first_fits held (audit names) for_keys name c bytes file = absurd c
+first_fits held (audit names) for_claims name c bytes file = (c.2.bytes, c.2.file)
+first_fits held (audit names) for_changes name c bytes file = (c.1.rules_read.bytes, c.1.rules_read.file)
+first_fits held (audit names) for_script name c bytes file = absurd c
+first_fits held (audit names) for_stream name c bytes file = (c.1.before.rules_read.bytes, c.1.before.rules_read.file)
 
 module _ (o : Outside) (mid_held : Option Contents) (mid : ℕ) (words : List (List ℕ)) (role : Role) (name : List ℕ) (same : mid_held ≡ o.held) (risen : o.read_before ≤ mid) (kept : Kept o) (reached : Reaches o.held words role name) where
   here : (bytes : List ℕ) → HoldsWithin mid_held name (limit_of role) bytes → HoldsWithin o.held name (limit_of role) bytes
@@ -223,6 +235,7 @@ begins held (compact names) text means = means
 begins held (token names) text means = means
 begins held (generate count) text means = means
 begins held (generate_lines count) text means = means
+begins held (audit names) text means = record { verdict = Yes means.completed; gives = means.gives; is = means.is }
 
 means_compact : (held mid_held : Option Contents) (mid now : ℕ) (names : Inputs) (rules : RuleSet) (text : Vec ℕ Global) → mid_held ≡ held
     → ReadsRules held names.rules rules

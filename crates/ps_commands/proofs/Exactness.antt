@@ -1,5 +1,5 @@
 -- Where the files tell what they hold, the answer is what they mean.
-use Rattle.std.proofs.Common.{◌≡◌, ◌⊎◌, ℕ, ◌<◌, ◌≤◌, false, cond, List, Option, Some, None, Result, Ok, Err, length, refl, sym, ap, ◌∙◌, subst, arith, inl, inr, leb, ltb, true}
+use Rattle.std.proofs.Common.{◌≡◌, ◌⊎◌, ℕ, ◌<◌, ◌≤◌, false, cond, List, Option, Some, None, Result, Ok, Err, Bool, length, refl, sym, ap, ◌∙◌, subst, arith, inl, inr, leb, ltb, true}
 use Rattle.std.proofs.lemmas.Bool.{le-leb}
 use Rattle.std.proofs.lemmas.Bool.Decides.{nat_tests}
 use Rattle.ps_io.specs.Contents.{Contents, HasLength, Joins, Gains}
@@ -15,7 +15,7 @@ use Rattle.ps_files.specs.declared.faults.Fault.{Fault}
 use Rattle.ps_files.specs.declared.faults.Fault.TheVariants.{Usage, Rules, Change, PastLimit, TooManyBuckets, Claims, Keys, TooLong, CannotRead, CannotWrite, Script, Memory}
 use Rattle.ps_files.specs.declared.faults.LineFault.{LineFault}
 use Rattle.ps_files.specs.declared.faults.ScriptCause.{ScriptCause}
-use Rattle.ps_files.specs.ChangeFiles.{all_transactions_of}
+use Rattle.ps_files.specs.ChangeFiles.{all_transactions_of, rising_transactions_of}
 use Rattle.ps_store.specs.Laws.{last_position}
 use Rattle.ps_store.specs.Limits.{usual_limits}
 use Rattle.ps_files.specs.Checking.{check_text}
@@ -23,12 +23,17 @@ use Rattle.ps_claims.specs.Claims.{asker_of_claims}
 use Rattle.ps_files.specs.FaultTexts.{status_of}
 use Rattle.ps_files.specs.Loading.{unread_name, JoinsThese}
 use Rattle.ps_files.specs.HeldFiles.{rules_limit, file_limit, HoldsWithin}
-use Rattle.ps_commands.specs.Commands.{Names, Inputs, Scripting, Signing, Command, check, rows, replay, compact, token, generate, generate_lines, command_of, ReadsRules, ReadsAsker, ReadsChanges, ReadsTransactions, ReadsGame, ReadsKeyFile, token_text, Means, Prints, Role, for_rules, for_keys, for_claims, for_changes, for_script, limit_of, Reaches, ComesTo, RefusesRules, RefusesKeyFile, HasUnknownKid, RefusesKeys, RefusesClaims, RefusesChanges, RefusesCompaction, RefusesFed, RefusesScript, RefusesLines, HasTooManyBuckets, ExceedsFile, ExceedsLimit, IsNext, BeginsWithin, PrintsFront, PrintsSome, Kept, Outside, Caused, Refusal, exceeds, refused, refusal_status, within_limit, or_refused, or_refused_as, or_none, rules_meant, keys_meant, asker_meant, transactions_meant, rows_meant, all_meant, script_meant, Meant, prints, plays, printing, meaning, IsPlayed, IsAnswer, IsAnswerAlone, IsExact, ◌>>=◌}
+use Rattle.ps_commands.specs.Commands.{Names, Inputs, Scripting, Signing, Command, check, rows, replay, compact, token, generate, generate_lines, audit, Recording, command_of, ReadsRules, ReadsAsker, ReadsChanges, ReadsTransactions, ReadsGame, ReadsKeyFile, ReadsRising, ReadsAuditor, ReadsSource, ReadsRecording, GivesVerdict, token_text, Means, Prints, Role, for_rules, for_keys, for_claims, for_changes, for_script, for_stream, limit_of, Reaches, ComesTo, RefusesRules, RefusesKeyFile, HasUnknownKid, RefusesKeys, RefusesClaims, RefusesChanges, RefusesCompaction, RefusesFed, RefusesRising, HasWide, PrintsNo, Ends, RefusesScript, RefusesLines, HasTooManyBuckets, ExceedsFile, ExceedsLimit, IsNext, BeginsWithin, PrintsFront, PrintsSome, Kept, Outside, Caused, Refusal, exceeds, refused, refusal_status, within_limit, or_refused, or_refused_as, or_none, rules_meant, keys_meant, asker_meant, transactions_meant, rows_meant, all_meant, script_meant, rising_meant, stream_meant, or_wide, Meant, prints, plays, judges, printing, meaning, IsPlayed, IsJudgedSo, IsAnswer, IsAnswerAlone, IsExact, ◌>>=◌}
 use Rattle.ps_due_rows.specs.declared.feedings.Feeding.{Feeding}
 use Rattle.ps_due_rows.specs.declared.feedings.Feeding.TheVariants.{Changes}
 use Rattle.ps_due_rows.specs.Dues.{due, own_buckets}
 use Rattle.ps_due_rows.specs.FirstCopies.{fed_by}
 use Rattle.ps_files.specs.Compacting.{compact_text}
+use Rattle.ps_audit.specs.declared.verdicts.Verdict.{Verdict}
+use Rattle.ps_audit.specs.declared.verdicts.Verdict.TheVariants.{Yes, No}
+use Rattle.ps_audit.specs.Counts.{has_wide}
+use Rattle.ps_audit.specs.Positions.{Case, case_for}
+use Rattle.ps_commands.specs.Auditing.{stream_lines, verdict_text, verdict_status, wide_limit}
 use Rattle.ps_commands.specs.Generating.{generated}
 use Rattle.ps_commands.specs.Replaying.{Game}
 use Rattle.ps_files.specs.RulesFaults.{rules_of_file}
@@ -70,6 +75,12 @@ module _ (held : Contents) (name : List ℕ) where
   all_are : (transactions : List Transaction) → ReadsTransactions (Some held) name transactions → all_meant held name ≡ Ok transactions
   all_are transactions r = all_from_file r.bytes r.file ∙ ap or_refused r.read
 
+  rising_from_file : (bytes : List ℕ) → HoldsWithin (Some held) name file_limit bytes → rising_meant held name ≡ or_refused (rising_transactions_of bytes)
+  rising_from_file bytes file = ap (λ x. x >>= λ bytes. or_refused (rising_transactions_of bytes)) (fits held name file_limit bytes file)
+
+  rising_are : (transactions : List Transaction) → ReadsRising (Some held) name transactions → rising_meant held name ≡ Ok transactions
+  rising_are transactions r = rising_from_file r.bytes r.file ∙ ap or_refused r.read
+
   rules_are : (rules : RuleSet) → ReadsRules (Some held) name rules → rules_meant held name ≡ Ok rules
   rules_are rules r = rules_from r.bytes r.file ∙ ap or_refused r.read
 
@@ -89,7 +100,9 @@ module _ (held : Contents) (name : List ℕ) where
   IsRefusedIn for_keys refusal = keys_meant held name ≡ Err refusal
   IsRefusedIn for_claims refusal = asker_meant held name ≡ Err refusal
   IsRefusedIn for_changes refusal = ((feeding : Feeding) (rules : RuleSet) → transactions_meant held feeding rules name ≡ Err refusal) × (all_meant held name ≡ Err refusal)
+      × (rising_meant held name ≡ Err refusal)
   IsRefusedIn for_script refusal = script_meant held name ≡ Err refusal
+  IsRefusedIn for_stream refusal = stream_meant held name ≡ Err refusal
 
   too_long : (role : Role) (seen : ℕ) → limit_of role < seen → HasLength (Some held) name seen → IsRefusedIn role exceeds
   too_long for_rules seen more file = ap (λ x. x >>= λ bytes. or_refused (rules_of_file bytes)) (exceeds_by held name rules_limit seen more file)
@@ -98,8 +111,10 @@ module _ (held : Contents) (name : List ℕ) where
   too_long for_changes seen more file = (
     λ feeding rules. ap (λ x. x >>= λ bytes. or_refused (fed_by feeding rules bytes)) (exceeds_by held name file_limit seen more file),
     ap (λ x. x >>= λ bytes. or_refused (all_transactions_of bytes)) (exceeds_by held name file_limit seen more file),
+    ap (λ x. x >>= λ bytes. or_refused (rising_transactions_of bytes)) (exceeds_by held name file_limit seen more file),
   )
   too_long for_script seen more file = exceeds_by held name file_limit seen more file
+  too_long for_stream seen more file = exceeds_by held name file_limit seen more file
 
 -- the rows of an asker who has no more buckets than an asker may have, and of one who has
 rows_are : (rules : RuleSet) (asker : Asker) (transactions : List Transaction) → length (own_buckets rules asker transactions) ≤ usual_limits.buckets
@@ -158,6 +173,34 @@ module _ (held : Contents) where
   abbrev keys_left : Signing → Result (List Key) Refusal → Result Meant Refusal
   keys_left names r = r >>= λ keys. signing_left names keys (asker_meant held names.claims)
 
+  abbrev judged_left : RuleSet → Asker → List Transaction → Result (List ℕ) Refusal → Result Meant Refusal
+  judged_left rules asker transactions r = r >>= λ stream. or_wide (has_wide rules.definitions transactions) (judges (case_for rules transactions asker) (stream_lines stream))
+
+  abbrev rising_left : Recording → RuleSet → Asker → Result (List Transaction) Refusal → Result Meant Refusal
+  rising_left names rules asker r = r >>= λ transactions. judged_left rules asker transactions (stream_meant held names.stream)
+
+  abbrev auditor_left : Recording → RuleSet → Result Asker Refusal → Result Meant Refusal
+  auditor_left names rules r = r >>= λ asker. rising_left names rules asker (rising_meant held names.changes)
+
+  abbrev audit_left : Recording → Result RuleSet Refusal → Result Meant Refusal
+  audit_left names r = r >>= λ rules. auditor_left names rules (asker_meant held names.claims)
+
+  past_audited : (names : Recording) (rules : RuleSet) → ReadsRules (Some held) names.rules rules → meaning held (audit names) ≡ auditor_left names rules (asker_meant held names.claims)
+  past_audited names rules r = ap (audit_left names) (rules_are held names.rules rules r)
+
+  past_auditor : (names : Recording) (b : ReadsAuditor (Some held) names) → meaning held (audit names) ≡ rising_left names b.rules b.asker (rising_meant held names.changes)
+  past_auditor names b = past_audited names b.rules b.rules_read ∙ ap (auditor_left names b.rules) (asker_is held names.claims b.asker b.claims_read)
+
+  past_source : (names : Recording) (s : ReadsSource (Some held) names) → meaning held (audit names) ≡ judged_left s.before.rules s.before.asker s.transactions (stream_meant held names.stream)
+  past_source names s = past_auditor names s.before ∙ ap (rising_left names s.before.rules s.before.asker) (rising_are held names.changes s.transactions s.changes_read)
+
+  past_recording : (names : Recording) (f : ReadsRecording (Some held) names) (wide : Bool) → has_wide f.source.before.rules.definitions f.source.transactions ≡ wide
+      → meaning held (audit names) ≡ or_wide wide (judges (case_for f.source.before.rules f.source.transactions f.source.before.asker) (stream_lines f.stream))
+  past_recording names f wide is =
+      past_source names f.source
+      ∙ ap (judged_left f.source.before.rules f.source.before.asker f.source.transactions) (fits held names.stream file_limit f.stream f.stream_read)
+      ∙ ap (λ b. or_wide b (judges (case_for f.source.before.rules f.source.transactions f.source.before.asker) (stream_lines f.stream))) is
+
   past_rules : (names : Names) (rules : RuleSet) → ReadsRules (Some held) names.rules rules → meaning held (rows names) ≡ claims_left rules names (asker_meant held names.claims)
   past_rules names rules r = ap (rules_left names) (rules_are held names.rules rules r)
 
@@ -213,6 +256,12 @@ module _ (held : Contents) where
       a_text (token names) text (past_signing names m.keys m.asker m.keys_read m.claims_read ∙ ap (λ k. key_left names m.asker (or_none Keys k)) m.found ∙ ap said (sym m.is))
   means_that (generate count) text m = a_text (generate count) text (ap (λ r. printing (or_refused r)) m)
   means_that (generate_lines count) text m = a_text (generate_lines count) text (ap said (sym m))
+  means_that (audit names) text m =
+      let f = m.gives.files in (
+        judges (case_for f.source.before.rules f.source.transactions f.source.before.asker) (stream_lines f.stream),
+        past_recording names f false m.gives.judged.narrow,
+        λ old new gains. inl (Yes m.completed, m.gives.judged.is, refl, subst (Gains old new) m.is gains),
+      )
 
   -- where the file that comes next is refused, so is the command
   refused_at : (command : Command) (role : Role) (name : List ℕ) (refusal : Refusal) → ComesTo (Some held) command role name → IsRefusedIn held name role refusal → meaning held command ≡ Err refusal
@@ -221,6 +270,7 @@ module _ (held : Contents) where
   refused_at (check rules) for_claims name refusal h r = absurd h
   refused_at (check rules) for_changes name refusal h r = absurd h
   refused_at (check rules) for_script name refusal h r = absurd h
+  refused_at (check rules) for_stream name refusal h r = absurd h
   refused_at (rows names) for_rules name refusal h r = ap (rules_left names) (subst (λ n. rules_meant held n ≡ Err refusal) h r)
   refused_at (rows names) for_keys name refusal h r = absurd h
   refused_at (rows names) for_claims name refusal h r =
@@ -228,6 +278,7 @@ module _ (held : Contents) where
   refused_at (rows names) for_changes name refusal h r =
       past_claims names h.1.rules h.1.asker h.1.rules_read h.1.claims_read ∙ ap (changes_left h.1.rules h.1.asker) (subst (λ n. transactions_meant held names.feeding h.1.rules n ≡ Err refusal) h.0 (r.0 names.feeding h.1.rules))
   refused_at (rows names) for_script name refusal h r = absurd h
+  refused_at (rows names) for_stream name refusal h r = absurd h
   refused_at (replay names) for_rules name refusal h r = ap (replay_rules names) (subst (λ n. rules_meant held n ≡ Err refusal) h r)
   refused_at (replay names) for_keys name refusal h r = absurd h
   refused_at (replay names) for_claims name refusal h r = absurd h
@@ -236,25 +287,38 @@ module _ (held : Contents) where
   refused_at (replay names) for_script name refusal h r =
       past_fed names h.1.rules h.1.transactions h.1.rules_read h.1.changes_read
       ∙ ap (script_left h.1.rules h.1.transactions) (subst (λ n. script_meant held n ≡ Err refusal) h.0 r)
+  refused_at (replay names) for_stream name refusal h r = absurd h
   refused_at (compact names) for_rules name refusal h r = ap (compact_rules names) (subst (λ n. rules_meant held n ≡ Err refusal) h r)
   refused_at (compact names) for_keys name refusal h r = absurd h
   refused_at (compact names) for_claims name refusal h r = absurd h
   refused_at (compact names) for_changes name refusal h r =
       past_inputs names h.1 h.2 ∙ ap (compact_left h.1) (subst (λ n. transactions_meant held Changes h.1 n ≡ Err refusal) h.0 (r.0 Changes h.1))
   refused_at (compact names) for_script name refusal h r = absurd h
+  refused_at (compact names) for_stream name refusal h r = absurd h
   refused_at (token names) for_rules name refusal h r = absurd h
   refused_at (token names) for_keys name refusal h r = ap (keys_left names) (subst (λ n. keys_meant held n ≡ Err refusal) h r)
   refused_at (token names) for_claims name refusal h r = past_keys names h.1 h.2 ∙ ap (signing_left names h.1) (subst (λ n. asker_meant held n ≡ Err refusal) h.0 r)
   refused_at (token names) for_changes name refusal h r = absurd h
   refused_at (token names) for_script name refusal h r = absurd h
+  refused_at (token names) for_stream name refusal h r = absurd h
   refused_at (generate count) role name refusal h r = absurd h
   refused_at (generate_lines count) role name refusal h r = absurd h
+  refused_at (audit names) for_rules name refusal h r = ap (audit_left names) (subst (λ n. rules_meant held n ≡ Err refusal) h r)
+  refused_at (audit names) for_keys name refusal h r = absurd h
+  refused_at (audit names) for_claims name refusal h r =
+      past_audited names h.1 h.2 ∙ ap (auditor_left names h.1) (subst (λ n. asker_meant held n ≡ Err refusal) h.0 r)
+  refused_at (audit names) for_changes name refusal h r =
+      past_auditor names h.1 ∙ ap (rising_left names h.1.rules h.1.asker) (subst (λ n. rising_meant held n ≡ Err refusal) h.0 r.2)
+  refused_at (audit names) for_script name refusal h r = absurd h
+  refused_at (audit names) for_stream name refusal h r =
+      past_source names h.1 ∙ ap (judged_left h.1.before.rules h.1.before.asker h.1.transactions) (subst (λ n. stream_meant held n ≡ Err refusal) h.0 r)
 
 -- ---- the answer is what the files mean
 
 wanting : (m : Result Meant Refusal) (old new : Option (List ℕ)) (status : ℕ) → status ≡ 8 → new ≡ old → IsAnswer m old new status
 wanting (Ok (prints text)) old new status h kept = inr (h, kept)
 wanting (Ok (plays game)) old new status h kept = inr (inr (h, inl kept))
+wanting (Ok (judges case lines)) old new status h kept = inr (h, kept)
 wanting (Err refusal) old new status h kept = inr (h, kept)
 
 -- the words are one command alone
@@ -272,6 +336,7 @@ alone (compact names) text old new means gains = tt
 alone (token names) text old new means gains = tt
 alone (generate count) text old new means gains = rw means (inl (refl, gains))
 alone (generate_lines count) text old new means gains = inl (refl, subst (Gains old new) means gains)
+alone (audit names) text old new means gains = tt
 
 pub exact_ok : (held : Option Contents) (words : List (List ℕ)) (old new : Option (List ℕ)) → Prints held words old new → IsExact held words old new 0
 exact_ok None words old new p = λ command is.
@@ -279,6 +344,16 @@ exact_ok None words old new p = λ command is.
 exact_ok (Some held) words old new p = λ command is.
     let m = means_that held p.command p.text p.means in
     at_command held words command p.command (Ok m.0) old new 0 is p.is m.1 (m.2 old new p.printed)
+
+-- the verdict No is an answer that its files mean
+pub exact_no : (held : Option Contents) (words : List (List ℕ)) (old new : Option (List ℕ)) → PrintsNo held words old new → IsExact held words old new 15
+exact_no None words old new p = λ command is.
+    subst (λ c. IsAnswerAlone c old new 15) (same_value (command_of words) (audit p.names) command p.is is) tt
+exact_no (Some held) words old new p = λ command is.
+    let f = p.gives.files in
+    let case = case_for f.source.before.rules f.source.transactions f.source.before.asker in
+    at_command held words command (audit p.names) (Ok (judges case (stream_lines f.stream))) old new 15 is p.is
+    (past_recording held p.names f false p.gives.judged.narrow) (inl (No p.completed p.line p.kind, p.gives.judged.is, refl, p.printed))
 
 abbrev outside : Contents → ℕ → ℕ → Option (List ℕ) → Option (List ℕ) → ℕ → ℕ → Outside
 outside held read_before read_now old new write_before write_now =
@@ -325,10 +400,23 @@ module _ (held : Contents) (words : List (List ℕ)) (command : Command) (is : c
   want_answer (inl k) s = wanting (meaning held command) old new status s k.0
   want_answer (inr p) s = game_answer p.names p.begins.game p.is p.begins.read (inr (inr (s, inr (p.text, p.begins.gives, p.printed))))
 
+  rising_answer : (fault : Fault) → RefusesRising (Some held) words fault → (status ≡ status_of fault) × (new ≡ old) → IsAnswer (meaning held command) old new status
+  rising_answer fault r h =
+      at_command held words command (audit r.names) (Err (refused fault)) old new status is r.is
+      (past_auditor held r.names r.before
+      ∙ ap (rising_left held r.names r.before.rules r.before.asker) (rising_from_file held r.names.changes r.bytes r.file ∙ ap or_refused r.refused)) (inl h)
+
+  wide_answer : (fault : Fault) → HasWide (Some held) words fault → (status ≡ status_of fault) × (new ≡ old) → IsAnswer (meaning held command) old new status
+  wide_answer fault r h =
+      at_command held words command (audit r.names) (Err (refused fault)) old new status is r.is
+      (past_recording held r.names r.files true r.wide ∙ ap (λ f. Err (refused f)) (sym r.fault_is)) (inl h)
+
   lines_answer : (fault : Fault) → RefusesLines (Some held) words fault → (status ≡ status_of fault) × (new ≡ old) → IsAnswer (meaning held command) old new status
   lines_answer fault (inl r) h = changes_answer fault r h
   lines_answer fault (inr (inl r)) h = compaction_answer fault r h
-  lines_answer fault (inr (inr r)) h = fed_answer fault r h
+  lines_answer fault (inr (inr (inl r))) h = fed_answer fault r h
+  lines_answer fault (inr (inr (inr (inl r)))) h = rising_answer fault r h
+  lines_answer fault (inr (inr (inr (inr r)))) h = wide_answer fault r h
 
   buckets_answer : (count : ℕ) → HasTooManyBuckets (Some held) words count → (status ≡ 5) × (new ≡ old) → IsAnswer (meaning held command) old new status
   buckets_answer count r h =
@@ -378,6 +466,7 @@ module _ (words : List (List ℕ)) (old new : Option (List ℕ)) (status : ℕ) 
   ReadsNone (token names) = ⊥
   ReadsNone (generate count) = Unit {0}
   ReadsNone (generate_lines count) = Unit {0}
+  ReadsNone (audit names) = ⊥
 
   module _ (command : Command) (is : command_of words ≡ Some command) where
     abbrev Answer : Type 0
@@ -394,6 +483,7 @@ module _ (words : List (List ℕ)) (old new : Option (List ℕ)) (status : ℕ) 
       by (token names) e = tt
       by (generate count) e = absurd (none (subst ReadsNone (sym e) tt))
       by (generate_lines count) e = absurd (none (subst ReadsNone (sym e) tt))
+      by (audit names) e = tt
 
     comes_to_none : (own : Command) (role : Role) (name : List ℕ) → ComesTo None own role name → ReadsNone own → ⊥
     comes_to_none (check file) role name comes none = none
@@ -403,6 +493,7 @@ module _ (words : List (List ℕ)) (old new : Option (List ℕ)) (status : ℕ) 
     comes_to_none (token names) role name comes none = none
     comes_to_none (generate count) role name comes none = comes
     comes_to_none (generate_lines count) role name comes none = comes
+    comes_to_none (audit names) role name comes none = none
 
     of_reached : (role : Role) (name : List ℕ) → Reaches None words role name → Answer
     of_reached role name r = of_other r.command r.is (comes_to_none r.command role name r.comes)
@@ -410,7 +501,9 @@ module _ (words : List (List ℕ)) (old new : Option (List ℕ)) (status : ℕ) 
     of_lines : (fault : Fault) → RefusesLines None words fault → Answer
     of_lines fault (inl r) = of_other (rows r.names) r.is (λ none. none)
     of_lines fault (inr (inl r)) = of_other (compact r.names) r.is (λ none. none)
-    of_lines fault (inr (inr r)) = of_other (replay r.names) r.is (λ none. none)
+    of_lines fault (inr (inr (inl r))) = of_other (replay r.names) r.is (λ none. none)
+    of_lines fault (inr (inr (inr (inl r)))) = of_other (audit r.names) r.is (λ none. none)
+    of_lines fault (inr (inr (inr (inr r)))) = of_other (audit r.names) r.is (λ none. none)
 
     of_keys : RefusesKeys None words → Answer
     of_keys (inl r) = of_reached for_keys r.name r.reached
@@ -426,6 +519,7 @@ module _ (words : List (List ℕ)) (old new : Option (List ℕ)) (status : ℕ) 
       by (token names) = tt
       by (generate count) = wanting (printing (or_refused (generated count))) old new status s kept
       by (generate_lines count) = inr (s, kept)
+      by (audit names) = tt
 
     alone_answer : (read_before read_now : ℕ) (write_before write_now : ℕ) → ¬ (Rose read_before read_now) → ¬ (Rose write_before write_now)
         → (fault : Fault) → Caused (record { held = None; read_before = read_before; read_now = read_now; taken_before = old; taken_now = new; write_before = write_before; write_now = write_now }) words fault → status ≡ status_of fault
@@ -603,6 +697,32 @@ kept_by o words status CannotWrite c s seven eight nine = absurd (seven s)
 kept_by o words status (Script line why) c s seven eight nine = absurd (nine s)
 kept_by o words status Memory c s seven eight nine = absurd (eight s)
 
+-- ---- statuses of faults
+
+fault_status : (fault : Fault) → (1 ≤ status_of fault) × (status_of fault ≤ 9)
+fault_status Usage = (omega arith, omega arith)
+fault_status (Rules line column why) = (omega arith, omega arith)
+fault_status (Change line why) = (omega arith, omega arith)
+fault_status (PastLimit limit) = (omega arith, omega arith)
+fault_status (TooManyBuckets count) = (omega arith, omega arith)
+fault_status Claims = (omega arith, omega arith)
+fault_status Keys = (omega arith, omega arith)
+fault_status (TooLong seen) = (omega arith, omega arith)
+fault_status (CannotRead name) = (omega arith, omega arith)
+fault_status CannotWrite = (omega arith, omega arith)
+fault_status (Script line why) = (omega arith, omega arith)
+fault_status Memory = (omega arith, omega arith)
+
+pub known_by : (status : ℕ) (fault : Fault) → status ≡ status_of fault → (status ≤ 9) ⊎ (status ≡ 15)
+known_by status fault s = let b = fault_status fault in inl (omega (arith, s, b.1))
+
+pub not_altered : (status : ℕ) (fault : Fault) → status ≡ status_of fault → status ≡ 15 → ⊥
+not_altered status fault s h = let b = fault_status fault in omega (arith, s, h, b.1)
+
+pub not_quiet : (status : ℕ) (fault : Fault) → status ≡ status_of fault → (status ≡ 0) ⊎ (status ≡ 15) → ⊥
+not_quiet status fault s (inl h) = let b = fault_status fault in omega (arith, s, h, b.0)
+not_quiet status fault s (inr h) = not_altered status fault s h
+
 -- ---- words that are no command
 
 pub usage_by : (o : Outside) (words : List (List ℕ)) (status : ℕ) (fault : Fault) → Caused o words fault → status ≡ status_of fault → status ≡ 1 → command_of words ≡ None
@@ -626,7 +746,9 @@ module _ (held : Option Contents) (words : List (List ℕ)) (none : command_of w
   not_lines : (fault : Fault) → RefusesLines held words fault → ⊥
   not_lines fault (inl r) = not_any (rows r.names) r.is
   not_lines fault (inr (inl r)) = not_any (compact r.names) r.is
-  not_lines fault (inr (inr r)) = not_any (replay r.names) r.is
+  not_lines fault (inr (inr (inl r))) = not_any (replay r.names) r.is
+  not_lines fault (inr (inr (inr (inl r)))) = not_any (audit r.names) r.is
+  not_lines fault (inr (inr (inr (inr r)))) = not_any (audit r.names) r.is
 
   not_keys : RefusesKeys held words → ⊥
   not_keys (inl r) = not_any r.reached.command r.reached.is

@@ -5,3 +5,4 @@ pub mod Exactness
 pub mod Missed
 pub mod Replays
 pub mod Summaries
+pub mod Verdicts

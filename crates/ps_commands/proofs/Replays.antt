@@ -1,5 +1,5 @@
 -- Why `replay` ends as it does.
-use Rattle.std.proofs.Common.{inr, ◌≡◌, ℕ, ◌≤◌, List, ◌∷◌, Option, Some, Result, Ok, Err, refl, sym, subst, Vec}
+use Rattle.std.proofs.Common.{inl, inr, ◌≡◌, ℕ, ◌≤◌, List, ◌∷◌, Option, Some, Result, Ok, Err, refl, sym, subst, Vec}
 use Rattle.std.specs.declared.alloc.Global.{Global}
 use Rattle.ps_io.specs.Contents.{Contents}
 use Rattle.ps_rows.specs.declared.changes.Transaction.{Transaction}
@@ -58,8 +58,8 @@ module _ (o : Outside) (words : List (List ℕ)) (names : Scripting) (is : comma
     pub fed_refused : (fault : Fault) (bytes : List ℕ) → HoldsWithin o.held names.changes file_limit bytes → IsTransactionsFault fault bytes → Caused o words fault
     fed_refused Usage bytes file h = absurd h
     fed_refused (Rules line column why) bytes file h = absurd h
-    fed_refused (Change line why) bytes file h = (kept, inr (inr (record { names = names; is = is; rules = rules; rules_read = rules_read; bytes = bytes; file = file; refused = h })))
-    fed_refused (PastLimit limit) bytes file h = (kept, inr (inr (record { names = names; is = is; rules = rules; rules_read = rules_read; bytes = bytes; file = file; refused = h })))
+    fed_refused (Change line why) bytes file h = (kept, inr (inr (inl (record { names = names; is = is; rules = rules; rules_read = rules_read; bytes = bytes; file = file; refused = h }))))
+    fed_refused (PastLimit limit) bytes file h = (kept, inr (inr (inl (record { names = names; is = is; rules = rules; rules_read = rules_read; bytes = bytes; file = file; refused = h }))))
     fed_refused (TooManyBuckets count) bytes file h = absurd h
     fed_refused Claims bytes file h = absurd h
     fed_refused Keys bytes file h = absurd h

@@ -53,7 +53,7 @@ gains_same old mid new text gains same = same ∙ gains
 abbrev pub Splits : List ℕ → List ℕ → Option (Bor (List ℕ)) → Type 0
 Splits bytes line rest = MatchOption rest (lines_of bytes ≡ line ∷ []) (λ more. (lines_of bytes ≡ line ∷ lines_of more.now) × (length more.now < length bytes))
 
-lines_split : (bytes line : List ℕ) (rest : Option (Bor (List ℕ))) → Splits bytes line rest → lines_of bytes ≡ line ∷ lines_left rest
+pub lines_split : (bytes line : List ℕ) (rest : Option (Bor (List ℕ))) → Splits bytes line rest → lines_of bytes ≡ line ∷ lines_left rest
 lines_split bytes line None is = is
 lines_split bytes line (Some more) is = is.0
 

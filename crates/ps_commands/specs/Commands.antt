@@ -1,5 +1,5 @@
--- The commands `check`, `rows`, `snapshot`, `replay`, `compact`, `token` and `generate`: their words, what their files mean, and the cause of each answer.
-use Rattle.std.specs.Prelude.{◌≡◌, ◌⊎◌, ℕ, ◌<◌, ◌≤◌, nat_le, ◌&&◌, List, [], ◌∷◌, ◌++◌, length, codes, bytes_eq, Option, Some, None, option_map, Result, Ok, Err, if◌then◌else◌, Vec}
+-- The commands `check`, `rows`, `snapshot`, `replay`, `compact`, `token`, `generate` and `audit`: their words, what their files mean, and the cause of each answer.
+use Rattle.std.specs.Prelude.{◌≡◌, ◌⊎◌, Bool, true, false, ℕ, ◌<◌, ◌≤◌, nat_le, ◌&&◌, List, [], ◌∷◌, ◌++◌, length, codes, bytes_eq, Option, Some, None, option_map, Result, Ok, Err, if◌then◌else◌, Vec}
 use Rattle.std.specs.declared.alloc.Global.{Global}
 use Rattle.ps_io.specs.Contents.{Contents, HasLength, Gains, GainsFront}
 use Rattle.ps_io.specs.Counts.{Rose}
@@ -17,7 +17,7 @@ use Rattle.ps_files.specs.declared.faults.Fault.{Fault}
 use Rattle.ps_files.specs.declared.faults.Fault.TheVariants.{Usage, Rules, Change, PastLimit, TooManyBuckets, Claims, Keys, TooLong, CannotRead, CannotWrite, Script, Memory}
 use Rattle.ps_files.specs.declared.faults.Limit.{Limit}
 use Rattle.ps_files.specs.declared.faults.ScriptCause.{ScriptCause}
-use Rattle.ps_files.specs.ChangeFiles.{all_transactions_of}
+use Rattle.ps_files.specs.ChangeFiles.{all_transactions_of, rising_transactions_of}
 use Rattle.ps_files.specs.FaultTexts.{status_of}
 use Rattle.ps_files.specs.HeldFiles.{rules_limit, file_limit, HoldsWithin}
 use Rattle.ps_files.specs.Making.{count_of, made_limit}
@@ -32,6 +32,16 @@ use Rattle.ps_due_rows.specs.declared.feedings.Feeding.{Feeding}
 use Rattle.ps_due_rows.specs.declared.feedings.Feeding.TheVariants.{Changes, FirstCopy}
 use Rattle.ps_due_rows.specs.Dues.{due, own_buckets, rows_after}
 use Rattle.ps_due_rows.specs.FirstCopies.{fed_by}
+use Rattle.ps_audit.specs.declared.verdicts.Broken.{Broken}
+use Rattle.ps_audit.specs.declared.verdicts.Judged.{Judged}
+use Rattle.ps_audit.specs.declared.verdicts.Verdict.{Verdict}
+use Rattle.ps_audit.specs.declared.verdicts.Verdict.TheVariants.{Yes, No}
+use Rattle.ps_audit.specs.Counts.{has_wide}
+use Rattle.ps_audit.specs.Judging.{IsVerdict}
+use Rattle.ps_audit.specs.Positions.{Case, case_for}
+use Rattle.ps_commands.specs.declared.endings.Ending.{Ending}
+use Rattle.ps_commands.specs.declared.endings.Ending.TheVariants.{Done, Altered}
+use Rattle.ps_commands.specs.Auditing.{verdict_text, verdict_status, stream_lines, JudgesSo, wide_limit}
 use Rattle.ps_commands.specs.Generating.{generated}
 use Rattle.ps_commands.specs.Replaying.{Game, GivesAll, GivesSome, GivesUntil}
 use Rattle.ps_files.specs.RulesFaults.{rules_of_file}
@@ -53,6 +63,13 @@ pub record Scripting : Type 0 where
   pub changes : List ℕ
   pub script : List ℕ
 
+-- the files that `audit` names: those of `rows`, and a recorded stream
+pub record Recording : Type 0 where
+  pub rules : List ℕ
+  pub changes : List ℕ
+  pub claims : List ℕ
+  pub stream : List ℕ
+
 -- the files that `compact` names
 pub record Inputs : Type 0 where
   pub rules : List ℕ
@@ -73,9 +90,10 @@ pub data Command : Type 0 where
   token : Signing → Command
   generate : ℕ → Command
   generate_lines : ℕ → Command
+  audit : Recording → Command
 
 -- the words `check RULES`, `rows RULES CHANGES CLAIMS`, `snapshot RULES LINES CLAIMS`, `replay RULES CHANGES SCRIPT`, `compact RULES CHANGES`, `token KEYS KID CLAIMS`,
--- `generate N` or `generate N lines`, and no others
+-- `generate N`, `generate N lines` or `audit RULES CHANGES CLAIMS STREAM`, and no others
 abbrev pub command_of : List (List ℕ) → Option Command
 command_of [] = None
 command_of (w ∷ []) = None
@@ -90,7 +108,9 @@ command_of (w ∷ a ∷ b ∷ c ∷ []) =
     if bytes_eq w (codes "snapshot") then Some (rows (record { feeding = FirstCopy; rules = a; changes = b; claims = c })) else
     if bytes_eq w (codes "token") then Some (token (record { keys = a; kid = b; claims = c })) else
     if bytes_eq w (codes "replay") then Some (replay (record { rules = a; changes = b; script = c })) else None
-command_of (w ∷ a ∷ b ∷ c ∷ d ∷ more) = None
+command_of (w ∷ a ∷ b ∷ c ∷ d ∷ []) =
+    if bytes_eq w (codes "audit") then Some (audit (record { rules = a; changes = b; claims = c; stream = d })) else None
+command_of (w ∷ a ∷ b ∷ c ∷ d ∷ e ∷ more) = None
 
 -- what a command of the program's code is
 abbrev pub named : CommandSeen → Command
@@ -101,6 +121,7 @@ named (coded.Compact rules changes) = compact (record { rules = rules.now; chang
 named (coded.Token keys kid claims) = token (record { keys = keys.now; kid = kid.now; claims = claims.now })
 named (coded.Generate count) = generate count
 named (coded.GenerateLines count) = generate_lines count
+named (coded.Audit rules changes claims stream) = audit (record { rules = rules.now; changes = changes.now; claims = claims.now; stream = stream.now })
 
 -- as many transactions as may be made
 abbrev pub IsMade : CommandSeen → Type 0
@@ -111,6 +132,7 @@ IsMade (coded.Compact rules changes) = Unit {0}
 IsMade (coded.Token keys kid claims) = Unit {0}
 IsMade (coded.Generate count) = count ≤ made_limit
 IsMade (coded.GenerateLines count) = count ≤ made_limit
+IsMade (coded.Audit rules changes claims stream) = Unit {0}
 
 -- ---- files
 
@@ -137,6 +159,30 @@ pub record ReadsTransactions (held : Option Contents) (name : List ℕ) (transac
   pub bytes : List ℕ
   pub file : HoldsWithin held name file_limit bytes
   pub read : all_transactions_of bytes ≡ Ok transactions
+
+-- a change file is read as those transactions, whose positions rise, whatever limits they pass
+pub record ReadsRising (held : Option Contents) (name : List ℕ) (transactions : List Transaction) : Type 0 where
+  pub bytes : List ℕ
+  pub file : HoldsWithin held name file_limit bytes
+  pub read : rising_transactions_of bytes ≡ Ok transactions
+
+-- the files of `audit` before the change file are read, and those before the stream
+pub record ReadsAuditor (held : Option Contents) (names : Recording) : Type 0 where
+  pub rules : RuleSet
+  pub asker : Asker
+  pub rules_read : ReadsRules held names.rules rules
+  pub claims_read : ReadsAsker held names.claims asker
+
+pub record ReadsSource (held : Option Contents) (names : Recording) : Type 0 where
+  pub before : ReadsAuditor held names
+  pub transactions : List Transaction
+  pub changes_read : ReadsRising held names.changes transactions
+
+-- all of them are read
+pub record ReadsRecording (held : Option Contents) (names : Recording) : Type 0 where
+  pub source : ReadsSource held names
+  pub stream : List ℕ
+  pub stream_read : HoldsWithin held names.stream file_limit stream
 
 -- the files of `replay` are read as that
 pub record ReadsGame (held : Option Contents) (names : Scripting) (game : Game) : Type 0 where
@@ -204,6 +250,23 @@ pub record MeansToken (held : Option Contents) (names : Signing) (text : List �
   pub found : key_of names.kid keys ≡ Some key
   pub is : text ≡ token_text key names.kid asker
 
+-- the files of `audit` are read, and that is the verdict on the stream
+pub record GivesVerdict (held : Option Contents) (names : Recording) (verdict : Verdict) : Type 0 where
+  pub files : ReadsRecording held names
+  pub judged : JudgesSo files.source.before.rules files.source.transactions files.source.before.asker files.stream verdict
+
+-- `audit`: the verdict is Yes
+pub record MeansAudit (held : Option Contents) (names : Recording) (text : List ℕ) : Type 0 where
+  pub completed : List Judged
+  pub gives : GivesVerdict held names (Yes completed)
+  pub is : text ≡ verdict_text (Yes completed)
+
+-- whatever the verdict is
+pub record BeginsAudit (held : Option Contents) (names : Recording) (text : List ℕ) : Type 0 where
+  pub verdict : Verdict
+  pub gives : GivesVerdict held names verdict
+  pub is : text ≡ verdict_text verdict
+
 -- the files of a command are read, and it prints that text
 abbrev pub Means : Option Contents → Command → List ℕ → Type 0
 Means held (check name) text = MeansCheck held name text
@@ -213,8 +276,10 @@ Means held (compact names) text = MeansCompact held names text
 Means held (token names) text = MeansToken held names text
 Means held (generate count) text = generated count ≡ Ok text
 Means held (generate_lines count) text = text ≡ lines_text (made_input count)
+Means held (audit names) text = MeansAudit held names text
 
--- what a command may be about to print: `replay` prints the text of each line before it looks at the next, and any other all at once
+-- what a command may be about to print: `replay` prints the text of each line before it looks at the next, and any other all at once; `audit`
+-- prints its verdict, whatever it is
 abbrev pub Begins : Option Contents → Command → List ℕ → Type 0
 Begins held (check name) text = Means held (check name) text
 Begins held (rows names) text = Means held (rows names) text
@@ -223,6 +288,7 @@ Begins held (compact names) text = Means held (compact names) text
 Begins held (token names) text = Means held (token names) text
 Begins held (generate count) text = Means held (generate count) text
 Begins held (generate_lines count) text = Means held (generate_lines count) text
+Begins held (audit names) text = BeginsAudit held names text
 
 -- the output took exactly what the command prints
 pub record Prints (held : Option Contents) (words : List (List ℕ)) (old new : Option (List ℕ)) : Type 0 where
@@ -248,6 +314,16 @@ pub record PrintsSome (held : Option Contents) (words : List (List ℕ)) (old ne
   pub begins : BeginsReplay held names text
   pub printed : Gains old new text
 
+-- the words are `audit`, its files are read, the verdict is No, and the output took exactly what is printed of it
+pub record PrintsNo (held : Option Contents) (words : List (List ℕ)) (old new : Option (List ℕ)) : Type 0 where
+  pub names : Recording
+  pub is : command_of words ≡ Some (audit names)
+  pub completed : List Judged
+  pub line : ℕ
+  pub kind : Broken
+  pub gives : GivesVerdict held names (No completed line kind)
+  pub printed : Gains old new (verdict_text (No completed line kind))
+
 -- ---- the files of a command, in order
 
 -- what a file is to a command
@@ -257,6 +333,7 @@ pub data Role : Type 0 where
   for_claims : Role
   for_changes : Role
   for_script : Role
+  for_stream : Role
 
 abbrev pub limit_of : Role → ℕ
 limit_of for_rules = rules_limit
@@ -264,6 +341,7 @@ limit_of for_keys = file_limit
 limit_of for_claims = file_limit
 limit_of for_changes = file_limit
 limit_of for_script = file_limit
+limit_of for_stream = file_limit
 
 -- the files of `rows` and `snapshot` before the one that is fed are read
 pub record ReadsRulesAndClaims (held : Option Contents) (names : Names) : Type 0 where
@@ -286,28 +364,39 @@ ComesTo held (check rules) for_keys name = ⊥
 ComesTo held (check rules) for_claims name = ⊥
 ComesTo held (check rules) for_changes name = ⊥
 ComesTo held (check rules) for_script name = ⊥
+ComesTo held (check rules) for_stream name = ⊥
 ComesTo held (rows names) for_rules name = name ≡ names.rules
 ComesTo held (rows names) for_keys name = ⊥
 ComesTo held (rows names) for_claims name = (name ≡ names.claims) × (rules : RuleSet) × ReadsRules held names.rules rules
 ComesTo held (rows names) for_changes name = (name ≡ names.changes) × ReadsRulesAndClaims held names
 ComesTo held (rows names) for_script name = ⊥
+ComesTo held (rows names) for_stream name = ⊥
 ComesTo held (replay names) for_rules name = name ≡ names.rules
 ComesTo held (replay names) for_keys name = ⊥
 ComesTo held (replay names) for_claims name = ⊥
 ComesTo held (replay names) for_changes name = (name ≡ names.changes) × (rules : RuleSet) × ReadsRules held names.rules rules
 ComesTo held (replay names) for_script name = (name ≡ names.script) × ReadsRulesAndChanges held names
+ComesTo held (replay names) for_stream name = ⊥
 ComesTo held (compact names) for_rules name = name ≡ names.rules
 ComesTo held (compact names) for_keys name = ⊥
 ComesTo held (compact names) for_claims name = ⊥
 ComesTo held (compact names) for_changes name = (name ≡ names.changes) × (rules : RuleSet) × ReadsRules held names.rules rules
 ComesTo held (compact names) for_script name = ⊥
+ComesTo held (compact names) for_stream name = ⊥
 ComesTo held (token names) for_rules name = ⊥
 ComesTo held (token names) for_keys name = name ≡ names.keys
 ComesTo held (token names) for_claims name = (name ≡ names.claims) × (keys : List Key) × ReadsKeyFile held names.keys keys
 ComesTo held (token names) for_changes name = ⊥
 ComesTo held (token names) for_script name = ⊥
+ComesTo held (token names) for_stream name = ⊥
 ComesTo held (generate count) role name = ⊥
 ComesTo held (generate_lines count) role name = ⊥
+ComesTo held (audit names) for_rules name = name ≡ names.rules
+ComesTo held (audit names) for_keys name = ⊥
+ComesTo held (audit names) for_claims name = (name ≡ names.claims) × (rules : RuleSet) × ReadsRules held names.rules rules
+ComesTo held (audit names) for_changes name = (name ≡ names.changes) × ReadsAuditor held names
+ComesTo held (audit names) for_script name = ⊥
+ComesTo held (audit names) for_stream name = (name ≡ names.stream) × ReadsSource held names
 
 -- the words are a command, and a file of it comes next in that role: those before it, in order, are read
 pub record Reaches (held : Option Contents) (words : List (List ℕ)) (role : Role) (name : List ℕ) : Type 0 where
@@ -396,9 +485,27 @@ pub record RefusesChanges (held : Option Contents) (words : List (List ℕ)) (fa
   pub file : HoldsWithin held names.changes file_limit bytes
   pub refused : fed_by names.feeding before.rules bytes ≡ Err fault
 
--- that is the fault of the first line of a change file that is refused, once what comes before the file is read
+-- rules and claims are read, and that is the fault of the first line of the change file of `audit` that is refused
+pub record RefusesRising (held : Option Contents) (words : List (List ℕ)) (fault : Fault) : Type 0 where
+  pub names : Recording
+  pub is : command_of words ≡ Some (audit names)
+  pub before : ReadsAuditor held names
+  pub bytes : List ℕ
+  pub file : HoldsWithin held names.changes file_limit bytes
+  pub refused : rising_transactions_of bytes ≡ Err fault
+
+-- the files of `audit` are read, and a change leaves a row with more entries than one may have
+pub record HasWide (held : Option Contents) (words : List (List ℕ)) (fault : Fault) : Type 0 where
+  pub names : Recording
+  pub is : command_of words ≡ Some (audit names)
+  pub files : ReadsRecording held names
+  pub wide : has_wide files.source.before.rules.definitions files.source.transactions ≡ true
+  pub fault_is : fault ≡ PastLimit wide_limit
+
+-- that is the fault of the first line of a change file that is refused, once what comes before the file is read; or of a change that `audit` refuses
 abbrev pub RefusesLines : Option Contents → List (List ℕ) → Fault → Type 0
-RefusesLines held words fault = RefusesChanges held words fault ⊎ RefusesCompaction held words fault ⊎ RefusesFed held words fault
+RefusesLines held words fault =
+    RefusesChanges held words fault ⊎ RefusesCompaction held words fault ⊎ RefusesFed held words fault ⊎ RefusesRising held words fault ⊎ HasWide held words fault
 
 -- rules, claims and changes are read, and the asker has so many buckets, more than an asker may have
 pub record HasTooManyBuckets (held : Option Contents) (words : List (List ℕ)) (count : ℕ) : Type 0 where
@@ -436,6 +543,7 @@ FirstFits held (compact names) = (bytes : List ℕ) × HoldsWithin held names.ru
 FirstFits held (token names) = (bytes : List ℕ) × HoldsWithin held names.keys file_limit bytes
 FirstFits held (generate count) = Unit {0}
 FirstFits held (generate_lines count) = Unit {0}
+FirstFits held (audit names) = (bytes : List ℕ) × HoldsWithin held names.rules rules_limit bytes
 
 -- the words are a command whose first file is within its limit: one that is longer is refused before memory can be wanting
 abbrev pub BeginsWithin : Option Contents → List (List ℕ) → Type 0
@@ -480,6 +588,21 @@ reading held before now taken faults =
 abbrev pub Finds : Option Contents → ℕ → ℕ → List (List ℕ) → Result (Vec ℕ Global) Fault → Type 0
 Finds held before now words (Ok text) = (command : Command) × (command_of words ≡ Some command) × Means held command text.items
 Finds held before now words (Err fault) = (taken : Option (List ℕ)) (faults : ℕ) → Caused (reading held before now taken faults) words fault
+
+-- the verdict of `audit` was found, or why there is none
+abbrev pub FindsVerdict : Option Contents → ℕ → ℕ → List (List ℕ) → Result Verdict Fault → Type 0
+FindsVerdict held before now words (Ok verdict) = (names : Recording) × (command_of words ≡ Some (audit names)) × GivesVerdict held names verdict
+FindsVerdict held before now words (Err fault) = (taken : Option (List ℕ)) (faults : ℕ) → Caused (reading held before now taken faults) words fault
+
+abbrev pub ending_in : Verdict → Ending
+ending_in (Yes completed) = Done
+ending_in (No completed line kind) = Altered
+
+-- how a command ended: all that it means was printed, or the verdict No
+abbrev pub Ends : Outside → List (List ℕ) → Result Ending Fault → Type 0
+Ends o words (Ok Done) = Prints o.held words o.taken_before o.taken_now
+Ends o words (Ok Altered) = PrintsNo o.held words o.taken_before o.taken_now
+Ends o words (Err fault) = Caused o words fault
 
 abbrev pub Outcome : Outside → List (List ℕ) → Result (Unit {0}) Fault → Type 0
 Outcome o words (Ok _) = Prints o.held words o.taken_before o.taken_now
@@ -539,15 +662,27 @@ all_meant held name = within_limit file_limit (held name) >>= λ bytes. or_refus
 abbrev pub script_meant : Contents → List ℕ → Result (List ℕ) Refusal
 script_meant held name = within_limit file_limit (held name)
 
--- what a command prints: a text, or what a script gives when it is played
+abbrev pub rising_meant : Contents → List ℕ → Result (List Transaction) Refusal
+rising_meant held name = within_limit file_limit (held name) >>= λ bytes. or_refused (rising_transactions_of bytes)
+
+abbrev pub stream_meant : Contents → List ℕ → Result (List ℕ) Refusal
+stream_meant held name = within_limit file_limit (held name)
+
+-- no change is too wide, or else the files are refused
+abbrev pub or_wide : {A : Type 0} → Bool → A → Result A Refusal
+or_wide false x = Ok x
+or_wide true x = Err (refused (PastLimit wide_limit))
+
+-- what a command prints: a text, what a script gives when it is played, or the verdict on the lines of a stream
 pub data Meant : Type 0 where
   prints : List ℕ → Meant
   plays : Game → Meant
+  judges : Case → List (List ℕ) → Meant
 
 abbrev pub printing : Result (List ℕ) Refusal → Result Meant Refusal
 printing r = r >>= λ text. Ok (prints text)
 
--- what a command prints over its files, or the first refusal: rules before claims before changes before the script; for
+-- what a command prints over its files, or the first refusal: rules before claims before changes before the script or the stream; for
 -- `token` keys before claims before the kid
 abbrev pub meaning : Contents → Command → Result Meant Refusal
 meaning held (check name) = do
@@ -575,6 +710,12 @@ meaning held (token names) = do
   Ok (prints (token_text key names.kid asker))
 meaning held (generate count) = printing (or_refused (generated count))
 meaning held (generate_lines count) = Ok (prints (lines_text (made_input count)))
+meaning held (audit names) = do
+  rules ← rules_meant held names.rules
+  asker ← asker_meant held names.claims
+  transactions ← rising_meant held names.changes
+  stream ← stream_meant held names.stream
+  or_wide (has_wide rules.definitions transactions) (judges (case_for rules transactions asker) (stream_lines stream))
 
 abbrev pub refusal_status : Refusal → ℕ
 refusal_status missing = 8
@@ -588,9 +729,15 @@ IsPlayed game old new status =
     ⊎ ((status ≡ 9) × (line : ℕ) × (why : ScriptCause) × (text : List ℕ) × GivesUntil game line why text × Gains old new text)
     ⊎ ((status ≡ 8) × ((new ≡ old) ⊎ ((text : List ℕ) × GivesSome game text × Gains old new text)))
 
+-- that is the verdict on the lines: its status and its text, or memory was wanting
+abbrev pub IsJudgedSo : Case → List (List ℕ) → Option (List ℕ) → Option (List ℕ) → ℕ → Type 0
+IsJudgedSo case lines old new status =
+    ((verdict : Verdict) × IsVerdict case lines verdict × (status ≡ verdict_status verdict) × Gains old new (verdict_text verdict)) ⊎ ((status ≡ 8) × (new ≡ old))
+
 -- the status and the output are those that the files mean, or memory was wanting
 abbrev pub IsAnswer : Result Meant Refusal → Option (List ℕ) → Option (List ℕ) → ℕ → Type 0
 IsAnswer (Ok (plays game)) old new status = IsPlayed game old new status
+IsAnswer (Ok (judges case lines)) old new status = IsJudgedSo case lines old new status
 IsAnswer (Ok (prints text)) old new status = ((status ≡ 0) × Gains old new text) ⊎ ((status ≡ 8) × (new ≡ old))
 IsAnswer (Err refusal) old new status = ((status ≡ refusal_status refusal) × (new ≡ old)) ⊎ ((status ≡ 8) × (new ≡ old))
 
@@ -603,6 +750,7 @@ IsAnswerAlone (compact names) old new status = Unit {0}
 IsAnswerAlone (token names) old new status = Unit {0}
 IsAnswerAlone (generate count) old new status = IsAnswer (printing (or_refused (generated count))) old new status
 IsAnswerAlone (generate_lines count) old new status = IsAnswer (Ok (prints (lines_text (made_input count)))) old new status
+IsAnswerAlone (audit names) old new status = Unit {0}
 
 -- where files tell what they hold, or none is read
 abbrev pub IsExact : Option Contents → List (List ℕ) → Option (List ℕ) → Option (List ℕ) → ℕ → Type 0

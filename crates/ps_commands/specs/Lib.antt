@@ -1,3 +1,4 @@
+pub mod Auditing
 pub mod Causes
 pub mod Commands
 pub mod Generating

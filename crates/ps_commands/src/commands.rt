@@ -39,6 +39,13 @@ pub(crate) enum Command<'a> {
         kid: &'a Text,
         claims: &'a Text,
     },
+    /// Prints the verdict on a recorded stream.
+    Audit {
+        rules: &'a Text,
+        changes: &'a Text,
+        claims: &'a Text,
+        stream: &'a Text,
+    },
     /// Prints a summary of made transactions.
     Generate {
         count: u32,
@@ -58,6 +65,7 @@ pub(crate) fn read_words<'a>(words: &'a [Text]) -> Option<Command<'a>>
         [word, second] => of_two(word, second),
         [word, second, third] => of_three(word, second, third),
         [word, second, third, fourth] => of_four(word, second, third, fourth),
+        [word, second, third, fourth, fifth] => of_five(word, second, third, fourth, fifth),
         _ => None,
     }
 }
@@ -127,6 +135,28 @@ fn of_four<'a>(
             rules: second,
             changes: third,
             script: fourth,
+        }),
+        _ => None,
+    }
+}
+
+// The command of five words.
+fn of_five<'a>(
+    word: &Text,
+    second: &'a Text,
+    third: &'a Text,
+    fourth: &'a Text,
+    fifth: &'a Text,
+) -> Option<Command<'a>>
+    ensures command { option_map named result ≡ command_of (word.now ∷ second.now ∷ third.now ∷ fourth.now ∷ fifth.now ∷ []) }
+    ensures made { IfSome result IsMade }
+{
+    match word.as_str() {
+        "audit" => Some(Command::Audit {
+            rules: second,
+            changes: third,
+            claims: fourth,
+            stream: fifth,
         }),
         _ => None,
     }

@@ -3,13 +3,15 @@ ghost use Rattle.ps_io.specs.Contents.{Contents, Joins};
 ghost use Rattle.ps_io.specs.Counts.{Rose};
 ghost use Rattle.ps_files.specs.Loading.{MissesNamed};
 ghost use Rattle.ps_files.specs.Making.{made_limit};
-ghost use Rattle.ps_commands.specs.Commands.{command_of, check as check_command, rows as rows_command, compact as compact_command, token as token_command, generate as generate_command, generate_lines as generate_lines_command, Finds, Outcome, Prints, PrintsFront, RefusesRules, RefusesLines, RefusesKeys, RefusesClaims, RefusesScript, ExceedsLimit, IsNext, BeginsWithin, PrintsSome, IsExact};
+ghost use Rattle.ps_commands.specs.Commands.{command_of, check as check_command, rows as rows_command, compact as compact_command, token as token_command, generate as generate_command, generate_lines as generate_lines_command, Finds, FindsVerdict, Outside, Outcome, Ends, ending_in, Prints, PrintsNo, PrintsFront, RefusesRules, RefusesLines, RefusesKeys, RefusesClaims, RefusesScript, ExceedsLimit, IsNext, BeginsWithin, PrintsSome, IsExact};
 ghost use Rattle.ps_commands.specs.Causes.{SaysCause};
 ghost use Rattle.ps_files.specs.declared.faults.LineFault.{LineFault as LineFaultData};
 ghost use Rattle.ps_files.specs.declared.faults.RulesCause.{RulesCause as RulesCauseData};
 ghost use Rattle.ps_files.specs.declared.faults.ScriptCause.{ScriptCause as ScriptCauseData};
 
+use crate::auditing::{audit_files, print_verdict};
 use crate::commands::{Command, read_words};
+use crate::endings::Ending;
 use crate::generating::print_summary;
 use crate::replaying::replay_files;
 use ps_data::Text;
@@ -18,6 +20,7 @@ use ps_files::{
     Fault, load_asker, load_keys, load_reports, load_rules, print_check, print_made, say, sign_line,
 };
 use ps_io::{Files, Sink};
+use ps_audit::Verdict;
 use ps_token::SignFault;
 use std::alloc::Global;
 
@@ -106,8 +109,8 @@ fn generate_lines<'a>(alloc: Global, count: u32) -> Result<Vec<u8>, Fault<'a>>
 }
 
 // Prints what a command found, all at once.
-fn print<'a, K: Sink>(found: Result<Vec<u8>, Fault<'a>>, out: &mut K) -> Result<(), Fault<'a>>
-    ensures outcome { (held : Option Contents) (before now : ℕ) (words : List (List ℕ)) → Finds held before now words found.entry → Outcome (record {
+fn print<'a, K: Sink>(found: Result<Vec<u8>, Fault<'a>>, out: &mut K) -> Result<Ending, Fault<'a>>
+    ensures outcome { (held : Option Contents) (before now : ℕ) (words : List (List ℕ)) → Finds held before now words found.entry → Ends (record {
       held = held;
       read_before = before;
       read_now = now;
@@ -121,9 +124,54 @@ fn print<'a, K: Sink>(found: Result<Vec<u8>, Fault<'a>>, out: &mut K) -> Result<
 {
     let text = found?;
     match out.write(text.as_slice()) {
-        Ok(()) => Ok(()),
+        Ok(()) => Ok(Ending::Done),
         Err(_) => Err(Fault::CannotWrite),
     }
+}
+
+fn ending_of(verdict: &Verdict) -> Ending
+    ensures { result ≡ ending_in verdict.now }
+{
+    match verdict {
+        Verdict::Yes { .. } => Ending::Done,
+        Verdict::No { .. } => Ending::Altered,
+    }
+}
+
+// Prints a verdict that was found, all at once.
+fn pronounce<'a, K: Sink>(
+    alloc: Global,
+    found: Result<Verdict, Fault<'a>>,
+    out: &mut K,
+) -> Result<Ending, Fault<'a>>
+    ensures outcome { (held : Option Contents) (before now : ℕ) (words : List (List ℕ)) → FindsVerdict held before now words found.entry → Ends (record {
+      held = held;
+      read_before = before;
+      read_now = now;
+      taken_before = K.taken out.old;
+      taken_now = K.taken out.new;
+      write_before = K.faults out.old;
+      write_now = K.faults out.new;
+    }) words result }
+    ensures missed { (before after : Option (List (List ℕ)))
+        → MissesNamed before after found.entry → MissesNamed before after result }
+{
+    let verdict = found?;
+    let text = print_verdict(alloc, &verdict)?;
+    match out.write(text.as_slice()) {
+        Ok(()) => Ok(ending_of(&verdict)),
+        Err(_) => Err(Fault::CannotWrite),
+    }
+}
+
+// What a script ends with, which prints as it goes.
+fn done<'a>(outcome: Result<(), Fault<'a>>) -> Result<Ending, Fault<'a>>
+    ensures outcome { (o : Outside) (words : List (List ℕ)) → Outcome o words outcome.entry → Ends o words result }
+    ensures missed { (before after : Option (List (List ℕ)))
+        → MissesNamed before after outcome.entry → MissesNamed before after result }
+{
+    outcome?;
+    Ok(Ending::Done)
 }
 
 // Does the command that the words are. `replay` prints as it goes, any other prints all at once.
@@ -132,8 +180,8 @@ fn command<'a, F: Files, K: Sink>(
     words: &'a [Text],
     files: &mut F,
     out: &mut K,
-) -> Result<(), Fault<'a>>
-    ensures outcome { Outcome (record {
+) -> Result<Ending, Fault<'a>>
+    ensures outcome { Ends (record {
       held = F.held files.old;
       read_before = F.faults files.old;
       read_now = F.faults files.new;
@@ -159,11 +207,21 @@ fn command<'a, F: Files, K: Sink>(
             rules,
             changes,
             script,
-        } => replay_files(alloc, rules, changes, script, files, out),
+        } => done(replay_files(alloc, rules, changes, script, files, out)),
         Command::Compact { rules, changes } => print(compact(alloc, rules, changes, files), out),
         Command::Token { keys, kid, claims } => {
             print(token(alloc, keys, kid, claims, files), out)
         }
+        Command::Audit {
+            rules,
+            changes,
+            claims,
+            stream,
+        } => pronounce(
+            alloc,
+            audit_files(alloc, rules, changes, claims, stream, files),
+            out,
+        ),
         Command::Generate { count } => print(generate(alloc, count), out),
         Command::GenerateLines { count } => print(generate_lines(alloc, count), out),
     }
@@ -176,7 +234,7 @@ fn command<'a, F: Files, K: Sink>(
 /// with a first copy of tables feeds. `replay RULES CHANGES SCRIPT` prints the text of each event of the script as it comes.
 /// `compact RULES CHANGES` prints what the compaction of each bucket reports. `token KEYS KID CLAIMS` prints
 /// the token of the claims' payload, signed with the key of that kid. `generate N lines` prints N made change lines, and `generate N` a
-/// summary of them. Where anything is refused, nothing is printed, but for the texts of the lines of a script before the refused one.
+/// summary of them. `audit RULES CHANGES CLAIMS STREAM` prints the verdict on a recorded stream. Where anything is refused, nothing is printed, but for the texts of the lines of a script before the refused one.
 pub fn run_plain<F: Files, K: Sink, E: Sink>(
     alloc: Global,
     words: &[Text],
@@ -186,7 +244,9 @@ pub fn run_plain<F: Files, K: Sink, E: Sink>(
 ) -> u8
     // Status 0: exactly what the command means was printed, and nothing was said.
     ensures done { result ≡ 0 → Prints (F.held files.old) words.now (K.taken out.old) (K.taken out.new) }
-    ensures quiet { result ≡ 0 → E.taken err.new ≡ E.taken err.old }
+    // Status 15: the files of `audit` are read, the verdict is No, and exactly what is printed of it was printed.
+    ensures altered { result ≡ 15 → PrintsNo (F.held files.old) words.now (K.taken out.old) (K.taken out.new) }
+    ensures quiet { (result ≡ 0) ⊎ (result ≡ 15) → E.taken err.new ≡ E.taken err.old }
 
     // Statuses 1 to 9, each by its cause.
     ensures usage { (result ≡ 1) ↔ (command_of words.now ≡ None) }
@@ -202,17 +262,17 @@ pub fn run_plain<F: Files, K: Sink, E: Sink>(
         × PrintsFront (F.held files.old) words.now (K.taken out.old) (K.taken out.new) }
     ensures script { result ≡ 9 → (line : ℕ) × (why : ScriptCauseData)
         × RefusesScript (F.held files.old) words.now line why (K.taken out.old) (K.taken out.new) }
-    ensures known { result ≤ 9 }
+    ensures known { (result ≤ 9) ⊎ (result ≡ 15) }
 
-    // Nothing is printed unless all went well, but for the front that a failed write leaves. `replay` prints as it goes: what it printed
+    // Nothing is printed unless all went well, but for a verdict No and for the front that a failed write leaves. `replay` prints as it goes: what it printed
     // before a refused line, or before memory was wanting, are the texts of the lines before. A first file that is too long is refused
     // before memory can be wanting.
-    ensures kept { result ≢ 0 → result ≢ 7 → result ≢ 8 → result ≢ 9 → K.taken out.new ≡ K.taken out.old }
+    ensures kept { result ≢ 0 → result ≢ 7 → result ≢ 8 → result ≢ 9 → result ≢ 15 → K.taken out.new ≡ K.taken out.old }
     ensures first { result ≡ 8 → BeginsWithin (F.held files.old) words.now }
     ensures early { result ≡ 8 → (K.taken out.new ≡ K.taken out.old) ⊎ PrintsSome (F.held files.old) words.now (K.taken out.old) (K.taken out.new) }
 
     // What is said is the line of a fault that has its cause and that status. It names the file that could not be read.
-    ensures said { result ≢ 0 → SaysCause (F.missed files.old) (F.missed files.new) (record {
+    ensures said { result ≢ 0 → result ≢ 15 → SaysCause (F.missed files.old) (F.missed files.new) (record {
       held = F.held files.old;
       read_before = F.faults files.old;
       read_now = F.faults files.new;
@@ -229,7 +289,8 @@ pub fn run_plain<F: Files, K: Sink, E: Sink>(
         → IsExact (F.held files.old) words.now (K.taken out.old) (K.taken out.new) result }
 {
     match command(alloc, words, files, out) {
-        Ok(()) => 0,
+        Ok(Ending::Done) => 0,
+        Ok(Ending::Altered) => 15,
         Err(fault) => say(err, &fault),
     }
 }

@@ -1,6 +1,6 @@
 use Rattle.std.proofs.Common.{rules, ◌≡◌, ℕ, Option, Some}
 use Rattle.ps_io.specs.Contents.{Contents}
-use Rattle.ps_commands.specs.Commands.{check, rows, compact, token, generate, generate_lines, command_of}
+use Rattle.ps_commands.specs.Commands.{check, rows, replay, compact, token, generate, generate_lines, audit, command_of, Outside}
 use Rattle.ps_commands.proofs.plain.command.Goals as goal
 
 pub returns-in-Check-clause-outcome : goal.returns-in-Check-clause-outcome
@@ -12,6 +12,31 @@ pub returns-in-Rows-clause-outcome : goal.returns-in-Rows-clause-outcome
 returns-in-Rows-clause-outcome g c =
     let is : command_of c.args.words.now ≡ Some (rows (record { feeding = c.in-Rows.feeding; rules = c.in-Rows.rules.now; changes = c.in-Rows.changes.now; claims = c.in-Rows.claims.now })) = search rules in
     c.print-in-Rows.ensures.outcome (g.F.Files.held c.args.files.now) (g.F.Files.faults c.args.files.now) (g.F.Files.faults c.rows.new.files) c.args.words.now (c.rows.ensures.finds c.args.words.now is)
+
+pub returns-in-Replay-clause-outcome : goal.returns-in-Replay-clause-outcome
+returns-in-Replay-clause-outcome g c =
+    let is : command_of c.args.words.now ≡ Some (replay (record { rules = c.in-Replay.rules.now; changes = c.in-Replay.changes.now; script = c.in-Replay.script.now })) = search rules in
+    let o : Outside = record {
+      held = g.F.Files.held c.args.files.now;
+      read_before = g.F.Files.faults c.args.files.now;
+      read_now = g.F.Files.faults c.replay_files.new.files;
+      taken_before = g.K.Sink.taken c.args.out.now;
+      taken_now = g.K.Sink.taken c.replay_files.new.out;
+      write_before = g.K.Sink.faults c.args.out.now;
+      write_now = g.K.Sink.faults c.replay_files.new.out;
+    } in
+    c.done.ensures.outcome o c.args.words.now (c.replay_files.ensures.outcome c.args.words.now is)
+
+pub returns-in-Audit-clause-outcome : goal.returns-in-Audit-clause-outcome
+returns-in-Audit-clause-outcome g c =
+    let is : command_of c.args.words.now ≡ Some (audit (record { rules = c.in-Audit.rules.now; changes = c.in-Audit.changes.now; claims = c.in-Audit.claims.now; stream = c.in-Audit.stream.now })) = search rules in
+    c.pronounce.ensures.outcome (g.F.Files.held c.args.files.now) (g.F.Files.faults c.args.files.now) (g.F.Files.faults c.audit_files.new.files) c.args.words.now (c.audit_files.ensures.finds c.args.words.now is)
+
+pub returns-in-Replay-clause-missed : goal.returns-in-Replay-clause-missed
+returns-in-Replay-clause-missed g c = c.done.ensures.missed (g.F.Files.missed c.args.files.now) (g.F.Files.missed c.replay_files.new.files) c.replay_files.ensures.missed
+
+pub returns-in-Audit-clause-missed : goal.returns-in-Audit-clause-missed
+returns-in-Audit-clause-missed g c = c.pronounce.ensures.missed (g.F.Files.missed c.args.files.now) (g.F.Files.missed c.audit_files.new.files) c.audit_files.ensures.missed
 
 pub returns-in-Compact-clause-outcome : goal.returns-in-Compact-clause-outcome
 returns-in-Compact-clause-outcome g c =
