@@ -1,2 +1,11 @@
 pub mod Beginning
 pub mod Closing
+pub mod Counting
+pub mod Ending
+pub mod Failing
+pub mod Flows
+pub mod LoadedFiles
+pub mod ReadingLines
+pub mod ReadingWords
+pub mod Stepping
+pub mod Telling

@@ -1,2 +1,14 @@
 pub mod Beginnings
 pub mod Exchanges
+pub mod Faults
+pub mod Inputs
+pub mod Lines
+pub mod Numbers
+pub mod Preparing
+pub mod Runs
+pub mod Saying
+pub mod Steps
+pub mod Stops
+pub mod Streams
+pub mod Syncing
+pub mod Words

@@ -1,8 +1,28 @@
-//! What a client of the service does with a connection of its own: one request, and the answer to it.
+//! The command `sync`: local writes uploaded, a write checkpoint asked for, and streams taken until a checkpoint is applied.
 #![tactic(auto)]
 
+mod client_faults;
 mod exchanges;
 mod faults;
+mod inputs;
+
+mod numbers;
+mod preparing;
+mod runs;
+mod saying;
+mod services;
+mod stops;
+mod streams;
+mod syncing;
+mod words;
 
 pub use exchanges::ask;
 pub use faults::SyncFault;
+pub use inputs::{Refused, read_uploads};
+pub use numbers::{aim, upload_all};
+pub use runs::sync_client;
+pub use services::Service;
+pub use stops::Stop;
+pub use streams::{Ended, stream};
+pub use syncing::run_sync;
+pub use words::{Named, read_words};

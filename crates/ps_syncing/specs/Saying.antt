@@ -1,0 +1,38 @@
+-- What is said of a fault of `sync`, and its status.
+use Rattle.std.specs.Prelude.{◌≡◌, ℕ, Bool, true, false, List, ◌++◌, Option, codes, decimal}
+use Rattle.ps_io.specs.Contents.{Gains, GainsFront}
+use Rattle.ps_io.specs.Counts.{Rose}
+use Rattle.ps_files.specs.FaultTexts.{Tells, fault_line, status_of as shared_status}
+use Rattle.ps_files.specs.Saying.{Told}
+use Rattle.ps_syncing.specs.declared.stops.Stop.{Stop}
+use Rattle.ps_syncing.specs.declared.stops.Stop.TheVariants.{Shared, Token, ConnectionFailed, NoCheckpoint, Answered, Altered}
+
+abbrev pub status_of : Stop → ℕ
+status_of (Shared fault) = shared_status fault
+status_of Token = 4
+status_of ConnectionFailed = 10
+status_of NoCheckpoint = 11
+status_of (Answered status) = 12
+status_of Altered = 13
+
+-- the service's status, behind its words
+abbrev pub answered_line : ℕ → List ℕ
+answered_line status = codes "powersync: service answered " ++ (decimal status ++ codes "\n")
+
+abbrev pub stop_line : Stop → List ℕ
+stop_line (Shared fault) = fault_line fault
+stop_line Token = codes "powersync: token\n"
+stop_line ConnectionFailed = codes "powersync: connection failed\n"
+stop_line NoCheckpoint = codes "powersync: no checkpoint applied\n"
+stop_line (Answered status) = answered_line status
+stop_line Altered = codes "powersync: stream altered\n"
+
+-- the status of the fault, and its line on standard error
+pub record SaysStop (e : Told) (stop : Stop) (status : ℕ) : Type 0 where
+  pub is : status ≡ status_of stop
+  pub line : Tells e.old e.new e.before e.now (stop_line stop)
+
+-- a sink took a piece and did not fail; or it failed, and took a front of it
+abbrev pub TellsPiece : Option (List ℕ) → Option (List ℕ) → ℕ → ℕ → List ℕ → Bool → Type 0
+TellsPiece old new before now piece true = Gains old new piece × (now ≡ before)
+TellsPiece old new before now piece false = GainsFront old new piece × Rose before now

@@ -1,0 +1,221 @@
+//! Streams: one, whose lines a client takes until a checkpoint is applied or refused.
+
+ghost use Rattle.std.specs.Prelude.{◌≡◌, ◌≢◌, ◌⊎◌, ◌<◌, ◌≤◌, ◌+◌, ◌++◌, ℕ, List, Option, Err, IfOk, OnOk, is_some};
+ghost use Rattle.ps_io.specs.Contents.{Gains};
+ghost use Rattle.ps_io.specs.Counts.{Rose};
+ghost use Rattle.ps_io.specs.Sources.{Input};
+ghost use Rattle.ps_answers.specs.Givings.{HasGiven};
+ghost use Rattle.ps_answers.specs.Readers.{left_of};
+ghost use Rattle.ps_client.specs.Clients.{asked};
+ghost use Rattle.ps_client.specs.States.{keeper_of, name_of, state};
+ghost use Rattle.ps_syncing.specs.Beginnings.{HasBegun};
+ghost use Rattle.ps_syncing.specs.Exchanges.{ClosesOne, Sees};
+ghost use Rattle.ps_syncing.specs.Lines.{TakesNext, TakesPart};
+ghost use Rattle.ps_syncing.specs.Streams.{ClosesStream, IsStreamRequest, Streams};
+
+use crate::client_faults::of_line;
+use crate::exchanges::{Begun, begin};
+use crate::{Service, SyncFault};
+use ps_answers::{LineFault, Part, Reader, stream_request};
+use ps_client::{Client, Event};
+use ps_client_log::Keeper;
+use ps_data::{Memory, Text};
+use ps_doors::Link;
+use ps_io::{Sink, Source};
+use ps_lines::write_body;
+use std::alloc::Global;
+use std::sync::Wait;
+
+/// How a stream ended.
+#[derive(Clone, Copy, Debug, PartialEq, Eq)]
+pub enum Ended {
+    /// A checkpoint was applied.
+    Applied,
+    /// A checkpoint was refused: the totals of some buckets differ from it.
+    Refused,
+}
+
+// The client takes a line.
+fn take_part<P: Keeper>(
+    alloc: Global,
+    client: &mut Client<P>,
+    line: &[u8],
+) -> Result<Option<Ended>, SyncFault>
+    ensures taken { TakesPart (state client.old) (state client.new) line.now result }
+    ensures name { name_of client.new ≡ name_of client.old }
+    ensures failed { result ≡ Err SyncFault.ConnectionFailed
+        → Rose (P.faults (keeper_of client.old)) (P.faults (keeper_of client.new)) }
+    ensures faults { P.faults (keeper_of client.old) ≤ P.faults (keeper_of client.new) }
+    ensures quiet { OnOk result (P.faults (keeper_of client.new) ≡ P.faults (keeper_of client.old)) }
+{
+    match client.take_line(alloc, line) {
+        Ok(Event::Applied { op: _ }) => Ok(Some(Ended::Applied)),
+        Ok(Event::Refused { buckets: _ }) => Ok(Some(Ended::Refused)),
+        Ok(Event::Nothing | Event::Held { why: _ } | Event::Expiring { seconds: _ }) => Ok(None),
+        Err(fault) => Err(of_line(fault)),
+    }
+}
+
+// The client takes the next line of a stream.
+fn take_next<S: Source, P: Keeper>(
+    alloc: Global,
+    from: &mut S,
+    reader: &mut Reader,
+    client: &mut Client<P>,
+) -> Result<Option<Ended>, SyncFault>
+    ensures taken { (before : List ℕ) → HasGiven (S.input from.old) (before ++ left_of reader.old)
+        → TakesNext (S.input from.new) before (left_of reader.new) (state client.old) (state client.new) result }
+    ensures told { is_some (S.input from.new) ≡ is_some (S.input from.old) }
+    ensures name { name_of client.new ≡ name_of client.old }
+    ensures failed { result ≡ Err SyncFault.ConnectionFailed
+        → (0 < S.faults from.new) ⊎ Rose (P.faults (keeper_of client.old)) (P.faults (keeper_of client.new)) }
+    ensures faults { P.faults (keeper_of client.old) ≤ P.faults (keeper_of client.new) }
+    ensures quiet { OnOk result (P.faults (keeper_of client.new) ≡ P.faults (keeper_of client.old)) }
+{
+    match reader.next_line(from) {
+        Ok(Part::Whole) => take_part(alloc, client, reader.part()),
+        Ok(Part::Cut) => Err(SyncFault::NoCheckpoint),
+        Err(LineFault::TooLong { seen }) => Err(SyncFault::LineTooLong { seen }),
+        Err(LineFault::Failed) => Err(SyncFault::ConnectionFailed),
+        Err(LineFault::Memory) => Err(SyncFault::Memory),
+    }
+}
+
+// The client takes the lines of a stream until it ends.
+fn follow<R: Wait, S: Source, P: Keeper>(
+    rt: &R,
+    alloc: Global,
+    from: &mut S,
+    begun: Begun,
+    client: &mut Client<P>,
+) -> Result<Ended, SyncFault>
+    ensures streams { (old : Option Input) (request : List ℕ) → HasBegun old (S.input from.old) begun
+        → Streams (Sees old (S.input from.new) request) (state client.old) (state client.new) result }
+    ensures told { is_some (S.input from.new) ≡ is_some (S.input from.old) }
+    ensures name { name_of client.new ≡ name_of client.old }
+    ensures failed { result ≡ Err SyncFault.ConnectionFailed
+        → (0 < S.faults from.new) ⊎ Rose (P.faults (keeper_of client.old)) (P.faults (keeper_of client.new)) }
+    ensures faults { P.faults (keeper_of client.old) ≤ P.faults (keeper_of client.new) }
+    ensures quiet { OnOk result (P.faults (keeper_of client.new) ≡ P.faults (keeper_of client.old)) }
+{
+    let Begun {
+        mut reader,
+        length: _length,
+    } = begun;
+    'lines: for _ in rt.forever() {
+        match take_next(alloc, from, &mut reader, client) {
+            Ok(None) => {}
+            Ok(Some(ended)) => return Ok(ended),
+            Err(fault) => return Err(fault),
+        }
+    }
+    unreachable!()
+}
+
+// Sends the request of a stream, and the client takes its lines until it ends.
+fn watch<R: Wait, S: Source, K: Sink, P: Keeper>(
+    rt: &R,
+    alloc: Global,
+    from: &mut S,
+    to: &mut K,
+    request: &[u8],
+    client: &mut Client<P>,
+) -> Result<Ended, SyncFault>
+    ensures streams { Streams (Sees (S.input from.old) (S.input from.new) request.now) (state client.old) (state client.new) result }
+    ensures took { result ≢ Err SyncFault.ConnectionFailed → Gains (K.taken to.old) (K.taken to.new) request.now }
+    ensures told { is_some (S.input from.new) ≡ is_some (S.input from.old) }
+    ensures name { name_of client.new ≡ name_of client.old }
+    ensures failed { result ≡ Err SyncFault.ConnectionFailed
+        → (0 < S.faults from.new + K.faults to.new) ⊎ Rose (P.faults (keeper_of client.old)) (P.faults (keeper_of client.new)) }
+    ensures faults { P.faults (keeper_of client.old) ≤ P.faults (keeper_of client.new) }
+    ensures quiet { OnOk result (P.faults (keeper_of client.new) ≡ P.faults (keeper_of client.old)) }
+{
+    match begin(alloc, from, to, request) {
+        Ok(begun) => follow(rt, alloc, from, begun, client),
+        Err(fault) => Err(fault),
+    }
+}
+
+// The request of a stream, which the client begins.
+fn request_of<P: Keeper>(
+    alloc: Global,
+    service: &Service,
+    client: &mut Client<P>,
+) -> Result<Vec<u8>, Memory>
+    requires { name_of client.old ≡ service.now.client }
+    ensures request { IfOk result (λ request. IsStreamRequest service.now (state client.old) request.items) }
+    ensures asked { OnOk result (state client.new ≡ asked (state client.old)) }
+    ensures keeper { keeper_of client.new ≡ keeper_of client.old }
+    ensures name { name_of client.new ≡ name_of client.old }
+{
+    let body = client.request(alloc)?;
+    let body = write_body(alloc, &body)?;
+    stream_request(
+        alloc,
+        &service.address,
+        service.token.as_slice(),
+        body.as_slice(),
+    )
+}
+
+// Sends the request of a stream over a connection of its own, which is closed.
+fn watch_once<R: Wait, L: Link, P: Keeper>(
+    rt: &R,
+    alloc: Global,
+    link: &mut L,
+    address: &Text,
+    request: &[u8],
+    client: &mut Client<P>,
+) -> Result<Ended, SyncFault>
+    ensures streams { Streams (ClosesOne (L.closed link.old) (L.closed link.new) request.now) (state client.old) (state client.new) result }
+    ensures out { L.out link.new ≡ L.out link.old }
+    ensures name { name_of client.new ≡ name_of client.old }
+    ensures failed { result ≡ Err SyncFault.ConnectionFailed
+        → Rose (L.faults link.old) (L.faults link.new) ⊎ Rose (P.faults (keeper_of client.old)) (P.faults (keeper_of client.new)) }
+    ensures faults { L.faults link.old ≤ L.faults link.new }
+    ensures kept { P.faults (keeper_of client.old) ≤ P.faults (keeper_of client.new) }
+    ensures quiet { OnOk result (P.faults (keeper_of client.new) ≡ P.faults (keeper_of client.old)) }
+{
+    match link.connect(address) {
+        Ok((mut from, mut to)) => {
+            let ended = watch(rt, alloc, &mut from, &mut to, request, client);
+            link.close(from, to);
+            ended
+        }
+        Err(_) => Err(SyncFault::ConnectionFailed),
+    }
+}
+
+/// A stream for what the client keeps, over a connection of its own, which is closed: the client takes its lines until a checkpoint is applied or refused.
+/// Fails with `Answered` where the status is not 200, with `NoCheckpoint` where what came is no head or the input ends before, with `Altered` by a line that
+/// the client refuses, with `LineTooLong`, with `ConnectionFailed` where the count of the link or of the keeper rose, and with `Memory`.
+pub fn stream<R: Wait, L: Link, P: Keeper>(
+    rt: &R,
+    alloc: Global,
+    link: &mut L,
+    service: &Service,
+    client: &mut Client<P>,
+) -> Result<Ended, SyncFault>
+    requires { name_of client.old ≡ service.now.client }
+    ensures streams { Streams (ClosesStream service.now (state client.old) (L.closed link.old) (L.closed link.new))
+        (asked (state client.old)) (state client.new) result }
+    ensures out { L.out link.new ≡ L.out link.old }
+    ensures name { name_of client.new ≡ name_of client.old }
+    ensures failed { result ≡ Err SyncFault.ConnectionFailed
+        → Rose (L.faults link.old) (L.faults link.new) ⊎ Rose (P.faults (keeper_of client.old)) (P.faults (keeper_of client.new)) }
+    ensures faults { L.faults link.old ≤ L.faults link.new }
+    ensures kept { P.faults (keeper_of client.old) ≤ P.faults (keeper_of client.new) }
+    ensures quiet { OnOk result (P.faults (keeper_of client.new) ≡ P.faults (keeper_of client.old)) }
+{
+    match request_of(alloc, service, client) {
+        Ok(request) => watch_once(
+            rt,
+            alloc,
+            link,
+            &service.address,
+            request.as_slice(),
+            client,
+        ),
+        Err(Memory) => Err(SyncFault::Memory),
+    }
+}
