@@ -1,0 +1,100 @@
+-- The values of cells that were read.
+use Rattle.std.proofs.Common.{◌≡◌, ℕ, pos, List, [], ◌∷◌, ◌++◌, map, refl, sym, ap, subst, ◌∙◌}
+use Rattle.std.specs.List.{AllByRecursion, flat_map}
+use Rattle.sqlite_value.specs.declared.value.Value.{Value}
+use Rattle.sqlite_value.specs.declared.value.Value.TheVariants as value
+use Rattle.sqlite_value.specs.Order.{Row}
+use Rattle.sqlite_trees.proofs.ListLemmas.{all-map, all-flat_map, all_of}
+use Rattle.ps_client_log.specs.declared.states.BucketState.{BucketState}
+use Rattle.ps_client_log.specs.declared.states.Held.{Held}
+use Rattle.ps_client_log.specs.declared.states.Target.{Target}
+use Rattle.ps_client_log.specs.declared.states.Target.TheVariants.{Free, Pending, Number}
+use Rattle.ps_rows.specs.declared.shown.Shown.{Shown}
+use Rattle.ps_client_lines.specs.declared.cells.Cell.{Cell}
+use Rattle.ps_client_lines.specs.declared.cells.Cell.TheVariants.{Int, Text, Other}
+use Rattle.ps_client_lines.specs.declared.lines.Queued.{Queued}
+use Rattle.ps_client_lines.specs.Rows as cell
+use Rattle.ps_client_sqlite.specs.Stored.{bucket_columns, entry_columns, queued_columns, aim_columns, shown_columns}
+use Rattle.ps_client_sqlite.specs.Stating.{entries_of}
+use Rattle.ps_client_sqlite.specs.Reading.{Alike, AreCells, IsCell}
+
+-- one more on both sides
+pub alike_more : {X Y : Type 0} (R : X → Y → Type 0) (xs : List X) (ys : List Y) (x : X) (y : Y) → Alike R xs ys → R x y → Alike R (xs ++ x ∷ []) (ys ++ y ∷ [])
+alike_more R [] [] x y all one = (one, tt)
+alike_more R [] (z ∷ ys) x y all one = absurd all
+alike_more R (z ∷ xs) [] x y all one = absurd all
+alike_more R (z ∷ xs) (w ∷ ys) x y all one = (all.0, alike_more R xs ys x y all.1 one)
+
+value_of : Cell → Value
+value_of (Int n) = value.Int n
+value_of (Text text) = value.Text text
+value_of Other = value.Null
+
+IsPlain : Cell → Type 0
+IsPlain (Int n) = Unit {0}
+IsPlain (Text text) = Unit {0}
+IsPlain Other = ⊥
+
+one_value : (v : Value) (c : Cell) → IsCell v c → IsPlain c → v ≡ value_of c
+unfolding value_of IsPlain
+one_value v (Int n) is plain = is
+one_value v (Text text) is plain = is
+one_value v Other is plain = absurd plain
+
+-- cells that are numbers and texts have these values
+values_are : (row : Row) (cells : List Cell) → AreCells row cells → AllByRecursion IsPlain cells → row ≡ map value_of cells
+values_are [] [] all plain = refl
+values_are [] (c ∷ cells) all plain = absurd all
+values_are (v ∷ row) [] all plain = absurd all
+values_are (v ∷ row) (c ∷ cells) all plain = λ i. one_value v c all.0 plain.0 i ∷ values_are row cells all.1 plain.1 i
+
+-- rows of what is listed have these values
+pub rows_are : {X : Type 0} (cells : X → List Cell) (columns : X → Row) → ((x : X) (row : Row) → AreCells row (cells x) → row ≡ columns x) → (xs : List X) (rows : List Row) → Alike AreCells rows (map cells xs) → rows ≡ map columns xs
+rows_are cells columns one [] [] all = refl
+rows_are cells columns one [] (row ∷ rows) all = absurd all
+rows_are cells columns one (x ∷ xs) [] all = absurd all
+rows_are cells columns one (x ∷ xs) (row ∷ rows) all = λ i. one x row all.0 i ∷ rows_are cells columns one xs rows all.1 i
+
+bucket_is : (bucket : BucketState) (row : Row) → AreCells row (cell.bucket_row (cell.line_of bucket)) → row ≡ bucket_columns bucket.name (bucket.position.0, bucket.added.0)
+unfolding value_of IsPlain
+bucket_is bucket row all = values_are row _ all (tt, (tt, (tt, tt)))
+
+pub buckets_are : (buckets : List BucketState) (rows : List Row) → Alike AreCells rows (cell.bucket_rows buckets) → rows ≡ map (λ b. bucket_columns b.name (b.position.0, b.added.0)) buckets
+buckets_are = rows_are (λ b. cell.bucket_row (cell.line_of b)) (λ b. bucket_columns b.name (b.position.0, b.added.0)) bucket_is
+
+entry_is : (entry : List ℕ × Held) (row : Row) → AreCells row (cell.entry_row entry.0 entry.1) → row ≡ entry_columns (entry.0, entry.1.key) entry.1
+unfolding value_of IsPlain
+entry_is entry row all = values_are row _ all (tt, (tt, (tt, (tt, (tt, (tt, (tt, tt)))))))
+
+mapped_on : {X Y Z : Type 0} (g : Y → Z) (f : X → Y) (xs : List X) (ys : List Y) → map (λ x. g (f x)) xs ++ map g ys ≡ map g (map f xs ++ ys)
+mapped_on g f [] ys = refl
+mapped_on g f (x ∷ xs) ys = ap (λ zs. g (f x) ∷ zs) (mapped_on g f xs ys)
+
+each_entry : (buckets : List BucketState) → cell.entry_rows buckets ≡ map (λ e. cell.entry_row e.0 e.1) (entries_of buckets)
+each_entry [] = refl
+each_entry (bucket ∷ buckets) =
+    ap (λ (rows : List (List Cell)). cell.held_rows bucket ++ rows) (each_entry buckets) ∙ mapped_on (λ (e : List ℕ × Held). cell.entry_row e.0 e.1) (λ held. (bucket.name, held)) bucket.held (entries_of buckets)
+
+pub entries_are : (buckets : List BucketState) (rows : List Row) → Alike AreCells rows (cell.entry_rows buckets) → rows ≡ map (λ e. entry_columns (e.0, e.1.key) e.1) (entries_of buckets)
+entries_are buckets rows all =
+    rows_are (λ (e : List ℕ × Held). cell.entry_row e.0 e.1) (λ e. entry_columns (e.0, e.1.key) e.1) entry_is (entries_of buckets) rows (subst (λ (cs : List (List Cell)). Alike AreCells rows cs) (each_entry buckets) all)
+
+queued_is : (line : Queued) (row : Row) → AreCells row (cell.queued_row line) → row ≡ queued_columns line.seq line.text
+unfolding value_of IsPlain
+queued_is line row all = values_are row _ all (tt, (tt, tt))
+
+pub queue_are : (writes : List Queued) (rows : List Row) → Alike AreCells rows (cell.queue_rows writes) → rows ≡ map (λ line. queued_columns line.seq line.text) writes
+queue_are = rows_are cell.queued_row (λ line. queued_columns line.seq line.text) queued_is
+
+shown_is : (shown : Shown) (row : Row) → AreCells row (cell.shown_row shown) → row ≡ shown_columns (shown.kind, shown.id) shown.content
+unfolding value_of IsPlain
+shown_is shown row all = values_are row _ all (tt, (tt, (tt, tt)))
+
+pub shown_are : (shown : List Shown) (rows : List Row) → Alike AreCells rows (cell.shown_rows shown) → rows ≡ map (λ s. shown_columns (s.kind, s.id) s.content) shown
+shown_are = rows_are cell.shown_row (λ s. shown_columns (s.kind, s.id) s.content) shown_is
+
+pub aim_is : (target : Target) (row : Row) → AreCells row (cell.aim_row target) → row ≡ aim_columns target
+unfolding value_of IsPlain
+aim_is Free row all = values_are row _ all (tt, (tt, (tt, tt)))
+aim_is Pending row all = values_are row _ all (tt, (tt, (tt, tt)))
+aim_is (Number number) row all = values_are row _ all (tt, (tt, (tt, tt)))

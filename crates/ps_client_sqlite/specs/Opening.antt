@@ -1,0 +1,29 @@
+-- What a database has once a client's tables are opened.
+use Rattle.std.specs.Prelude.{◌≡◌, ◌≢◌, ◌⊎◌, IsTrue}
+use Rattle.sqlite.specs.Effect.{IsDatabase}
+use Rattle.sqlite.specs.State.{State, HasCleanDisk}
+use Rattle.sqlite.specs.declared.error.ErrorCode.TheVariants.{OutOfMemory}
+use Rattle.sqlite.specs.declared.error.Error.{Error}
+use Rattle.sqlite.specs.declared.error.Error.TheVariants.{SqliteFailure}
+use Rattle.ps_client_tables.specs.Schemas.{no_schema}
+use Rattle.ps_client_tables.specs.Steps.{IsClient, IsFresh}
+use Rattle.ps_client_sqlite.specs.declared.faults.StoreFault.{StoreFault}
+use Rattle.ps_client_sqlite.specs.declared.faults.StoreFault.TheVariants.{Failed, BadState, Memory}
+
+-- the database has the tables, and nothing waits for a commit
+pub record IsSettled (s : State) : Type 0 where
+  pub client : IsClient s
+  pub settled : s.now ≡ s.committed
+
+abbrev pub Settles : State → Type 0
+Settles s = HasCleanDisk s → IsTrue s.is_open → IsSettled s
+
+-- the tables of the last commit as they were, or tables that were made now where there was none
+abbrev pub IsOfCommit : State → State → Type 0
+IsOfCommit old made = (made.now.trees ≡ old.committed.trees) ⊎ (IsFresh made × IsDatabase (record { schema = no_schema; trees = old.committed.trees }))
+
+-- want of memory is told as itself, and each other refusal as a failure
+abbrev pub IsRefused : Error → StoreFault → Type 0
+IsRefused error Failed = error ≢ SqliteFailure OutOfMemory
+IsRefused error (BadState table) = ⊥
+IsRefused error Memory = error ≡ SqliteFailure OutOfMemory

@@ -1,0 +1,159 @@
+//! A keeper of a client's state over a database.
+
+ghost use Rattle.std.specs.Prelude.{◌≡◌, false, IsTrue, IfOk, OnOk, OnErr};
+ghost use Rattle.std.specs.List.{All};
+ghost use Rattle.sqlite.specs.Held.{state};
+ghost use Rattle.sqlite.specs.State.{HasCleanDisk};
+ghost use Rattle.ps_client_log.specs.Soundness.{IsSoundState};
+ghost use Rattle.ps_client_lines.specs.Holding.{AreQueued, AreRising};
+ghost use Rattle.ps_client_sqlite.specs.Stored.{IsWritable, with_writes};
+ghost use Rattle.ps_client_sqlite.specs.Steps.{LeavesOr};
+ghost use Rattle.ps_client_sqlite.specs.Stating.{stored_of};
+ghost use Rattle.ps_client_sqlite.specs.Opening.{Settles};
+ghost use Rattle.ps_client_sqlite.specs.Keeping.{connection_of, state_of, writes_of, faults_of, Counts, CountsAt, IsBlamed, IsFrom, Stands};
+
+use crate::faults::of_rows;
+use crate::reading::read_tables;
+use crate::writing::write_all;
+use crate::{RowWrite, StoreFault, with_tables};
+use ps_client_lines::{Queued, state_in};
+use ps_client_log::{KeepFault, State};
+use ps_data::Items;
+use sqlite::{Alter, Connection, Error, ErrorCode};
+use std::alloc::Global;
+use std::marker::Model;
+
+/// Keeps a client's state in a database. Contracts see the connection, the state and the local writes with their numbers and texts as they
+/// are held in memory, and the count of faults.
+pub struct SqliteKeeper<S: Alter> {
+    connection: Connection<S>,
+    kept: State,
+    writes: Items<Queued>,
+    faults: u64,
+}
+
+impl<S: Alter> Model for SqliteKeeper<S> {
+    ghost use Rattle.std.specs.Prelude.{ℕ, List};
+    ghost use Rattle.std.specs.Coded.{coded×, coded_ℕ, coded_list};
+    ghost use Rattle.sqlite.specs.Held.{Held, held_code};
+    ghost use Rattle.ps_client_log.specs.declared.states.State.{State};
+    ghost use Rattle.ps_client_log.specs.contracts.states.State as told;
+    ghost use Rattle.ps_client_lines.specs.declared.lines.Queued.{Queued};
+    ghost use Rattle.ps_client_lines.specs.contracts.lines.Queued as queued;
+
+    ghost Value = { Held S × (State × (List Queued × ℕ)) };
+
+    ghost coded = { coded× (held_code S.code) (coded× told.the_row.coded (coded× (coded_list queued.the_row.coded) coded_ℕ)) };
+
+    ghost use Rattle.sqlite.specs.Held.{state};
+    ghost use Rattle.ps_client_sqlite.specs.Keeping.{Stands};
+
+    ghost view = { λ keeper. (keeper.connection, (keeper.kept, (keeper.writes, keeper.faults))) };
+
+    ghost invariant = { λ keeper. Stands keeper.kept keeper.writes (state S.Store keeper.connection) };
+}
+
+// What a refused statement is to a client.
+fn fault_of(error: &Error) -> KeepFault
+    ensures { IsBlamed error.now result }
+{
+    match error {
+        Error::SqliteFailure(ErrorCode::OutOfMemory) => KeepFault::Memory,
+        _ => KeepFault::Failed,
+    }
+}
+
+// The count of faults after one.
+fn counted(fault: KeepFault, faults: u64) -> u64
+    ensures { CountsAt fault faults result }
+{
+    match fault {
+        KeepFault::Failed => faults.saturating_add(1),
+        KeepFault::Memory => faults,
+    }
+}
+
+// The keeper of what the tables hold.
+fn read<S: Alter + Drop>(
+    alloc: Global,
+    connection: Connection<S>,
+) -> Result<SqliteKeeper<S>, StoreFault>
+    requires outside { (state S.Store connection).in_transaction ≡ false }
+    requires settled { Settles (state S.Store connection) }
+    ensures stands { IfOk result (λ keeper. Stands (state_of keeper) (writes_of keeper) (state S.Store (connection_of keeper))) }
+    ensures clean { IfOk result (λ keeper. HasCleanDisk (state S.Store (connection_of keeper)) → HasCleanDisk (state S.Store connection)) }
+    ensures opened { IfOk result (λ keeper. HasCleanDisk (state S.Store (connection_of keeper)) → IsTrue (state S.Store connection).is_open) }
+    ensures same { IfOk result (λ keeper. HasCleanDisk (state S.Store (connection_of keeper)) → (state S.Store (connection_of keeper)).now ≡ (state S.Store connection).now) }
+    ensures uncounted { IfOk result (λ keeper. faults_of keeper ≡ 0) }
+{
+    let mut connection = connection;
+    let rows = match read_tables(alloc, &mut connection) {
+        Ok(rows) => rows,
+        Err(fault) => return Err(fault),
+    };
+    match state_in(alloc, &rows) {
+        Ok(told) => Ok(SqliteKeeper {
+            connection,
+            kept: told.0,
+            writes: told.1,
+            faults: 0,
+        }),
+        Err(fault) => Err(of_rows(fault)),
+    }
+}
+
+impl<S: Alter + Drop> SqliteKeeper<S> {
+    /// Keeps what the tables of a database hold, which are made where it has none.
+    pub fn open(alloc: Global, connection: Connection<S>) -> Result<SqliteKeeper<S>, StoreFault>
+        ensures stands { IfOk result (λ keeper. Stands (state_of keeper) (writes_of keeper) (state S.Store (connection_of keeper))) }
+        ensures rows { IfOk result (λ keeper. HasCleanDisk (state S.Store (connection_of keeper)) → IsTrue (state S.Store (connection_of keeper)).is_open
+            → IsFrom (state S.Store connection) (state_of keeper) (writes_of keeper)) }
+        ensures uncounted { IfOk result (λ keeper. faults_of keeper ≡ 0) }
+    {
+        let connection = with_tables(alloc, connection)?;
+        read(alloc, connection)
+    }
+}
+
+impl<S: Alter> SqliteKeeper<S> {
+    /// Keeps another state, which these row writes make of what the tables hold: all of them in one transaction, or none.
+    pub fn turn(
+        &mut self,
+        next: State,
+        queue: Items<Queued>,
+        writes: &[RowWrite],
+    ) -> Result<(), KeepFault>
+        requires sound { IsSoundState next }
+        requires queued { AreQueued queue next.queue }
+        requires rising { AreRising queue }
+        requires writable { All IsWritable writes.now }
+        requires reached { with_writes (stored_of (state_of self.old) (writes_of self.old)) writes.now ≡ stored_of next queue }
+        ensures ok { OnOk result (state_of self.new ≡ next) }
+        ensures ok_writes { OnOk result (writes_of self.new ≡ queue) }
+        ensures err { OnErr result (state_of self.new ≡ state_of self.old) }
+        ensures err_writes { OnErr result (writes_of self.new ≡ writes_of self.old) }
+        ensures counted { Counts result (faults_of self.old) (faults_of self.new) }
+        ensures stands { Stands (state_of self.new) (writes_of self.new) (state S.Store (connection_of self.new)) }
+        ensures crash { LeavesOr (state S.Store (connection_of self.old)) (state S.Store (connection_of self.new)) (stored_of next queue) }
+    {
+        match write_all(&mut self.connection, writes) {
+            Ok(()) => {
+                self.kept = next;
+                self.writes = queue;
+                Ok(())
+            }
+            Err(error) => {
+                let fault = fault_of(&error);
+                self.faults = counted(fault, self.faults);
+                Err(fault)
+            }
+        }
+    }
+
+    /// How often it has failed. It never falls.
+    pub fn keep_faults(&self) -> u64
+        ensures { result ≡ faults_of self.now }
+    {
+        self.faults
+    }
+}

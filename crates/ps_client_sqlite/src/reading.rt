@@ -1,0 +1,199 @@
+//! What the tables have, read row by row.
+
+ghost use Rattle.std.specs.Prelude.{◌≡◌, false, map, IsTrue, IfOk, OnOk};
+ghost use Rattle.sqlite.specs.Order.{column};
+ghost use Rattle.sqlite_value.specs.Value.{owned};
+ghost use Rattle.sqlite.specs.declared.types.Value.TheVariants as value;
+ghost use Rattle.sqlite.specs.Held.{state};
+ghost use Rattle.sqlite.specs.State.{HasCleanDisk, IsUnchanged};
+ghost use Rattle.ps_client_tables.specs.Lines.{bucket_line, entry_line, queued_line, aim_line, shown_line};
+ghost use Rattle.ps_client_tables.specs.Steps.{IsClient, tables_of};
+ghost use Rattle.ps_client_sqlite.specs.Reading.{Alike, AreCells, IsCell, AreRead, AreTablesRead};
+
+use crate::StoreFault;
+use crate::faults::refused;
+use ps_client_lines::{Cell, Rows};
+use ps_client_tables::{read_aim, read_buckets, read_entries, read_queue, read_shown};
+use ps_data::{Items, Memory, Text, TextFault};
+use sqlite::types::ValueRef;
+use sqlite::{Alter, Connection, Row};
+use std::alloc::Global;
+
+// The cell of a text. One that is not UTF-8 is no text to a client.
+fn text_cell(alloc: Global, bytes: &[u8]) -> Result<Cell, Memory>
+    ensures { IfOk result (IsCell (value.Text bytes.now)) }
+{
+    match Text::from_bytes(alloc, bytes) {
+        Ok(text) => Ok(Cell::Text(text)),
+        Err(TextFault::NotUtf8) => Ok(Cell::Other),
+        Err(TextFault::Memory) => Err(Memory),
+    }
+}
+
+// The cell of a value.
+fn cell_of(alloc: Global, kept: ValueRef<'_>) -> Result<Cell, Memory>
+    ensures { IfOk result (IsCell (owned kept.entry)) }
+{
+    match kept {
+        ValueRef::Int(number) => Ok(Cell::Int(number)),
+        ValueRef::Text(bytes) => text_cell(alloc, bytes),
+        _ => Ok(Cell::Other),
+    }
+}
+
+// The cell of a column.
+fn cell_at(alloc: Global, row: &Row, at: usize) -> Result<Cell, Memory>
+    ensures { IfOk result (IsCell (column row.now at)) }
+{
+    match row.get_ref(at) {
+        Ok(kept) => cell_of(alloc, kept),
+        Err(_) => Ok(Cell::Other),
+    }
+}
+
+// The cells of a row.
+fn cells_in(alloc: Global, row: &Row) -> Result<Items<Cell>, Memory>
+    ensures { IfOk result (AreCells row.now) }
+{
+    let mut cells = Items::new(alloc);
+    let count = row.column_count();
+    'columns: for at in 0..count {
+        let cell = cell_at(alloc, row, at)?;
+        cells.push(cell)?;
+    }
+    Ok(cells)
+}
+
+// The cells of rows.
+fn rows_in(alloc: Global, rows: &[Row]) -> Result<Items<Items<Cell>>, Memory>
+    ensures { IfOk result (Alike AreCells rows.now) }
+{
+    let mut all = Items::new(alloc);
+    'rows: for row in rows {
+        let cells = cells_in(alloc, row)?;
+        all.push(cells)?;
+    }
+    Ok(all)
+}
+
+// The rows of the buckets.
+fn bucket_rows<S: Alter>(
+    alloc: Global,
+    conn: &mut Connection<S>,
+) -> Result<Items<Items<Cell>>, StoreFault>
+    ensures read { HasCleanDisk (state S.Store conn.new) → IsClient (state S.Store conn.old) → IfOk result (AreRead (map bucket_line (tables_of (state S.Store conn.old)).buckets)) }
+    ensures same { HasCleanDisk (state S.Store conn.new) → IsClient (state S.Store conn.old) → OnOk result (IsUnchanged (state S.Store conn.old) (state S.Store conn.new)) }
+    ensures opened { HasCleanDisk (state S.Store conn.new) → OnOk result (IsTrue (state S.Store conn.old).is_open) }
+    ensures clean { HasCleanDisk (state S.Store conn.new) → HasCleanDisk (state S.Store conn.old) }
+    ensures mode { (state S.Store conn.old).in_transaction ≡ false → (state S.Store conn.new).in_transaction ≡ false }
+{
+    match read_buckets(conn) {
+        Ok(rows) => {
+            let all = rows_in(alloc, rows.as_slice())?;
+            Ok(all)
+        }
+        Err(error) => Err(refused(&error)),
+    }
+}
+
+// The rows of the held entries.
+fn entry_rows<S: Alter>(
+    alloc: Global,
+    conn: &mut Connection<S>,
+) -> Result<Items<Items<Cell>>, StoreFault>
+    ensures read { HasCleanDisk (state S.Store conn.new) → IsClient (state S.Store conn.old) → IfOk result (AreRead (map entry_line (tables_of (state S.Store conn.old)).entries)) }
+    ensures same { HasCleanDisk (state S.Store conn.new) → IsClient (state S.Store conn.old) → OnOk result (IsUnchanged (state S.Store conn.old) (state S.Store conn.new)) }
+    ensures opened { HasCleanDisk (state S.Store conn.new) → OnOk result (IsTrue (state S.Store conn.old).is_open) }
+    ensures clean { HasCleanDisk (state S.Store conn.new) → HasCleanDisk (state S.Store conn.old) }
+    ensures mode { (state S.Store conn.old).in_transaction ≡ false → (state S.Store conn.new).in_transaction ≡ false }
+{
+    match read_entries(conn) {
+        Ok(rows) => {
+            let all = rows_in(alloc, rows.as_slice())?;
+            Ok(all)
+        }
+        Err(error) => Err(refused(&error)),
+    }
+}
+
+// The rows of the local writes.
+fn queue_rows<S: Alter>(
+    alloc: Global,
+    conn: &mut Connection<S>,
+) -> Result<Items<Items<Cell>>, StoreFault>
+    ensures read { HasCleanDisk (state S.Store conn.new) → IsClient (state S.Store conn.old) → IfOk result (AreRead (map queued_line (tables_of (state S.Store conn.old)).queue)) }
+    ensures same { HasCleanDisk (state S.Store conn.new) → IsClient (state S.Store conn.old) → OnOk result (IsUnchanged (state S.Store conn.old) (state S.Store conn.new)) }
+    ensures opened { HasCleanDisk (state S.Store conn.new) → OnOk result (IsTrue (state S.Store conn.old).is_open) }
+    ensures clean { HasCleanDisk (state S.Store conn.new) → HasCleanDisk (state S.Store conn.old) }
+    ensures mode { (state S.Store conn.old).in_transaction ≡ false → (state S.Store conn.new).in_transaction ≡ false }
+{
+    match read_queue(conn) {
+        Ok(rows) => {
+            let all = rows_in(alloc, rows.as_slice())?;
+            Ok(all)
+        }
+        Err(error) => Err(refused(&error)),
+    }
+}
+
+// The rows of the target.
+fn aim_rows<S: Alter>(
+    alloc: Global,
+    conn: &mut Connection<S>,
+) -> Result<Items<Items<Cell>>, StoreFault>
+    ensures read { HasCleanDisk (state S.Store conn.new) → IsClient (state S.Store conn.old) → IfOk result (AreRead (map aim_line (tables_of (state S.Store conn.old)).aim)) }
+    ensures same { HasCleanDisk (state S.Store conn.new) → IsClient (state S.Store conn.old) → OnOk result (IsUnchanged (state S.Store conn.old) (state S.Store conn.new)) }
+    ensures opened { HasCleanDisk (state S.Store conn.new) → OnOk result (IsTrue (state S.Store conn.old).is_open) }
+    ensures clean { HasCleanDisk (state S.Store conn.new) → HasCleanDisk (state S.Store conn.old) }
+    ensures mode { (state S.Store conn.old).in_transaction ≡ false → (state S.Store conn.new).in_transaction ≡ false }
+{
+    match read_aim(conn) {
+        Ok(rows) => {
+            let all = rows_in(alloc, rows.as_slice())?;
+            Ok(all)
+        }
+        Err(error) => Err(refused(&error)),
+    }
+}
+
+// The shown rows.
+fn shown_rows<S: Alter>(
+    alloc: Global,
+    conn: &mut Connection<S>,
+) -> Result<Items<Items<Cell>>, StoreFault>
+    ensures read { HasCleanDisk (state S.Store conn.new) → IsClient (state S.Store conn.old) → IfOk result (AreRead (map shown_line (tables_of (state S.Store conn.old)).shown)) }
+    ensures same { HasCleanDisk (state S.Store conn.new) → IsClient (state S.Store conn.old) → OnOk result (IsUnchanged (state S.Store conn.old) (state S.Store conn.new)) }
+    ensures opened { HasCleanDisk (state S.Store conn.new) → OnOk result (IsTrue (state S.Store conn.old).is_open) }
+    ensures clean { HasCleanDisk (state S.Store conn.new) → HasCleanDisk (state S.Store conn.old) }
+    ensures mode { (state S.Store conn.old).in_transaction ≡ false → (state S.Store conn.new).in_transaction ≡ false }
+{
+    match read_shown(conn) {
+        Ok(rows) => {
+            let all = rows_in(alloc, rows.as_slice())?;
+            Ok(all)
+        }
+        Err(error) => Err(refused(&error)),
+    }
+}
+
+// The rows of all tables.
+pub fn read_tables<S: Alter>(alloc: Global, conn: &mut Connection<S>) -> Result<Rows, StoreFault>
+    ensures read { HasCleanDisk (state S.Store conn.new) → IsClient (state S.Store conn.old) → IfOk result (AreTablesRead (tables_of (state S.Store conn.old))) }
+    ensures same { HasCleanDisk (state S.Store conn.new) → IsClient (state S.Store conn.old) → OnOk result (IsUnchanged (state S.Store conn.old) (state S.Store conn.new)) }
+    ensures opened { HasCleanDisk (state S.Store conn.new) → OnOk result (IsTrue (state S.Store conn.old).is_open) }
+    ensures clean { HasCleanDisk (state S.Store conn.new) → HasCleanDisk (state S.Store conn.old) }
+    ensures mode { (state S.Store conn.old).in_transaction ≡ false → (state S.Store conn.new).in_transaction ≡ false }
+{
+    let buckets = bucket_rows(alloc, conn)?;
+    let entries = entry_rows(alloc, conn)?;
+    let queue = queue_rows(alloc, conn)?;
+    let aim = aim_rows(alloc, conn)?;
+    let shown = shown_rows(alloc, conn)?;
+    Ok(Rows {
+        buckets,
+        entries,
+        queue,
+        aim,
+        shown,
+    })
+}
