@@ -1,5 +1,5 @@
 -- What the texts that read a whole table show.
-use Rattle.std.proofs.Common.{◌≡◌, ℕ, List, [], ◌∷◌, map, flat_map, Option, Some, None, IsTrue, refl, sym, ap, subst, ◌∙◌, Less, IsPermutation, IsSorted}
+use Rattle.std.proofs.Common.{◌≡◌, inl, inr, Result, Ok, Err, IfErr, ℕ, List, [], ◌∷◌, map, flat_map, Option, Some, None, IsTrue, refl, sym, ap, subst, ◌∙◌, Less, IsPermutation, IsSorted}
 use Rattle.std.proofs.lemmas.List.Sorted.{IsPermutation-map}
 use Rattle.sqlite_value.specs.declared.value.Value.TheVariants.{Null}
 use Rattle.sqlite_value.specs.Order.{Row, value_cmp}
@@ -11,7 +11,9 @@ use Rattle.sqlite_sql.specs.Query.{Query, Output, output, output_cmp}
 use Rattle.sqlite_sql.specs.Program.{overlay}
 use Rattle.sqlite_sql.proofs.QueryLemmas.{output_cmp_total}
 use Rattle.sqlite_schema.specs.declared.command.Command.TheVariants.{Select}
-use Rattle.sqlite.specs.State.{State, Shown, ShowsRows, IsUnchanged, Survives, CommitsShowing}
+use Rattle.std.specs.Prelude.{OnErr}
+use Rattle.sqlite.specs.declared.error.Error.{Error}
+use Rattle.sqlite.specs.State.{State, Shown, ShowsRows, IsUnchanged, Survives, CommitsShowing, FailsToQuery, FailsToShow, IsNotRun}
 use Rattle.sqlite.specs.Clock.{timed}
 use Rattle.sqlite_schema.specs.declared.command.Returning.{Returning}
 use Rattle.sqlite.specs.Listing.{understood}
@@ -19,6 +21,7 @@ use Rattle.sqlite.proofs.Callers.{IsPlain, reads_as, never_commits}
 use Rattle.sqlite.proofs.StateLemmas.{survives_weaker}
 use Rattle.ps_client_tables.specs.Schemas.{client_schema}
 use Rattle.ps_client_tables.specs.Tables.{AreRows}
+use Rattle.ps_client_tables.specs.Steps.{IsLeft}
 use Rattle.ps_client_tables.proofs.Texts.{IsRead, listing, lone}
 
 one_each : {X Y : Type 0} (f : X → Y) (xs : List X) → flat_map (λ x. f x ∷ []) xs ≡ map f xs
@@ -93,3 +96,19 @@ answers_open sql params old new rows h = go h.0.returning h.2
     go : (o : Option Returning) → ShowsRows old new sql h.0 (timed params h.0.formats h.1.now) rows o → IsTrue old.is_open
     go None it = it.3.0.was_open
     go (Some what) it = it.1.shown.was_open
+
+-- a refused query changes nothing, or goes back to the last commit
+refused_by : (sql : List ℕ) (params : Row) (old new : State) (e : Error) → FailsToQuery sql params old new e → IsLeft old new
+unfolding FailsToQuery IsNotRun
+refused_by sql params old new e (inl (inl h)) = inl h.1
+refused_by sql params old new e (inl (inr h)) = inr h.3
+refused_by sql params old new e (inr h) = go h.0.returning h.2
+  where
+    go : (o : Option Returning) → FailsToShow old new sql h.0 (timed params h.0.formats h.1.now) e o → IsLeft old new
+    go None it = inl it.3
+    go (Some what) (inl it) = inl it.1
+    go (Some what) (inr it) = inr it.3
+
+pub refuses : {X : Type 0} (sql : List ℕ) (params : Row) (old new : State) (r : Result X Error) → IfErr r (FailsToQuery sql params old new) → OnErr r (IsLeft old new)
+refuses sql params old new (Ok x) h = tt
+refuses sql params old new (Err e) h = refused_by sql params old new e h

@@ -1,7 +1,7 @@
 -- What a text does inside a transaction over a client's tables.
-use Rattle.std.specs.Prelude.{◌≡◌, [], IsTrue}
+use Rattle.std.specs.Prelude.{◌≡◌, ◌⊎◌, [], IsTrue}
 use Rattle.std.specs.List.{AllByRecursion}
-use Rattle.sqlite.specs.State.{State}
+use Rattle.sqlite.specs.State.{State, IsUnchanged, IsRolledBack}
 use Rattle.sqlite.specs.Schema.{Schema}
 use Rattle.ps_client_tables.specs.Schemas.{client_schema}
 use Rattle.ps_client_tables.specs.Tables.{Tables, AreTables, tables_in, no_rows}
@@ -35,3 +35,7 @@ pub record IsFresh (s : State) : Type 0 where
   pub schema : s.now.schema ≡ client_schema
   pub tables : tables_of s ≡ no_rows
   pub settled : s.now ≡ s.committed
+
+-- what a refused query leaves: the database as it was, or as the last commit left it
+abbrev pub IsLeft : State → State → Type 0
+IsLeft old new = IsUnchanged old new ⊎ IsRolledBack old new

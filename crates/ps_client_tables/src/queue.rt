@@ -1,11 +1,11 @@
 //! The texts on the local writes that wait.
 
-ghost use Rattle.std.specs.Prelude.{◌≡◌, false, map, IsTrue, IfOk, OnOk};
+ghost use Rattle.std.specs.Prelude.{◌≡◌, false, map, IsTrue, IfOk, OnOk, OnErr};
 ghost use Rattle.sqlite.specs.Held.{state};
 ghost use Rattle.sqlite.specs.State.{HasCleanDisk, IsUnchanged, KeepsCommit, Survives};
 ghost use Rattle.ps_client_tables.specs.Tables.{put_queued, drop_queued};
 ghost use Rattle.ps_client_tables.specs.Lines.{queued_line};
-ghost use Rattle.ps_client_tables.specs.Steps.{IsClient, IsInside, Turns, tables_of};
+ghost use Rattle.ps_client_tables.specs.Steps.{IsClient, IsInside, IsLeft, Turns, tables_of};
 
 use crate::running::run;
 use ps_data::Text;
@@ -46,6 +46,7 @@ pub fn read_queue<S: Alter>(conn: &mut Connection<S>) -> Result<Vec<Row>, Error>
         → IfOk result (λ rows. rows.items ≡ map queued_line (tables_of (state S.Store conn.old)).queue) }
     ensures same { HasCleanDisk (state S.Store conn.new) → IsClient (state S.Store conn.old)
         → OnOk result (IsUnchanged (state S.Store conn.old) (state S.Store conn.new)) }
+    ensures refused { HasCleanDisk (state S.Store conn.new) → OnErr result (IsLeft (state S.Store conn.old) (state S.Store conn.new)) }
     ensures opened { HasCleanDisk (state S.Store conn.new) → OnOk result (IsTrue (state S.Store conn.old).is_open) }
     ensures clean { HasCleanDisk (state S.Store conn.new) → HasCleanDisk (state S.Store conn.old) }
     ensures mode { (state S.Store conn.old).in_transaction ≡ false → (state S.Store conn.new).in_transaction ≡ false }

@@ -3,7 +3,7 @@ use Rattle.std.proofs.lemmas.Result.{IfOk-weaker}
 use Rattle.sqlite.specs.Held.{state}
 use Rattle.ps_client_tables.specs.Statements.{read_buckets_text}
 use Rattle.ps_client_tables.proofs.Texts.{read_buckets_is}
-use Rattle.ps_client_tables.proofs.Reading.{shows_each, reads_only, answers_open, commits_nothing}
+use Rattle.ps_client_tables.proofs.Reading.{refuses, shows_each, reads_only, answers_open, commits_nothing}
 use Rattle.ps_client_tables.proofs.buckets.read_buckets.Goals as goal
 
 pub returns-clause-read : goal.returns-clause-read
@@ -20,3 +20,6 @@ returns-clause-survives g c client =
 
 pub returns-clause-opened : goal.returns-clause-opened
 returns-clause-opened g c clean = IfOk-weaker c.query_all.result _ _ (λ rows h. answers_open read_buckets_text [] _ _ rows.items h) (c.query_all.ensures.ok clean)
+
+pub returns-clause-refused : goal.returns-clause-refused
+returns-clause-refused g c clean = refuses _ _ (state g.S.Store c.args.conn.now) (state g.S.Store c.query_all.new.self) c.query_all.result (c.query_all.ensures.err clean)
