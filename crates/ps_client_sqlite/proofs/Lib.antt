@@ -6,3 +6,4 @@ pub mod Turning
 pub mod Cells
 pub mod Stated
 pub mod Standing
+pub mod Ranks

@@ -12,8 +12,8 @@ use Rattle.ps_client_tables.specs.Schemas.{no_schema}
 use Rattle.ps_client_tables.specs.Tables.{Tables, tables_in, no_rows}
 use Rattle.ps_client_tables.specs.Steps.{IsClient, IsFresh, tables_of}
 use Rattle.ps_client_sqlite.specs.declared.writes.RowWrite.{RowWrite}
-use Rattle.ps_client_sqlite.specs.Stored.{Holds, with_writes}
-use Rattle.ps_client_sqlite.specs.Steps.{LeavesOr}
+use Rattle.ps_client_sqlite.specs.Stored.{Stored, Holds, with_writes}
+use Rattle.ps_client_sqlite.specs.Steps.{Kept, LeavesOr}
 use Rattle.ps_client_sqlite.specs.Stating.{stored_of}
 use Rattle.ps_client_sqlite.specs.Reading.{AreTablesRead}
 use Rattle.ps_client_sqlite.specs.Opening.{Settles, IsOfCommit}
@@ -62,3 +62,7 @@ crash_then {S} shown k connection kept own faults new writes next queue is reach
 pub if_four : {K E : Type 0} {P Q O R U : K → Type 0} (r : Result K E) → ((k : K) → P k → Q k → O k → R k → U k) → IfOk r P → IfOk r Q → IfOk r O → IfOk r R → IfOk r U
 if_four (Ok k) f p q o s = f k p q o s
 if_four (Err e) f p q o s = tt
+
+-- a keeper whose tables were read again
+pub stands_again : (state : State) (writes : List Queued) (a b : Connected) → Stands state writes a → (a.in_transaction ≡ false → b.in_transaction ≡ false) → ((stored : Stored) → Kept stored a → Kept stored b) → Stands state writes b
+stands_again state writes a b was mode kept = record { outside = mode was.outside; sound = was.sound; queued = was.queued; rising = was.rising; keeps = kept (stored_of state writes) was.keeps }

@@ -1,15 +1,15 @@
 -- The steps of a transaction, one after another.
-use Rattle.std.proofs.Common.{◌≡◌, ℕ, ◌+◌, ◌<◌, List, [], ◌∷◌, ◌++◌, length, take, get_or, sym, ap, subst, ◌∙◌}
+use Rattle.std.proofs.Common.{◌≡◌, inl, inr, IsTrue, ℕ, ◌+◌, ◌<◌, List, [], ◌∷◌, ◌++◌, length, take, get_or, sym, ap, subst, ◌∙◌}
 use Rattle.std.proofs.lemmas.List.{take_more}
 use Rattle.std.proofs.lemmas.List.Sums.{fold-append}
 use Rattle.sqlite.specs.Effect.{Database}
-use Rattle.sqlite.specs.State.{State, IsUnchanged, KeepsCommit, Survives}
+use Rattle.sqlite.specs.State.{State, HasCleanDisk, IsUnchanged, KeepsCommit, Survives}
 use Rattle.sqlite.proofs.StateLemmas.{survives_then}
 use Rattle.ps_client_tables.specs.Tables.{Tables, AreTables, tables_in}
-use Rattle.ps_client_tables.specs.Steps.{IsClient, tables_of}
+use Rattle.ps_client_tables.specs.Steps.{IsClient, IsLeft, tables_of}
 use Rattle.ps_client_sqlite.specs.declared.writes.RowWrite.{RowWrite}
-use Rattle.ps_client_sqlite.specs.Stored.{Holds, with_write, with_writes}
-use Rattle.ps_client_sqlite.specs.Steps.{Writes, WritesAll}
+use Rattle.ps_client_sqlite.specs.Stored.{Stored, Holds, with_write, with_writes}
+use Rattle.ps_client_sqlite.specs.Steps.{Keeps, Kept, Writes, WritesAll}
 
 pub kept_then : (a b c : State) → KeepsCommit a b → KeepsCommit b c → KeepsCommit a c
 kept_then a b c p q = record { was_open = λ h. p.was_open (q.was_open h); committed = λ h. q.committed h ∙ p.committed (q.was_open h) }
@@ -48,3 +48,28 @@ unchanged_then a b c p q = (
   record { changes = q.1.changes ∙ p.1.changes; last_rowid = q.1.last_rowid ∙ p.1.last_rowid },
   q.2 ∙ p.2,
 )
+
+-- what the tables keep stands where a read leaves the database as it was
+pub kept_unchanged : (stored : Stored) (a b : State) → (HasCleanDisk b → HasCleanDisk a) → (HasCleanDisk b → IsTrue a.is_open) → (HasCleanDisk b → IsClient a → IsUnchanged a b) → Kept stored a → Kept stored b
+kept_unchanged stored a b clean opened same kept disk alive =
+    let was = kept (clean disk) (opened disk) in
+    let unchanged = same disk was.client in
+    record {
+      client = client_then a b unchanged was.client;
+      rows = subst (Holds stored) (sym (tables_then a b unchanged)) was.rows;
+      settled = unchanged.0.now_is ∙ was.settled ∙ sym unchanged.0.committed_is;
+    }
+
+-- and where one that was refused leaves it so, or as the last commit did
+pub kept_left : (stored : Stored) (a b : State) → (HasCleanDisk b → HasCleanDisk a) → (HasCleanDisk b → IsLeft a b) → Kept stored a → Kept stored b
+kept_left stored a b clean left kept disk alive = elim (left disk) as (λ _. Keeps stored b) [
+  | inl same ↦ kept_unchanged stored a b clean (λ _. same.0.was_open) (λ _ _. same) kept disk alive
+  | inr undone ↦
+      let was = kept (clean disk) (undone.was_open alive) in
+      let now : b.now ≡ a.now = (undone.undone alive).0 ∙ sym was.settled in
+      record {
+        client = record { schema = ap (λ (d : Database). d.schema) now ∙ was.client.schema; tables = subst (λ (d : Database). AreTables (tables_in d.trees)) (sym now) was.client.tables };
+        rows = subst (λ (d : Database). Holds stored (tables_in d.trees)) (sym now) was.rows;
+        settled = (undone.undone alive).0 ∙ sym (undone.undone alive).1;
+      }
+]

@@ -4,3 +4,4 @@ pub mod Reading
 pub mod Stating
 pub mod Opening
 pub mod Keeping
+pub mod Numbering

@@ -12,8 +12,9 @@ ghost use Rattle.ps_client_sqlite.specs.Stating.{stored_of};
 ghost use Rattle.ps_client_sqlite.specs.Opening.{Settles};
 ghost use Rattle.ps_client_sqlite.specs.Keeping.{connection_of, state_of, writes_of, faults_of, Counts, CountsAt, IsBlamed, IsFrom, Stands};
 
+use crate::copies::state_copy;
 use crate::faults::of_rows;
-use crate::reading::read_tables;
+use crate::reading::{read_again, read_tables};
 use crate::writing::write_all;
 use crate::{RowWrite, StoreFault, with_tables};
 use ps_client_lines::{Queued, state_in};
@@ -70,6 +71,14 @@ fn counted(fault: KeepFault, faults: u64) -> u64
     match fault {
         KeepFault::Failed => faults.saturating_add(1),
         KeepFault::Memory => faults,
+    }
+}
+
+// What tables that were not read again are to a client.
+fn fault_at(fault: StoreFault) -> KeepFault {
+    match fault {
+        StoreFault::Memory => KeepFault::Memory,
+        StoreFault::Failed | StoreFault::BadState { .. } => KeepFault::Failed,
     }
 }
 
@@ -148,6 +157,37 @@ impl<S: Alter> SqliteKeeper<S> {
                 Err(fault)
             }
         }
+    }
+
+    /// The state that it keeps. The tables are read again, and it fails where they have a row that is none of a state.
+    pub fn load(&mut self, alloc: Global) -> Result<State, KeepFault>
+        ensures told { IfOk result (λ told. told ≡ state_of self.old) }
+        ensures same { state_of self.new ≡ state_of self.old }
+        ensures same_writes { writes_of self.new ≡ writes_of self.old }
+        ensures counted { Counts result (faults_of self.old) (faults_of self.new) }
+        ensures stands { Stands (state_of self.new) (writes_of self.new) (state S.Store (connection_of self.new)) }
+    {
+        match read_again(alloc, &mut self.connection) {
+            Ok(()) => Ok(state_copy(alloc, &self.kept)?),
+            Err(refusal) => {
+                let fault = fault_at(refusal);
+                self.faults = counted(fault, self.faults);
+                Err(fault)
+            }
+        }
+    }
+
+    /// Its connection.
+    pub fn into_connection(self) -> Connection<S>
+        ensures { result ≡ connection_of self }
+    {
+        let SqliteKeeper {
+            connection,
+            kept: _kept,
+            writes: _writes,
+            faults: _faults,
+        } = self;
+        connection
     }
 
     /// How often it has failed. It never falls.

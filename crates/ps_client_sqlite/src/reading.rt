@@ -8,11 +8,13 @@ ghost use Rattle.sqlite.specs.Held.{state};
 ghost use Rattle.sqlite.specs.State.{HasCleanDisk, IsUnchanged};
 ghost use Rattle.ps_client_tables.specs.Lines.{bucket_line, entry_line, queued_line, aim_line, shown_line};
 ghost use Rattle.ps_client_tables.specs.Steps.{IsClient, tables_of};
+ghost use Rattle.ps_client_sqlite.specs.Stored.{Stored};
+ghost use Rattle.ps_client_sqlite.specs.Steps.{Kept};
 ghost use Rattle.ps_client_sqlite.specs.Reading.{Alike, AreCells, IsCell, AreRead, AreTablesRead};
 
 use crate::StoreFault;
-use crate::faults::refused;
-use ps_client_lines::{Cell, Rows};
+use crate::faults::{of_rows, refused};
+use ps_client_lines::{Cell, Rows, state_in};
 use ps_client_tables::{read_aim, read_buckets, read_entries, read_queue, read_shown};
 use ps_data::{Items, Memory, Text, TextFault};
 use sqlite::types::ValueRef;
@@ -86,6 +88,7 @@ fn bucket_rows<S: Alter>(
     ensures opened { HasCleanDisk (state S.Store conn.new) → OnOk result (IsTrue (state S.Store conn.old).is_open) }
     ensures clean { HasCleanDisk (state S.Store conn.new) → HasCleanDisk (state S.Store conn.old) }
     ensures mode { (state S.Store conn.old).in_transaction ≡ false → (state S.Store conn.new).in_transaction ≡ false }
+    ensures kept { (stored : Stored) → Kept stored (state S.Store conn.old) → Kept stored (state S.Store conn.new) }
 {
     match read_buckets(conn) {
         Ok(rows) => {
@@ -106,6 +109,7 @@ fn entry_rows<S: Alter>(
     ensures opened { HasCleanDisk (state S.Store conn.new) → OnOk result (IsTrue (state S.Store conn.old).is_open) }
     ensures clean { HasCleanDisk (state S.Store conn.new) → HasCleanDisk (state S.Store conn.old) }
     ensures mode { (state S.Store conn.old).in_transaction ≡ false → (state S.Store conn.new).in_transaction ≡ false }
+    ensures kept { (stored : Stored) → Kept stored (state S.Store conn.old) → Kept stored (state S.Store conn.new) }
 {
     match read_entries(conn) {
         Ok(rows) => {
@@ -126,6 +130,7 @@ fn queue_rows<S: Alter>(
     ensures opened { HasCleanDisk (state S.Store conn.new) → OnOk result (IsTrue (state S.Store conn.old).is_open) }
     ensures clean { HasCleanDisk (state S.Store conn.new) → HasCleanDisk (state S.Store conn.old) }
     ensures mode { (state S.Store conn.old).in_transaction ≡ false → (state S.Store conn.new).in_transaction ≡ false }
+    ensures kept { (stored : Stored) → Kept stored (state S.Store conn.old) → Kept stored (state S.Store conn.new) }
 {
     match read_queue(conn) {
         Ok(rows) => {
@@ -146,6 +151,7 @@ fn aim_rows<S: Alter>(
     ensures opened { HasCleanDisk (state S.Store conn.new) → OnOk result (IsTrue (state S.Store conn.old).is_open) }
     ensures clean { HasCleanDisk (state S.Store conn.new) → HasCleanDisk (state S.Store conn.old) }
     ensures mode { (state S.Store conn.old).in_transaction ≡ false → (state S.Store conn.new).in_transaction ≡ false }
+    ensures kept { (stored : Stored) → Kept stored (state S.Store conn.old) → Kept stored (state S.Store conn.new) }
 {
     match read_aim(conn) {
         Ok(rows) => {
@@ -166,6 +172,7 @@ fn shown_rows<S: Alter>(
     ensures opened { HasCleanDisk (state S.Store conn.new) → OnOk result (IsTrue (state S.Store conn.old).is_open) }
     ensures clean { HasCleanDisk (state S.Store conn.new) → HasCleanDisk (state S.Store conn.old) }
     ensures mode { (state S.Store conn.old).in_transaction ≡ false → (state S.Store conn.new).in_transaction ≡ false }
+    ensures kept { (stored : Stored) → Kept stored (state S.Store conn.old) → Kept stored (state S.Store conn.new) }
 {
     match read_shown(conn) {
         Ok(rows) => {
@@ -183,6 +190,7 @@ pub fn read_tables<S: Alter>(alloc: Global, conn: &mut Connection<S>) -> Result<
     ensures opened { HasCleanDisk (state S.Store conn.new) → OnOk result (IsTrue (state S.Store conn.old).is_open) }
     ensures clean { HasCleanDisk (state S.Store conn.new) → HasCleanDisk (state S.Store conn.old) }
     ensures mode { (state S.Store conn.old).in_transaction ≡ false → (state S.Store conn.new).in_transaction ≡ false }
+    ensures kept { (stored : Stored) → Kept stored (state S.Store conn.old) → Kept stored (state S.Store conn.new) }
 {
     let buckets = bucket_rows(alloc, conn)?;
     let entries = entry_rows(alloc, conn)?;
@@ -196,4 +204,16 @@ pub fn read_tables<S: Alter>(alloc: Global, conn: &mut Connection<S>) -> Result<
         aim,
         shown,
     })
+}
+
+// Reads the tables again. Fails where they have a row that is none of a state.
+pub fn read_again<S: Alter>(alloc: Global, conn: &mut Connection<S>) -> Result<(), StoreFault>
+    ensures mode { (state S.Store conn.old).in_transaction ≡ false → (state S.Store conn.new).in_transaction ≡ false }
+    ensures kept { (stored : Stored) → Kept stored (state S.Store conn.old) → Kept stored (state S.Store conn.new) }
+{
+    let rows = read_tables(alloc, conn)?;
+    match state_in(alloc, &rows) {
+        Ok(_told) => Ok(()),
+        Err(fault) => Err(of_rows(fault)),
+    }
 }

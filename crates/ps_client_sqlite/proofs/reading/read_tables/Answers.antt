@@ -59,3 +59,23 @@ returns-clause-same g c clean client =
     let client4 = client_then s3 s4 same4 client3 in
     let same5 = c.in_ok-shown.ensures.same clean client4 in
     unchanged_then s0 s1 s5 same1 (unchanged_then s1 s2 s5 same2 (unchanged_then s2 s3 s5 same3 (unchanged_then s3 s4 s5 same4 same5)))
+
+pub returns-in_err-buckets-clause-kept : goal.returns-in_err-buckets-clause-kept
+returns-in_err-buckets-clause-kept g c stored kept = c.bucket_rows.ensures.kept stored kept
+
+pub returns-in_err-entries-clause-kept : goal.returns-in_err-entries-clause-kept
+returns-in_err-entries-clause-kept g c stored kept = c.entry_rows.ensures.kept stored (c.bucket_rows.ensures.kept stored kept)
+
+pub returns-in_err-queue-clause-kept : goal.returns-in_err-queue-clause-kept
+returns-in_err-queue-clause-kept g c stored kept = c.queue_rows.ensures.kept stored (c.entry_rows.ensures.kept stored (c.bucket_rows.ensures.kept stored kept))
+
+pub returns-in_err-aim-clause-kept : goal.returns-in_err-aim-clause-kept
+returns-in_err-aim-clause-kept g c stored kept = c.aim_rows.ensures.kept stored (c.queue_rows.ensures.kept stored (c.entry_rows.ensures.kept stored (c.bucket_rows.ensures.kept stored kept)))
+
+pub returns-in_err-shown-clause-kept : goal.returns-in_err-shown-clause-kept
+returns-in_err-shown-clause-kept g c stored kept =
+    c.shown_rows.ensures.kept stored (c.aim_rows.ensures.kept stored (c.queue_rows.ensures.kept stored (c.entry_rows.ensures.kept stored (c.bucket_rows.ensures.kept stored kept))))
+
+pub returns-clause-kept : goal.returns-clause-kept
+returns-clause-kept g c stored kept =
+    c.shown_rows.ensures.kept stored (c.aim_rows.ensures.kept stored (c.queue_rows.ensures.kept stored (c.entry_rows.ensures.kept stored (c.bucket_rows.ensures.kept stored kept))))

@@ -1,0 +1,30 @@
+-- The numbers of local writes.
+use Rattle.std.specs.Prelude.{◌≡◌, ℕ, zero, suc, ℤ, pos, ◌-◌, ◌+ℤ◌, List, [], ◌∷◌, ◌++◌, map, length, slice_get}
+use Rattle.std.specs.Option.{option_map_or}
+use Rattle.ps_rows.specs.declared.changes.Change.{Change}
+use Rattle.ps_client_lines.specs.declared.lines.Queued.{Queued}
+use Rattle.ps_client_lines.specs.Holding.{AreRising}
+
+abbrev pub numbers_of : List Queued → List ℤ
+numbers_of lines = map (λ line. line.seq) lines
+
+abbrev pub changes_of : List Queued → List Change
+changes_of lines = map (λ line. line.change) lines
+
+abbrev pub texts_of : List Queued → List (List ℕ)
+texts_of lines = map (λ line. line.text) lines
+
+-- the number of the last, 0 where nothing waits
+abbrev pub last_number : List Queued → ℤ
+last_number lines = option_map_or (λ line. line.seq) (slice_get lines (length lines - 1)) (pos 0)
+
+-- the numbers from 1 on
+abbrev pub first_numbers : ℕ → List ℤ
+first_numbers zero = []
+first_numbers (suc n) = first_numbers n ++ (pos n +ℤ pos 1) ∷ []
+
+-- one more waits, and those before it are the same
+pub record Pushes (old new : List Queued) (text : List ℕ) (change : Change) : Type 0 where
+  pub changes : changes_of new ≡ changes_of old ++ change ∷ []
+  pub texts : texts_of new ≡ texts_of old ++ text ∷ []
+  pub rising : AreRising new
