@@ -5,6 +5,10 @@
 //! the turns of four threads. `requests` has one seat upload a change, ask for two numbers of a client, close the feed and upload once more, and says what each
 //! call answers and how many events the seat has seen.
 //!
+//! `drain COUNT BATCH AT` gives a writer so many made transactions and then the first once more, which stops it; writes all in batches and commits; has a compactor
+//! compact each log that has grown by AT operations, until its bell is closed; closes the feed; and has a writer and a compactor drain the store. It says how each of
+//! the four ended, how many events the seat has seen, and what is counted then.
+//!
 //! Of the counters and diaries of `lock_tests`: `counter sees MOST AMOUNT` has a first seat add the amount to a counter that does not pass MOST, and says whether it
 //! did, what it and a second one have seen then, what the second has seen after a turn of its own, and what is kept; `counter four MOST TIMES` has four threads add
 //! 1 so many times each; `counter fits MOST ONE TWO` adds both amounts by one seat, and `counter adds MOST ONE TWO` by two threads; `counter joins MOST ONE TWO`
@@ -21,8 +25,9 @@ mod diaries;
 mod stores;
 mod threads;
 mod turns;
+mod workers;
 
-use case_words::{Stop, cut, short_number_in};
+use case_words::{Stop, cut, number_in, short_number_in};
 use std::alloc::Global;
 use std::sync::Wait;
 use std::thread::Threads;
@@ -46,6 +51,17 @@ fn write_counts<R: Threads + Wait + Sync>(
     stores::write_store(alloc, &store, out)
 }
 
+fn write_drained<R: Wait>(rt: &R, alloc: Global, rest: &str, out: &mut String) -> Result<(), Stop> {
+    let (count, rest) = cut(rest);
+    let (batch, at) = cut(rest);
+    let sizes = (
+        short_number_in(count)?,
+        short_number_in(batch)?,
+        number_in(at)?,
+    );
+    workers::write_drained(rt, alloc, sizes, out)
+}
+
 fn write_answer<R: Threads + Wait + Clock + Sync>(
     rt: &R,
     alloc: Global,
@@ -57,6 +73,7 @@ fn write_answer<R: Threads + Wait + Clock + Sync>(
         "seats" => threads::write_seats(rt, alloc, out),
         "requests" => threads::write_requests(rt, alloc, out),
         "four" | "alone" => write_counts(rt, alloc, word, rest, out),
+        "drain" => write_drained(rt, alloc, rest, out),
         "counter" => counters::write_case(rt, alloc, rest, out),
         "diary" => diaries::write_diary(rt, alloc, rest, out),
         "turns" | "wait" => turns::write_count(rt, alloc, word, rest, out),

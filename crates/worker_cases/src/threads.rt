@@ -41,7 +41,8 @@ fn feed_all<R: Wait>(
     seat
 }
 
-fn write_often<R: Wait>(
+/// Writes so many batches.
+pub fn write_often<R: Wait>(
     rt: &R,
     alloc: Global,
     lock: &StoreLock<Store>,
@@ -59,7 +60,8 @@ fn write_often<R: Wait>(
     seat
 }
 
-fn commit_often<R: Wait>(
+/// Commits so many times.
+pub fn commit_often<R: Wait>(
     rt: &R,
     lock: &StoreLock<Store>,
     seat: Seat<Store>,
