@@ -1,5 +1,5 @@
 -- The tests for the primary keys of the tables.
-use Rattle.std.proofs.Common.{◌≡◌, ℕ, ℤ, Bool, true, false, ◌&&◌, List, refl, sym, ap, subst, ◌∙◌, Ordering, Less, Equal, Greater}
+use Rattle.std.proofs.Common.{◌≡◌, ℕ, ℤ, Bool, true, false, ◌&&◌, List, refl, sym, ap, ◌∙◌, Ordering, Less, Equal, Greater}
 use Rattle.std.specs.Prelude.{bytes_eq}
 use Rattle.std.specs.Ordering.{is_eq}
 use Rattle.std.specs.Ordering.{int_eq, int_cmp}
@@ -14,7 +14,7 @@ use Rattle.sqlite_value.proofs.OrderLemmas.{value_cmp_total, value_cmp-Text, val
 use Rattle.sqlite_trees.specs.Tree.{rowid, has_rowid}
 use Rattle.ps_bucket_log.specs.declared.ops.Key.{Key}
 use Rattle.ps_bucket_log.specs.Ops.{same_key}
-use Rattle.ps_client_tables.specs.Tables.{has_text, is_bucket, is_entry, is_shown}
+use Rattle.ps_client_tables.specs.Tables.{has_text, is_bucket}
 use Rattle.ps_client_log.specs.declared.states.Held.{Held}
 use Rattle.ps_client_sqlite.specs.Stored.{has_entry, has_shown, same_place, same_object, bucket_columns, entry_columns, queued_columns, shown_columns}
 use Rattle.ps_client_sqlite.proofs.Placing.{AreKeys}

@@ -1,5 +1,5 @@
 -- What a keeper that was opened keeps.
-use Rattle.std.proofs.Common.{◌≡◌, ◌⊎◌, inl, inr, ℕ, false, List, IsTrue, Result, Ok, Err, IfOk, sym, ap, subst, ◌∙◌}
+use Rattle.std.proofs.Common.{◌≡◌, inl, inr, ℕ, false, List, IsTrue, Result, Ok, Err, IfOk, sym, subst, ◌∙◌}
 use Rattle.sqlite.specs.Effect.{Database, IsDatabase}
 use Rattle.sqlite.specs.Held.{Held}
 use Rattle.sqlite.specs.State.{State as Connected, HasCleanDisk, IsUnchanged}
@@ -9,8 +9,8 @@ use Rattle.ps_client_lines.specs.declared.lines.Queued.{Queued}
 use Rattle.ps_client_lines.specs.declared.rows.Rows.{Rows}
 use Rattle.ps_client_lines.specs.Holding.{AreRowsOf, AreRising}
 use Rattle.ps_client_tables.specs.Schemas.{no_schema}
-use Rattle.ps_client_tables.specs.Tables.{Tables, tables_in, no_rows}
-use Rattle.ps_client_tables.specs.Steps.{IsClient, IsFresh, tables_of}
+use Rattle.ps_client_tables.specs.Tables.{Tables, tables_in}
+use Rattle.ps_client_tables.specs.Steps.{IsClient, tables_of}
 use Rattle.ps_client_sqlite.specs.declared.writes.RowWrite.{RowWrite}
 use Rattle.ps_client_sqlite.specs.Stored.{Stored, Holds, with_writes}
 use Rattle.ps_client_sqlite.specs.Steps.{Kept, LeavesOr}

@@ -1,5 +1,5 @@
 -- Tables whose rows are read as those of a state hold what the state's tables hold.
-use Rattle.std.proofs.Common.{◌≡◌, suc, ◌<ℤ◌, inl, inr, ℕ, Bool, true, false, ◌&&◌, List, [], ◌∷◌, ◌++◌, map, get_or, All, Option, Some, None, IsPermutation, refl, sym, ap, subst, ◌∙◌, arith}
+use Rattle.std.proofs.Common.{◌≡◌, suc, ◌<ℤ◌, inl, inr, ℕ, Bool, true, false, ◌&&◌, List, [], ◌∷◌, ◌++◌, map, get_or, Some, None, IsPermutation, refl, ap, subst, ◌∙◌, arith}
 use Rattle.std.specs.Prelude.{bytes_eq}
 use Rattle.std.specs.Ordering.{int_eq}
 use Rattle.std.specs.List.{AllByRecursion, IsDistinct}
@@ -16,7 +16,7 @@ use Rattle.ps_client_log.specs.declared.states.Held.{Held}
 use Rattle.ps_client_log.specs.Soundness.{IsSoundState}
 use Rattle.ps_client_tables.specs.Tables.{Tables, is_bucket}
 use Rattle.sqlite_trees.specs.Tree.{has_rowid}
-use Rattle.ps_client_tables.specs.Lines.{bucket_line, entry_line, queued_line, aim_line, shown_line}
+use Rattle.ps_client_tables.specs.Lines.{bucket_line, entry_line, queued_line, shown_line}
 use Rattle.ps_client_lines.specs.declared.cells.Cell.{Cell}
 use Rattle.ps_client_lines.specs.declared.lines.Queued.{Queued}
 use Rattle.ps_client_lines.specs.declared.rows.Rows.{Rows}

@@ -1,9 +1,8 @@
 -- What each write of a row makes of what the tables hold.
-use Rattle.std.proofs.Common.{◌≡◌, ◌⊎◌, inl, inr, ℕ, ℤ, pos, Bool, true, false, cond, ◌&&◌, not, List, [], ◌∷◌, map, Option, Some, None, refl, sym, ap, subst, ◌∙◌}
+use Rattle.std.proofs.Common.{◌≡◌, inl, inr, ℕ, ℤ, pos, Bool, true, false, cond, ◌&&◌, not, List, [], ◌∷◌, map, refl, sym, ap, subst, ◌∙◌}
 use Rattle.std.specs.Prelude.{bytes_eq, slice_index_or}
 use Rattle.std.specs.Ordering.{is_eq, int_eq}
-use Rattle.sqlite_value.specs.declared.value.Value.{Value}
-use Rattle.sqlite_value.specs.declared.value.Value.TheVariants.{Null, Int, Text}
+use Rattle.sqlite_value.specs.declared.value.Value.TheVariants.{Int}
 use Rattle.sqlite_value.specs.Order.{Row, column, value_cmp}
 use Rattle.sqlite_trees.specs.Tree.{rowid, has_rowid, put_row}
 use Rattle.sqlite_rules.specs.Edit.{next_rowid, is_taken}
@@ -16,7 +15,7 @@ use Rattle.ps_bucket_log.specs.declared.ops.Key.{Key}
 use Rattle.ps_rows.specs.declared.shown.Shown.{Shown}
 use Rattle.ps_client_log.specs.declared.states.Held.{Held}
 use Rattle.ps_client_log.specs.declared.states.Target.{Target}
-use Rattle.ps_client_tables.specs.Tables.{Tables, AreRows, AreTables, less, put_bucket, drop_bucket, put_entry, drop_entry, put_queued, drop_queued, put_aim, put_shown, drop_shown, bucket_row, entry_row, queued_row, aim_row, shown_row, is_bucket}
+use Rattle.ps_client_tables.specs.Tables.{Tables, AreRows, less, put_bucket, drop_bucket, put_entry, drop_entry, put_queued, drop_queued, put_aim, put_shown, drop_shown, bucket_row, entry_row, queued_row, aim_row, shown_row, is_bucket}
 use Rattle.ps_client_tables.specs.Lines.{bucket_line, entry_line, queued_line, aim_line, shown_line}
 use Rattle.ps_client_tables.specs.Steps.{IsInside, Turns, tables_of}
 use Rattle.ps_client_sqlite.specs.declared.writes.RowWrite.{RowWrite}

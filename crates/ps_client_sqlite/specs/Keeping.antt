@@ -1,10 +1,10 @@
 -- What a keeper over a database keeps.
-use Rattle.std.specs.Prelude.{◌≡◌, ◌≢◌, ◌⊎◌, ℕ, false, List, Result, Ok, Err, IsTrue}
+use Rattle.std.specs.Prelude.{◌≡◌, ◌≢◌, ◌⊎◌, ℕ, false, List, Result, Ok, Err}
 use Rattle.sqlite.specs.declared.error.ErrorCode.TheVariants.{OutOfMemory}
 use Rattle.sqlite.specs.declared.error.Error.{Error}
 use Rattle.sqlite.specs.declared.error.Error.TheVariants.{SqliteFailure}
 use Rattle.sqlite.specs.Effect.{IsDatabase}
-use Rattle.sqlite.specs.State.{State as Connected, HasCleanDisk}
+use Rattle.sqlite.specs.State.{State as Connected}
 use Rattle.sqlite.specs.Held.{Held}
 use Rattle.ps_io.specs.Counts.{Rose}
 use Rattle.ps_client_log.specs.declared.states.State.{State}
@@ -57,7 +57,7 @@ abbrev pub Counts : {X : Type 0} → Result X KeepFault → ℕ → ℕ → Type
 Counts (Ok x) before now = now ≡ before
 Counts (Err fault) before now = CountsAt fault before now
 
--- want of memory is told as itself, and each other refusal as a failure
+-- out of memory is told as itself, and each other refusal as a failure
 abbrev pub IsBlamed : Error → KeepFault → Type 0
 IsBlamed error Failed = error ≢ SqliteFailure OutOfMemory
 IsBlamed error Memory = error ≡ SqliteFailure OutOfMemory

@@ -22,7 +22,7 @@ Settles s = HasCleanDisk s → IsTrue s.is_open → IsSettled s
 abbrev pub IsOfCommit : State → State → Type 0
 IsOfCommit old made = (made.now.trees ≡ old.committed.trees) ⊎ (IsFresh made × IsDatabase (record { schema = no_schema; trees = old.committed.trees }))
 
--- want of memory is told as itself, and each other refusal as a failure
+-- out of memory is told as itself, and each other refusal as a failure
 abbrev pub IsRefused : Error → StoreFault → Type 0
 IsRefused error Failed = error ≢ SqliteFailure OutOfMemory
 IsRefused error (BadState table) = ⊥

@@ -1,5 +1,5 @@
 -- What the writes of a commit do to a database, and what it shows while nothing waits for a commit.
-use Rattle.std.specs.Prelude.{◌≡◌, ◌⊎◌, false, List, IsTrue}
+use Rattle.std.specs.Prelude.{◌≡◌, ◌⊎◌, List, IsTrue}
 use Rattle.sqlite.specs.Tree.{Trees}
 use Rattle.sqlite.specs.State.{State, HasCleanDisk}
 use Rattle.ps_client_tables.specs.Tables.{Tables, tables_in}
