@@ -1,15 +1,13 @@
 -- The first part of an answer.
-use Rattle.std.proofs.Common.{◌≡◌, ℕ, true, List, [], ◌++◌, Option, Some, None, Result, Ok, Err, refl, sym, ap, subst, ◌∙◌, inl, inr, append_assoc}
+use Rattle.std.proofs.Common.{◌≡◌, ℕ, true, List, [], ◌++◌, Option, Some, None, Err, refl, sym, ap, subst, ◌∙◌, inl, inr, append_assoc}
 use Rattle.std.proofs.lemmas.List.{append-nil}
 use Rattle.ps_io.specs.Sources.{Input}
 use Rattle.ps_answers.specs.Givings.{HasGiven, HasEnded}
 use Rattle.ps_answers.specs.Heads.{BeginsNoHead}
-use Rattle.ps_answers.specs.declared.buffers.Reader.{Reader}
-use Rattle.ps_syncing.specs.declared.exchanges.Begun.{Begun}
 use Rattle.ps_syncing.specs.declared.faults.SyncFault.{SyncFault}
 use Rattle.ps_syncing.specs.declared.faults.SyncFault.TheVariants.{ConnectionFailed, NoCheckpoint, Answered, Altered, LineTooLong, Memory}
 use Rattle.ps_syncing.specs.Beginnings.{Begins}
-use Rattle.ps_syncing.specs.Exchanges.{Answers, Exchange, HasNoHead, Sees, given_of, ended_of}
+use Rattle.ps_syncing.specs.Exchanges.{Answers, HasNoHead, Sees, given_of, ended_of}
 
 -- a new reader of a source stands behind what that has handed out
 pub HasGiven-started : (input : Option Input) (left : List ℕ) → left ≡ [] → HasGiven input (given_of input ++ left)

@@ -1,5 +1,5 @@
 -- What a closed connection tells.
-use Rattle.std.proofs.Common.{◌≡◌, ◌≢◌, ℕ, Bool, true, false, List, [], ◌∷◌, ◌++◌, Option, Some, None, Result, Ok, Err, is_some, map, length, refl, sym, ap, subst, ◌∙◌, arith}
+use Rattle.std.proofs.Common.{◌≡◌, ◌≢◌, ℕ, Bool, List, [], ◌∷◌, ◌++◌, Option, Some, None, Result, Ok, Err, is_some, map, refl, sym, ap, subst, ◌∙◌}
 use Rattle.std.specs.Prelude.{IfSome}
 use Rattle.std.proofs.lemmas.List.{append-nil, map-append}
 use Rattle.ps_io.specs.Contents.{Gains}
@@ -9,7 +9,7 @@ use Rattle.ps_answers.specs.Givings.{HasGiven}
 use Rattle.ps_answers.specs.declared.buffers.Reader.{Reader}
 use Rattle.ps_syncing.specs.declared.faults.SyncFault.{SyncFault}
 use Rattle.ps_syncing.specs.declared.faults.SyncFault.TheVariants.{ConnectionFailed, NoCheckpoint, Answered, Altered, LineTooLong, Memory}
-use Rattle.ps_syncing.specs.Exchanges.{Answers, Exchange, exchange_of, exchanges_in, Closes, ClosesOne, given_of, ended_of, Sees}
+use Rattle.ps_syncing.specs.Exchanges.{Answers, Exchange, exchange_of, Closes, ClosesOne, given_of, ended_of, Sees}
 
 -- what a source has handed out is what is told of it
 pub HasGiven-given_of : (input : Option Input) → HasGiven input (given_of input ++ [])

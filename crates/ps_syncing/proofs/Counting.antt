@@ -1,13 +1,12 @@
 -- Bodies in which a number is found.
-use Rattle.std.proofs.Common.{◌≡◌, ℕ, List, ◌∷◌, [], Option, Some, None, Result, Ok, Err, refl, sym, ap, subst, ◌∙◌, inl, inr}
+use Rattle.std.proofs.Common.{◌≡◌, ℕ, List, ◌∷◌, [], Option, Some, None, Result, Ok, Err, refl, sym, subst, inr}
 use Rattle.std.specs.Prelude.{IfOk}
 use Rattle.ps_data.specs.declared.shortage.Memory as shortage
 use Rattle.ps_rows.specs.declared.changes.Change.{Change}
 use Rattle.ps_client.specs.LocalWrites.{next_upload, upload_text}
 use Rattle.ps_syncing.specs.declared.faults.SyncFault.{SyncFault}
-use Rattle.ps_syncing.specs.declared.faults.SyncFault.TheVariants.{NoCheckpoint, Memory}
 use Rattle.ps_syncing.specs.Exchanges.{Exchange, IsAnswered}
-use Rattle.ps_syncing.specs.Numbers.{HasNumber, Numbers}
+use Rattle.ps_syncing.specs.Numbers.{Numbers}
 use Rattle.ps_syncing.specs.Steps.{FindsNumber}
 
 -- what a body was found to have is what its exchange answers

@@ -1,17 +1,14 @@
 -- How a run of `sync` ends.
-use Rattle.std.proofs.Common.{◌≡◌, ◌≢◌, ℕ, ◌≤◌, List, Option, Some, None, Result, Ok, Err, refl, sym, ap, subst, ◌∙◌, ◌⊎◌, inl, inr, Vec}
+use Rattle.std.proofs.Common.{◌≡◌, ℕ, List, Option, Some, Result, Ok, Err, refl, sym, ap, subst, ◌⊎◌, inl, inr, Vec}
 use Rattle.std.specs.Prelude.{IfErr, IfOk, OnOk}
 use Rattle.std.specs.declared.alloc.Global.{Global}
-use Rattle.ps_io.specs.Contents.{Gains, GainsFront}
 use Rattle.ps_io.specs.Counts.{Rose}
 use Rattle.ps_rows.specs.declared.changes.Change.{Change}
 use Rattle.ps_doors.specs.Connections.{Connection}
 use Rattle.ps_client_log.specs.Kept.{Kept}
 use Rattle.ps_client_log.specs.Keeping.{Tells as TellsKept}
 use Rattle.ps_client.specs.Clients.{PlainClient}
-use Rattle.ps_files.specs.declared.faults.Fault.{Fault}
 use Rattle.ps_files.specs.declared.faults.Fault.TheVariants.{Usage, Rules, Change as ChangeLine, PastLimit, TooManyBuckets, Claims, Keys, TooLong, CannotRead, CannotWrite, Script, Memory}
-use Rattle.ps_files.specs.declared.faults.Limit.TheVariants.{LineBytes}
 use Rattle.ps_syncing.specs.declared.faults.SyncFault.{SyncFault}
 use Rattle.ps_syncing.specs.declared.faults.SyncFault.TheVariants as sync
 use Rattle.ps_syncing.specs.declared.services.Service.{Service}
@@ -58,7 +55,7 @@ module _ (o : Outside) (named : Named) (service : Service) (changes : List Chang
 
   causes_fault : (fault : SyncFault) → Unprinted o → FailsSo service o.closed_before o.closed_now fault
       → (fault ≡ sync.ConnectionFailed → Rose o.link_before o.link_now ⊎ Rose o.keep_before o.keep_now) → Causes o named (stop_of fault)
-  causes_fault sync.ConnectionFailed same fails rose = (same, rose refl)
+  causes_fault sync.ConnectionFailed same fails rose = (same, failed sync.ConnectionFailed fails, rose refl)
   causes_fault sync.NoCheckpoint same fails rose = (same, failed sync.NoCheckpoint fails)
   causes_fault (sync.Answered status) same fails rose = (same, failed (sync.Answered status) fails)
   causes_fault sync.Altered same fails rose = (same, failed sync.Altered fails)

@@ -1,17 +1,16 @@
 -- Connections that are closed one after another, and why what closes them fails.
-use Rattle.std.proofs.Common.{◌≡◌, ℕ, List, [], ◌∷◌, ◌++◌, Option, Some, None, Result, Ok, Err, option_map, refl, sym, ap, subst, ◌∙◌, inl, inr, ◌⊎◌, append_assoc}
+use Rattle.std.proofs.Common.{◌≡◌, ℕ, List, [], ◌∷◌, ◌++◌, Option, Some, None, Err, option_map, refl, sym, ap, subst, ◌∙◌, inl, inr, ◌⊎◌, append_assoc}
 use Rattle.std.proofs.lemmas.List.{append-nil}
 use Rattle.ps_rows.specs.declared.changes.Change.{Change}
 use Rattle.ps_doors.specs.Connections.{Connection}
 use Rattle.ps_answers.specs.Numbers.{checkpoint_in, position_in}
-use Rattle.ps_answers.specs.declared.buffers.Reader.{Reader}
 use Rattle.ps_client.specs.Clients.{PlainClient, asked}
 use Rattle.ps_syncing.specs.declared.faults.SyncFault.{SyncFault}
 use Rattle.ps_syncing.specs.declared.faults.SyncFault.TheVariants.{ConnectionFailed, NoCheckpoint, Answered, Altered, LineTooLong, Memory}
 use Rattle.ps_syncing.specs.declared.services.Service.{Service}
 use Rattle.ps_syncing.specs.Exchanges.{Answers, Exchange, Closes, ClosesOne, HasNoHead, exchanges_in}
 use Rattle.ps_syncing.specs.Numbers.{IsUnformed, Numbers, upload_of, number_of}
-use Rattle.ps_syncing.specs.Runs.{ClosesLast, ClosesRefused, FailsSo, IsLost, IsLostUpload, IsLostNumber, IsLostStream, IsStreamWith}
+use Rattle.ps_syncing.specs.Runs.{ClosesLast, ClosesRefused, FailsSo, IsLost, IsStreamWith}
 use Rattle.ps_syncing.specs.Streams.{ClosesStream, EndsOpen, ExceedsLine, IsAltered, IsStreamRequest, Streams}
 
 -- ---- connections one after another

@@ -1,27 +1,22 @@
 -- A stream that is under way, and each of its ends.
-use Rattle.std.proofs.Common.{◌≡◌, ◌≢◌, ℕ, true, List, [], ◌∷◌, ◌++◌, Option, Some, None, Result, Ok, Err, refl, sym, ap, subst, ◌∙◌, inl, inr, append_assoc}
+use Rattle.std.proofs.Common.{◌≡◌, ◌≢◌, ℕ, List, [], ◌∷◌, ◌++◌, Option, Some, Result, Ok, Err, refl, sym, ap, subst, inl, inr, append_assoc}
 use Rattle.std.proofs.lemmas.List.{append-nil, flat_map_more}
-use Rattle.std.proofs.lemmas.Grind.{flat_map-append}
-use Rattle.ps_data.specs.declared.ids.OpId.{OpId}
 use Rattle.ps_io.specs.Sources.{Input}
-use Rattle.ps_answers.specs.Givings.{HasGiven, HasEnded}
-use Rattle.ps_answers.specs.Lines.{HasNoFeed, lines_text, with_feed}
-use Rattle.ps_answers.specs.Readers.{BeginsTooLong, GivesTooLong, left_of}
-use Rattle.ps_client.specs.Clients.{PlainClient, line_taken}
-use Rattle.ps_client.specs.declared.events.Differing.{Differing}
+use Rattle.ps_answers.specs.Givings.{HasGiven}
+use Rattle.ps_answers.specs.Lines.{lines_text, with_feed}
+use Rattle.ps_answers.specs.Readers.{left_of}
+use Rattle.ps_client.specs.Clients.{PlainClient}
 use Rattle.ps_client.specs.declared.events.Event.{Event}
-use Rattle.ps_client.specs.declared.events.Event.TheVariants.{Applied, Refused}
-use Rattle.ps_client.specs.declared.faults.ClientFault.{ClientFault}
 use Rattle.ps_syncing.specs.declared.exchanges.Begun.{Begun}
 use Rattle.ps_syncing.specs.declared.faults.SyncFault.{SyncFault}
 use Rattle.ps_syncing.specs.declared.faults.SyncFault.TheVariants.{ConnectionFailed, NoCheckpoint, Answered, Altered, LineTooLong, Memory}
 use Rattle.ps_syncing.specs.declared.streams.Ended.{Ended}
 use Rattle.ps_syncing.specs.declared.streams.Ended.TheVariants as ended
 use Rattle.ps_syncing.specs.Beginnings.{Begins, HasBegun}
-use Rattle.ps_syncing.specs.Exchanges.{Exchange, Sees, ClosesOne, given_of, ended_of}
-use Rattle.ps_syncing.specs.Lines.{Comes, ComesNone, Flowing, TakesNext, Tells}
+use Rattle.ps_syncing.specs.Exchanges.{Exchange, Sees, given_of, ended_of}
+use Rattle.ps_syncing.specs.Lines.{Comes, Flowing, TakesNext, Tells}
 use Rattle.ps_syncing.proofs.Beginning.{ended_of-has}
-use Rattle.ps_syncing.specs.Streams.{Passes, no_lines, next_line, Flows, GoesOn, EndsBy, EndsOpen, IsAltered, ExceedsLine, Streams}
+use Rattle.ps_syncing.specs.Streams.{no_lines, next_line, Flows, GoesOn, Streams}
 
 -- ---- the order of bytes
 

@@ -1,4 +1,5 @@
 pub mod Beginning
+pub mod Causing
 pub mod Closing
 pub mod Counting
 pub mod Ending

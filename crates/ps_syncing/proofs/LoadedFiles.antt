@@ -1,5 +1,5 @@
 -- Files that are read before anything is connected.
-use Rattle.std.proofs.Common.{◌≡◌, ℕ, ◌+◌, ◌-◌, ◌^◌, ◌≤◌, min, List, [], Option, Some, None, Result, Ok, Err, refl, sym, ap, subst, ◌∙◌, ◌⊎◌, inl, inr, arith, Vec}
+use Rattle.std.proofs.Common.{◌≡◌, ℕ, ◌≤◌, List, Option, Some, None, Result, Ok, Err, refl, sym, ap, subst, ◌∙◌, inl, inr, arith, Vec}
 use Rattle.std.specs.declared.alloc.Global.{Global}
 use Rattle.ps_io.specs.Contents.{Contents}
 use Rattle.ps_io.specs.Counts.{Rose}
@@ -11,12 +11,11 @@ use Rattle.ps_files.specs.HeldFiles.{HoldsWithin, file_limit}
 use Rattle.ps_files.specs.Loading.{Loads, IsContent, RefusesNothing}
 use Rattle.ps_files.specs.declared.faults.Fault.{Fault}
 use Rattle.ps_files.specs.declared.faults.Fault.TheVariants.{Usage, Rules, Change as ChangeLine, PastLimit, TooManyBuckets, Claims, Keys, TooLong, CannotRead, CannotWrite, Script, Memory}
-use Rattle.ps_syncing.specs.declared.inputs.Refused.{Refused}
 use Rattle.ps_syncing.specs.declared.stops.Stop.{Stop}
 use Rattle.ps_syncing.specs.declared.stops.Stop.TheVariants.{Shared, Token, ConnectionFailed, NoCheckpoint, Answered, Altered}
 use Rattle.ps_syncing.specs.declared.words.Named.{Named}
 use Rattle.ps_syncing.specs.Inputs.{ReadsAs, changes_of}
-use Rattle.ps_syncing.specs.Preparing.{FindsChanges, FindsToken, HasBadLine, HasNoToken, LoadsSo, LoadsToken, LoadsUpload, LoadsUploads, ReadsTokenSo, ReadsUploadSo}
+use Rattle.ps_syncing.specs.Preparing.{LoadsSo, LoadsToken, LoadsUpload, LoadsUploads, ReadsTokenSo, ReadsUploadSo}
 use Rattle.ps_syncing.specs.Syncing.{RefusesFiles, TokenRead}
 
 -- a file that is not read

@@ -1,16 +1,15 @@
 -- The steps of a run, one after another.
-use Rattle.std.proofs.Common.{◌≡◌, ◌≢◌, ℕ, ◌+◌, ◌<◌, List, [], ◌∷◌, ◌++◌, length, drop, Option, refl, sym, ap, subst, ◌∙◌, append_assoc, length-append, arith}
-use Rattle.std.proofs.lemmas.List.{append-nil}
+use Rattle.std.proofs.Common.{◌≡◌, List, [], ◌∷◌, ◌++◌, drop, Option, refl, sym, ap, subst, ◌∙◌, append_assoc}
 use Rattle.ps_rows.specs.declared.changes.Change.{Change}
 use Rattle.ps_doors.specs.Connections.{Connection}
-use Rattle.ps_client.specs.Clients.{PlainClient, asked, is_pending}
+use Rattle.ps_client.specs.Clients.{PlainClient, is_pending}
 use Rattle.ps_client.specs.LocalWrites.{keeping, popped, written}
 use Rattle.ps_syncing.specs.declared.services.Service.{Service}
 use Rattle.ps_syncing.specs.Exchanges.{Closes, Exchange}
 use Rattle.ps_syncing.specs.Numbers.{IsUpload}
-use Rattle.ps_syncing.specs.Runs.{AimsWhere, AreRefused, AreStreams, AreUploads, ClosesRefused, emptied, most_streams, next, none, written_all}
-use Rattle.ps_syncing.specs.Steps.{AimsAt, IsSynced, StreamsUntil, UploadsAll, UploadsFirst, UploadsNone, UploadsSome}
-use Rattle.ps_syncing.specs.Streams.{ClosesStream, EndsApplied, EndsRefused, IsStreamRequest}
+use Rattle.ps_syncing.specs.Runs.{AimsWhere, AreStreams, AreUploads, emptied, written_all}
+use Rattle.ps_syncing.specs.Steps.{AimsAt, IsSynced, StreamsUntil, UploadsAll, UploadsFirst, UploadsSome}
+use Rattle.ps_syncing.specs.Streams.{ClosesStream, IsStreamRequest}
 use Rattle.ps_syncing.proofs.Failing.{Closes-none, Closes-more}
 
 -- ---- local writes

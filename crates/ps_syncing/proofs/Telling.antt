@@ -1,6 +1,6 @@
 -- A line that is written in pieces.
-use Rattle.std.proofs.Common.{◌≡◌, ℕ, Bool, true, false, List, ◌++◌, Option, Some, None, option_map, sym, ap, subst, ◌∙◌, inl, inr, append_assoc}
-use Rattle.ps_io.specs.Contents.{Gains, GainsFront}
+use Rattle.std.proofs.Common.{ℕ, Bool, true, false, List, ◌++◌, Option, Some, None, option_map, sym, ap, subst, ◌∙◌, inl, inr, append_assoc}
+use Rattle.ps_io.specs.Contents.{Gains}
 use Rattle.ps_io.specs.Counts.{Rose}
 use Rattle.ps_files.specs.FaultTexts.{Tells}
 use Rattle.ps_syncing.specs.Saying.{TellsPiece}

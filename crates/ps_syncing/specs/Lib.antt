@@ -2,6 +2,7 @@ pub mod Beginnings
 pub mod Exchanges
 pub mod Faults
 pub mod Inputs
+pub mod Laws
 pub mod Lines
 pub mod Numbers
 pub mod Preparing

@@ -6,7 +6,6 @@ use Rattle.ps_rows.specs.declared.changes.Change.{Change}
 use Rattle.ps_answers.specs.Tokens.{token_in}
 use Rattle.ps_files.specs.ChangeFiles.{line_fault}
 use Rattle.ps_files.specs.HeldFiles.{HoldsWithin, file_limit}
-use Rattle.ps_files.specs.declared.faults.Fault.{Fault}
 use Rattle.ps_files.specs.declared.faults.Fault.TheVariants.{Usage, Rules, Change as ChangeLine, PastLimit, TooManyBuckets, Claims, Keys, TooLong, CannotRead, CannotWrite, Script, Memory}
 use Rattle.ps_syncing.specs.declared.inputs.Refused.{Refused}
 use Rattle.ps_syncing.specs.declared.stops.Stop.{Stop}

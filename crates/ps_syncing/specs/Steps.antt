@@ -9,7 +9,7 @@ use Rattle.ps_client_log.specs.Kept.{Kept}
 use Rattle.ps_client.specs.Clients.{PlainClient, is_pending}
 use Rattle.ps_client.specs.LocalWrites.{popped, keeping}
 use Rattle.ps_syncing.specs.declared.faults.SyncFault.{SyncFault}
-use Rattle.ps_syncing.specs.declared.faults.SyncFault.TheVariants.{ConnectionFailed, NoCheckpoint, Answered, Altered, LineTooLong, Memory}
+use Rattle.ps_syncing.specs.declared.faults.SyncFault.TheVariants.{NoCheckpoint, Memory}
 use Rattle.ps_syncing.specs.declared.services.Service.{Service}
 use Rattle.ps_syncing.specs.Exchanges.{Exchange, Closes}
 use Rattle.ps_syncing.specs.Numbers.{IsUpload}

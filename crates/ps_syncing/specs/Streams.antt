@@ -1,5 +1,5 @@
 -- A stream's exchange: the lines that came, and what the client made of each.
-use Rattle.std.specs.Prelude.{◌≡◌, ◌⊎◌, ℕ, true, List, [], ◌∷◌, ◌++◌, Option, Some, None, Result, Ok, Err}
+use Rattle.std.specs.Prelude.{◌≡◌, ◌⊎◌, ℕ, true, List, [], ◌∷◌, ◌++◌, Option, Result, Ok, Err}
 use Rattle.ps_data.specs.declared.ids.OpId.{OpId}
 use Rattle.ps_answers.specs.Heads.{IsAnswerHead}
 use Rattle.ps_answers.specs.Lines.{HasNoFeed, lines_text, with_feed}

@@ -9,7 +9,6 @@ use Rattle.ps_answers.specs.Tokens.{token_in}
 use Rattle.ps_client_log.specs.Kept.{Kept}
 use Rattle.ps_client_log.specs.Keeping.{Tells as TellsKept}
 use Rattle.ps_client.specs.Clients.{PlainClient}
-use Rattle.ps_client.specs.States.{IsOpened}
 use Rattle.ps_files.specs.ChangeFiles.{line_fault}
 use Rattle.ps_files.specs.HeldFiles.{HoldsWithin, file_limit}
 use Rattle.ps_files.specs.declared.faults.Fault.{Fault}
@@ -26,7 +25,7 @@ use Rattle.ps_syncing.specs.declared.stops.Stop.TheVariants.{Shared, Token, Conn
 use Rattle.ps_syncing.specs.declared.words.Named.{Named}
 use Rattle.ps_syncing.specs.Inputs.{changes_of}
 use Rattle.ps_syncing.specs.Runs.{FailsSo}
-use Rattle.ps_syncing.specs.Saying.{SaysStop, status_of}
+use Rattle.ps_syncing.specs.Saying.{SaysStop}
 use Rattle.ps_syncing.specs.Steps.{IsSynced, Prints}
 use Rattle.ps_syncing.specs.Stops.{stop_of}
 use Rattle.ps_syncing.specs.Words.{sync_of}
@@ -181,7 +180,8 @@ CausesShared o named Memory = Unprinted o
 abbrev pub Causes : Outside → Named → Stop → Type 0
 Causes o named (Shared fault) = CausesShared o named fault
 Causes o named Token = Unprinted o × RefusesToken o.held named
-Causes o named ConnectionFailed = Unprinted o × (Rose o.link_before o.link_now ⊎ Rose o.keep_before o.keep_now)
+Causes o named ConnectionFailed =
+    Unprinted o × IsFailed o named sync.ConnectionFailed × (Rose o.link_before o.link_now ⊎ Rose o.keep_before o.keep_now)
 Causes o named NoCheckpoint = Unprinted o × IsFailed o named sync.NoCheckpoint
 Causes o named (Answered status) = Unprinted o × IsFailed o named (sync.Answered status)
 Causes o named Altered = Unprinted o × IsFailed o named sync.Altered

@@ -1,5 +1,5 @@
 use Rattle.std.proofs.Common.{Ok, ap, sym, ◌∙◌}
-use Rattle.ps_syncing.proofs.ReadingLines.{begun, blank_read, read_more, refuses_all}
+use Rattle.ps_syncing.proofs.ReadingLines.{begun, read_more, refuses_all}
 use Rattle.ps_syncing.proofs.inputs.read_uploads.Goals as goal
 
 pub lines-init : goal.lines-init

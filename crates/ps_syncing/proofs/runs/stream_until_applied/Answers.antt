@@ -1,4 +1,4 @@
-use Rattle.std.proofs.Common.{◌≡◌, ◌∙◌, ◌+◌, ◌<◌, ◌++◌, ◌∷◌, [], ℕ, length, refl, sym, ap, inl, inr, arith, length-append}
+use Rattle.std.proofs.Common.{◌≡◌, ◌∙◌, ◌+◌, ◌<◌, ◌++◌, ◌∷◌, [], length, refl, ap, inr, arith, length-append}
 use Rattle.ps_client.specs.Clients.{asked}
 use Rattle.ps_client.specs.States.{state}
 use Rattle.ps_syncing.specs.Runs.{most_streams, next, none}

@@ -1,4 +1,4 @@
-use Rattle.std.proofs.Common.{◌≡◌, ◌≢◌, [], ◌∙◌}
+use Rattle.std.proofs.Common.{◌≢◌, [], ◌∙◌}
 use Rattle.std.proofs.lemmas.List.Elements.{All-rest}
 use Rattle.ps_client.specs.LocalWrites.{keeping}
 use Rattle.ps_client.specs.States.{state}

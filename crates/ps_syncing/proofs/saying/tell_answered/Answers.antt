@@ -1,5 +1,4 @@
 use Rattle.std.proofs.Common.{◌≡◌, Bool, true, false, List, ℕ, codes, decimal, ◌++◌, subst}
-use Rattle.ps_files.specs.FaultTexts.{Tells}
 use Rattle.ps_syncing.specs.Saying.{TellsPiece}
 use Rattle.ps_syncing.proofs.Telling.{Tells-behind, Tells-cut, Tells-piece}
 use Rattle.ps_syncing.proofs.saying.tell_answered.Goals as goal

@@ -1,4 +1,4 @@
-use Rattle.std.proofs.Common.{List, ℕ, Option, subst, ◌∙◌, ap}
+use Rattle.std.proofs.Common.{List, ℕ, subst}
 use Rattle.ps_client.specs.Clients.{PlainClient, asked}
 use Rattle.ps_client.specs.States.{state}
 use Rattle.ps_syncing.specs.Exchanges.{ClosesOne}

@@ -1,4 +1,3 @@
-use Rattle.std.proofs.Common.{◌≡◌}
 use Rattle.ps_client.specs.States.{state}
 use Rattle.ps_syncing.proofs.Ending.{RunsSo-made}
 use Rattle.ps_syncing.proofs.syncing.run.Goals as goal

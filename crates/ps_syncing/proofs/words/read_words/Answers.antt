@@ -1,7 +1,6 @@
-use Rattle.std.proofs.Common.{◌≡◌, ◌∙◌, List, ℕ, true, [], ap, sym, subst, map, rules}
-use Rattle.std.specs.Prelude.{IfOk}
+use Rattle.std.proofs.Common.{◌≡◌, ◌∙◌, ap, sym, map}
 use Rattle.std.proofs.lemmas.Result.{IfOk-weaker}
-use Rattle.clap.specs.Words.{App, FailsBy, HasMatchesOf, app_of, fault_of, found_of, is_simple, is_simple_and_free, kind_of, matches_of, rows_of}
+use Rattle.clap.specs.Words.{App, app_of, fault_of, found_of, is_simple, is_simple_and_free, kind_of, matches_of}
 use Rattle.ps_syncing.specs.Words.{sync_app}
 use Rattle.ps_syncing.proofs.ReadingWords.{free, simple, sync_of-refused, sync_of-taken}
 use Rattle.ps_syncing.proofs.words.read_words.Goals as goal

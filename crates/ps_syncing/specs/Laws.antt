@@ -1,0 +1,67 @@
+-- Each status of `sync`, with its cause.
+use Rattle.std.specs.Prelude.{◌≡◌, ◌⊎◌, ℕ, List, Some, None}
+use Rattle.ps_io.specs.Counts.{Rose}
+use Rattle.ps_files.specs.FaultTexts.{Tells}
+use Rattle.ps_files.specs.Saying.{Told}
+use Rattle.ps_files.specs.declared.faults.Fault.TheVariants.{Change as ChangeLine}
+use Rattle.ps_files.specs.declared.faults.Limit.{Limit}
+use Rattle.ps_files.specs.declared.faults.LineFault.{LineFault}
+use Rattle.ps_syncing.specs.declared.faults.SyncFault.TheVariants.{NoCheckpoint, Answered, Altered}
+use Rattle.ps_syncing.specs.declared.words.Named.{Named}
+use Rattle.ps_syncing.specs.Saying.{answered_line}
+use Rattle.ps_syncing.specs.Syncing.{EndsSo, ExceedsFile, ExceedsLimit, FailsToPrint, HasDone, IsFailed, IsNext, Outside, RefusesToken, RefusesUpload}
+use Rattle.ps_syncing.specs.Words.{sync_of}
+
+-- wherever it ends with that status, this holds
+abbrev pub WhereEnds : ℕ → (Outside → List (List ℕ) → Told → Type 0) → Type 0
+WhereEnds status Holds = (o : Outside) (words : List (List ℕ)) (e : Told) → EndsSo o words e status → Holds o words e
+
+-- the words are those of `sync`, and of what they name this holds
+abbrev pub NamesSo : List (List ℕ) → (Named → Type 0) → Type 0
+NamesSo words Holds = (named : Named) × (sync_of words ≡ Some named) × Holds named
+
+-- 0: all was done and printed, and nothing was said
+abbrev pub DoneAtZero : Type 0
+DoneAtZero = WhereEnds 0 (λ o words e. HasDone o words × (e.new ≡ e.old))
+
+-- 1: the words are none of `sync`
+abbrev pub NoWordsAtOne : Type 0
+NoWordsAtOne = WhereEnds 1 (λ o words e. sync_of words ≡ None)
+
+-- 3: a line of the file to upload is no change
+abbrev pub LineAtThree : Type 0
+LineAtThree = WhereEnds 3 (λ o words e. NamesSo words (λ named. (line : ℕ) × (why : LineFault) × RefusesUpload o.held named (ChangeLine line why)))
+
+-- 4: the token file holds no token
+abbrev pub TokenAtFour : Type 0
+TokenAtFour = WhereEnds 4 (λ o words e. NamesSo words (λ named. RefusesToken o.held named))
+
+-- 5: a file, a line of the file to upload or a line of a stream is longer than it may be
+abbrev pub LimitAtFive : Type 0
+LimitAtFive = WhereEnds 5 (λ o words e. NamesSo words (λ named.
+    ((seen : ℕ) × ExceedsFile o.held named seen) ⊎ ((limit : Limit) × ExceedsLimit o named limit)))
+
+-- 6: the faults of the files rose
+abbrev pub UnreadAtSix : Type 0
+UnreadAtSix = WhereEnds 6 (λ o words e. NamesSo words (λ named. (name : List ℕ) × IsNext o.held named name × Rose o.read_before o.read_now))
+
+-- 7: the faults of the output rose
+abbrev pub UnwrittenAtSeven : Type 0
+UnwrittenAtSeven = WhereEnds 7 (λ o words e. NamesSo words (λ named. FailsToPrint o named))
+
+-- 10: the faults of the link, which count those of its connections, or of the keeper rose
+abbrev pub LostAtTen : Type 0
+LostAtTen = WhereEnds 10 (λ o words e. Rose o.link_before o.link_now ⊎ Rose o.keep_before o.keep_now)
+
+-- 11: an answer is not of its form, or a stream ended with no checkpoint applied or refused
+abbrev pub UnansweredAtEleven : Type 0
+UnansweredAtEleven = WhereEnds 11 (λ o words e. NamesSo words (λ named. IsFailed o named NoCheckpoint))
+
+-- 12: the service answered with another status than 200, which is printed
+abbrev pub StatusAtTwelve : Type 0
+StatusAtTwelve = WhereEnds 12 (λ o words e. NamesSo words (λ named.
+    (status : ℕ) × IsFailed o named (Answered status) × Tells e.old e.new e.before e.now (answered_line status)))
+
+-- 13: eight streams were refused, or a line was none or did not come next
+abbrev pub AlteredAtThirteen : Type 0
+AlteredAtThirteen = WhereEnds 13 (λ o words e. NamesSo words (λ named. IsFailed o named Altered))
