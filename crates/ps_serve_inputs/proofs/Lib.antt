@@ -1,0 +1,2 @@
+mod Risen
+mod Stages

@@ -1,0 +1,11 @@
+use Rattle.std.proofs.lemmas.Result.{err_from_is_err_and}
+use Rattle.ps_serve_inputs.proofs.Stages.{stops_at_changes}
+use Rattle.ps_serve_inputs.proofs.inputs.load_inputs.Goals as goal
+
+pub returns-in_err-transactions-clause-loads : goal.returns-in_err-transactions-clause-loads
+returns-in_err-transactions-clause-loads g c =
+    let p = err_from_is_err_and c.from_residual-in_err-transactions.result c.from_residual-in_err-transactions.ensures.1 in
+    rw (p.1, p.2) (stops_at_changes (g.F.Files.held c.args.files.now) (g.F.Files.held c.load_rules.new.files) (g.F.Files.held c.load_keys.new.files) c.args.words.now
+    (g.F.Files.faults c.args.files.now) (g.F.Files.faults c.load_rules.new.files) (g.F.Files.faults c.load_keys.new.files) (g.F.Files.faults c.load_rising.new.files)
+    c.in_ok-rules.rules c.in_ok-keys.keys c.in_err-transactions.field-0.0 c.in_ok-rules.ensures.held c.in_ok-keys.ensures.held c.in_ok-rules.ensures.faults c.in_ok-keys.ensures.faults
+    c.in_ok-rules.ensures.loads c.in_ok-keys.ensures.loads c.in_err-transactions.ensures.loads)

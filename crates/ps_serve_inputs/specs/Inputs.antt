@@ -1,0 +1,47 @@
+-- What `serve` reads from its files, and why it does not.
+use Rattle.std.specs.Prelude.{◌⊎◌, ℕ, List, Option, Result, Ok, Err, Vec}
+use Rattle.std.specs.declared.alloc.Global.{Global}
+use Rattle.ps_io.specs.Contents.{Contents}
+use Rattle.ps_rows.specs.declared.changes.Transaction.{Transaction}
+use Rattle.ps_definitions.specs.RuleSets.{RuleSet}
+use Rattle.ps_token.specs.declared.key_lists.Key.{Key}
+use Rattle.ps_files.specs.declared.faults.Fault.{Fault}
+use Rattle.ps_files.specs.HeldFiles.{rules_limit, file_limit, HoldsWithin}
+use Rattle.ps_files.specs.Loading.{Loads, FindsRules, IsRulesFault, FindsKeys, IsKeysFault}
+use Rattle.ps_serve_words.specs.declared.words.ServeWords.{ServeWords}
+use Rattle.ps_serve_inputs.specs.declared.inputs.Inputs.{Inputs}
+use Rattle.ps_serve_inputs.specs.RisingFiles.{FindsRising, IsRisingFault}
+
+-- in the bytes of a file within a limit this is found
+abbrev pub Means : {X : Type 0} → Option Contents → List ℕ → ℕ → (X → List ℕ → Type 0) → X → Type 0
+Means held name limit Finds x = (bytes : List ℕ) × HoldsWithin held name limit bytes × Finds x bytes
+
+-- the files are read as these inputs
+pub record AreInputs (held : Option Contents) (words : ServeWords) (inputs : Inputs) : Type 0 where
+  pub rules : Means held words.rules rules_limit FindsRules inputs.rules
+  pub keys : Means held words.keys file_limit FindsKeys inputs.keys
+  pub changes : Means held words.changes file_limit FindsRising inputs.transactions
+
+-- the rules file, the key file or the change file is the first that is not read, and that is why
+abbrev pub StopsAtRules : Option Contents → ServeWords → ℕ → ℕ → Fault → Type 0
+StopsAtRules held words before now fault = Loads {X = RuleSet} held words.rules rules_limit before now FindsRules IsRulesFault (Err fault)
+
+pub record StopsAtKeys (held : Option Contents) (words : ServeWords) (before now : ℕ) (fault : Fault) : Type 0 where
+  pub rules : RuleSet
+  pub rules_read : Means held words.rules rules_limit FindsRules rules
+  pub stops : Loads {X = List Key} held words.keys file_limit before now FindsKeys IsKeysFault (Err fault)
+
+pub record StopsAtChanges (held : Option Contents) (words : ServeWords) (before now : ℕ) (fault : Fault) : Type 0 where
+  pub rules : RuleSet
+  pub rules_read : Means held words.rules rules_limit FindsRules rules
+  pub keys : List Key
+  pub keys_read : Means held words.keys file_limit FindsKeys keys
+  pub stops : Loads {X = Vec Transaction Global} held words.changes file_limit before now FindsRising IsRisingFault (Err fault)
+
+abbrev pub StopsInputs : Option Contents → ServeWords → ℕ → ℕ → Fault → Type 0
+StopsInputs held words before now fault =
+    StopsAtRules held words before now fault ⊎ (StopsAtKeys held words before now fault ⊎ StopsAtChanges held words before now fault)
+
+abbrev pub LoadsInputs : Option Contents → ServeWords → ℕ → ℕ → Result Inputs Fault → Type 0
+LoadsInputs held words before now (Ok inputs) = AreInputs held words inputs
+LoadsInputs held words before now (Err fault) = StopsInputs held words before now fault

@@ -1,0 +1,12 @@
+//! What `serve` reads before it serves: its rules, its keys and its transactions; and what is said of its faults.
+#![tactic(auto)]
+
+mod faults;
+mod inputs;
+mod rising;
+mod saying;
+
+pub use faults::ServeFault;
+pub use inputs::{Inputs, load_inputs};
+pub use rising::load_rising;
+pub use saying::say_serve;

@@ -1,0 +1,69 @@
+-- What the words of `serve` say, by the matches that clap has for them.
+use Rattle.std.specs.Prelude.{◌≡◌, ◌≢◌, ℕ, ◌≤◌, Bool, false, List, [], codes, Option, Some, None, option_map, Result, Ok, Err, IfSome}
+use Rattle.std.specs.Option.{option_map_or}
+use Rattle.std.specs.Str.{bytes_eq}
+use Rattle.std.specs.Str.Parse.{digits_value, without_leading_plus}
+use Rattle.clap.specs.Faults.{fault_of}
+use Rattle.clap.specs.Kinds.{Kinds}
+use Rattle.clap.specs.Simple.{matches_of}
+use Rattle.clap.specs.Walk.{Row, first_of, one_of}
+use Rattle.ps_serve_words.specs.Commands.{serve_app}
+use Rattle.ps_serve_words.specs.declared.faults.WordsFault.{WordsFault}
+use Rattle.ps_serve_words.specs.declared.faults.WordsFault.TheVariants.{Refused, Memory}
+use Rattle.ps_serve_words.specs.declared.words.ServeWords.{ServeWords}
+
+-- a number in decimal digits, as clap reads it
+abbrev pub number_of : List ℕ → ℕ
+number_of text = digits_value 10 (without_leading_plus text)
+
+-- the text that is given under a name; the number; whether the flag is
+abbrev pub text_at : List ℕ → List Row → Option (List ℕ)
+text_at name rows = first_of name rows
+
+abbrev pub number_at : List ℕ → List Row → Option ℕ
+number_at name rows = option_map number_of (one_of name rows)
+
+abbrev pub flag_at : List ℕ → List Row → Bool
+flag_at name rows = option_map_or (λ text. bytes_eq text (codes "true")) (first_of name rows) false
+
+-- it is from 1 to 1,000,000
+abbrev pub IsInMillion : ℕ → Type 0
+IsInMillion n = (1 ≤ n) × (n ≤ 1000000)
+
+-- what the matches of `serve` say
+pub record AreSaidBy (rows : List Row) (words : ServeWords) : Type 0 where
+  pub rules : text_at (codes "rules") rows ≡ Some words.rules
+  pub changes : text_at (codes "changes") rows ≡ Some words.changes
+  pub keys : text_at (codes "keys") rows ≡ Some words.keys
+  pub listen : text_at (codes "listen") rows ≡ Some words.listen
+  pub connections : number_at (codes "connections") rows ≡ words.connections
+  pub until_drained : flag_at (codes "until-drained") rows ≡ words.until_drained
+  pub batch : number_at (codes "batch") rows ≡ Some words.batch
+  pub compact_at : number_at (codes "compact-at") rows ≡ Some words.compact_at
+
+-- its numbers are from 1 to 1,000,000
+pub record AreInRange (words : ServeWords) : Type 0 where
+  pub connections : IfSome words.connections IsInMillion
+  pub batch : IsInMillion words.batch
+  pub compact_at : IsInMillion words.compact_at
+
+-- clap refuses the words, for another cause than memory
+abbrev pub AreRefused : List (List ℕ) → Type 0
+AreRefused words = fault_of serve_app words ≢ []
+
+-- clap takes the words, and its matches say this
+pub record AreTaken (words : List (List ℕ)) (said : ServeWords) : Type 0 where
+  pub free : fault_of serve_app words ≡ []
+  pub said_by : AreSaidBy (matches_of serve_app words) said
+  pub ranges : AreInRange said
+
+-- words are blamed only where there is a kind of fault
+abbrev pub BlamesWords : Kinds → WordsFault → Type 0
+BlamesWords kinds Refused = kinds ≢ []
+BlamesWords kinds Memory = Unit {0}
+
+-- reading words
+abbrev pub ReadsWords : List (List ℕ) → Result ServeWords WordsFault → Type 0
+ReadsWords words (Ok said) = AreTaken words said
+ReadsWords words (Err Refused) = AreRefused words
+ReadsWords words (Err Memory) = Unit {0}

@@ -1,0 +1,7 @@
+mod AllTotals
+mod Closing
+mod FedSoFar
+mod Fronts
+mod Statuses
+mod Verdicts
+mod Whole

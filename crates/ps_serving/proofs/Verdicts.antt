@@ -1,0 +1,109 @@
+-- What the ends of the threads make of a store that was fed and served.
+use Rattle.std.proofs.Common.{◌≡◌, ℕ, Bool, true, false, ◌||◌, List, [], Option, Some, None, Result, Ok, Err, option_map, refl, length}
+use Rattle.std.specs.Prelude.{if◌then◌else◌}
+use Rattle.ps_connections.specs.declared.ended.Ended.{Ended}
+use Rattle.ps_connections.specs.declared.ended.Stop.{Stop}
+use Rattle.ps_connections.specs.declared.ended.Stop.TheVariants.{NoneToCome, Most, NoRoom, Failed}
+use Rattle.ps_connections.specs.Taken.{HasTaken}
+use Rattle.ps_rows.specs.declared.changes.Transaction.{Transaction}
+use Rattle.ps_serve.specs.declared.sites.Site.{Site}
+use Rattle.ps_store.specs.declared.events.Event.{Event}
+use Rattle.ps_store.specs.declared.fixed.Fixed.{Fixed}
+use Rattle.ps_store.specs.Ledgers.{ledger_of}
+use Rattle.ps_store.specs.Totals.{totals_of}
+use Rattle.ps_files.specs.declared.faults.Fault.{Fault}
+use Rattle.ps_files.specs.declared.faults.Fault.TheVariants.{Usage, Rules, Change, PastLimit, TooManyBuckets, Claims, Keys, TooLong, CannotRead, CannotWrite, Script, Memory}
+use Rattle.ps_serve_inputs.specs.declared.faults.ServeFault.TheVariants.{Plain, ConnectionFailed}
+use Rattle.ps_workers.specs.declared.ends.WorkEnd.{WorkEnd}
+use Rattle.ps_workers.specs.declared.ends.WorkEnd.TheVariants as work
+use Rattle.ps_workers.specs.Work.{EndsWriting, IsStoreDrained}
+use Rattle.ps_serving.specs.Ends.{writer_fault, compactor_fault, doors_fault, output_fault, room_fault, is_no_room, first_of, unless_fault}
+use Rattle.ps_serving.specs.Printing.{PrintsLine, totals_line}
+use Rattle.ps_serving.specs.Running.{HaveAnswers}
+use Rattle.ps_serving.specs.Serving.{DoorsAt, SinkAt, HasRun, RefusesChange, ServesAll, ServesFed}
+
+no_short : (a b : Bool) → (a || b) ≡ false → b ≡ false
+no_short true b h = cc
+no_short false b h = h
+
+module _ (fixed : Fixed) (site : Site) (may_give : ℕ → Type 0) (start : List Event) (most : ℕ) (doors doors' : DoorsAt) (out out' : SinkAt)
+    (run : HasRun fixed start) (stop : Stop) (count : ℕ) (short : Bool)
+    (taken : HasTaken most doors.opened doors'.opened doors.coming doors'.coming doors.faults doors'.faults stop count)
+    (answers : HaveAnswers fixed site may_give (length start) run.history doors.opened doors.closed doors'.closed (record { stop = stop; connections = count; out_of_memory = short })) where
+  abbrev ended : Ended
+  ended = record { stop = stop; connections = count; out_of_memory = short }
+
+  abbrev Goes : Option Fault → Type 0
+  Goes fault = ServesFed fixed site may_give start most doors doors' out out' (unless_fault (option_map Plain fault))
+
+  abbrev Prints : Result (Unit {0}) Fault → Type 0
+  Prints printed = PrintsLine (totals_line (totals_of (ledger_of fixed.rules run.history))) out.taken out'.taken out.faults out'.faults printed
+
+  module _ (drained : IsStoreDrained (ledger_of fixed.rules run.seen)) where
+    by_room : doors'.faults ≡ doors.faults → Prints (Ok tt) → (b : Bool) → (is_no_room stop || short) ≡ b → Goes (if b then Some Memory else None)
+    by_room quiet printed true is = tt
+    by_room quiet printed false is = record {
+      run = run;
+      drained = drained;
+      ended = ended;
+      taken = taken;
+      quiet = quiet;
+      room = no_short (is_no_room stop) short is;
+      answers = answers;
+      printed = printed;
+    }
+
+    by_output : doors'.faults ≡ doors.faults → (printed : Result (Unit {0}) Fault) → Prints printed
+        → ServesFed fixed site may_give start most doors doors' out out' (unless_fault (first_of (option_map Plain (output_fault printed)) (option_map Plain (room_fault ended))))
+    by_output quiet (Ok done) p = by_room quiet p (is_no_room stop || short) refl
+    by_output quiet (Err Usage) p = absurd p
+    by_output quiet (Err (Rules line column why)) p = absurd p
+    by_output quiet (Err (Change line why)) p = absurd p
+    by_output quiet (Err (PastLimit limit)) p = absurd p
+    by_output quiet (Err (TooManyBuckets n)) p = absurd p
+    by_output quiet (Err Claims) p = absurd p
+    by_output quiet (Err Keys) p = absurd p
+    by_output quiet (Err (TooLong seen)) p = absurd p
+    by_output quiet (Err (CannotRead name)) p = absurd p
+    by_output quiet (Err CannotWrite) p = p.1
+    by_output quiet (Err (Script line why)) p = absurd p
+    by_output quiet (Err Memory) p = tt
+
+module _ (fixed : Fixed) (site : Site) (may_give : ℕ → Type 0) (start : List Event) (most : ℕ) (doors doors' : DoorsAt) (out out' : SinkAt)
+    (run : HasRun fixed start) (printed : Result (Unit {0}) Fault)
+    (prints : PrintsLine (totals_line (totals_of (ledger_of fixed.rules run.history))) out.taken out'.taken out.faults out'.faults printed) where
+  abbrev After : Ended → Type 0
+  After ended =
+      HasTaken most doors.opened doors'.opened doors.coming doors'.coming doors.faults doors'.faults ended.stop ended.connections
+      × HaveAnswers fixed site may_give (length start) run.history doors.opened doors.closed doors'.closed ended
+
+  by_doors : IsStoreDrained (ledger_of fixed.rules run.seen) → (stop : Stop) (count : ℕ) (short : Bool) → After (record { stop = stop; connections = count; out_of_memory = short })
+      → ServesFed fixed site may_give start most doors doors' out out' (unless_fault (first_of (doors_fault stop) (first_of (option_map Plain (output_fault printed))
+      (option_map Plain (room_fault (record { stop = stop; connections = count; out_of_memory = short }))))))
+  by_doors drained NoneToCome count short (taken, answers) =
+      by_output fixed site may_give start most doors doors' out out' run NoneToCome count short taken answers drained taken.stop_is.1 printed prints
+  by_doors drained Most count short (taken, answers) =
+      by_output fixed site may_give start most doors doors' out out' run Most count short taken answers drained taken.stop_is.1 printed prints
+  by_doors drained NoRoom count short (taken, answers) =
+      by_output fixed site may_give start most doors doors' out out' run NoRoom count short taken answers drained taken.stop_is printed prints
+  by_doors drained Failed count short (taken, answers) = taken.stop_is
+
+  module _ (ended : Ended) (after : After ended) where
+    by_compactor : IsStoreDrained (ledger_of fixed.rules run.seen) → (compactor : WorkEnd)
+        → ServesFed fixed site may_give start most doors doors' out out' (unless_fault (first_of (option_map Plain (compactor_fault compactor))
+        (first_of (doors_fault ended.stop) (first_of (option_map Plain (output_fault printed)) (option_map Plain (room_fault ended))))))
+    by_compactor drained work.Drained = by_doors drained ended.stop ended.connections ended.out_of_memory after
+    by_compactor drained work.Stopped = by_doors drained ended.stop ended.connections ended.out_of_memory after
+    by_compactor drained (work.TooWide count) = tt
+    by_compactor drained (work.OpsFull last) = tt
+    by_compactor drained work.Memory = tt
+
+    -- the writer's end decides, then the compactor's, then that of the connections
+    pub judged : (fed : List Transaction) (compactor writer : WorkEnd) → EndsWriting fixed run.seen [] fed writer
+        → ServesFed fixed site may_give start most doors doors' out out' (unless_fault (first_of (option_map Plain (writer_fault writer)) (first_of (option_map Plain (compactor_fault compactor))
+        (first_of (doors_fault ended.stop) (first_of (option_map Plain (output_fault printed)) (option_map Plain (room_fault ended)))))))
+    judged fed compactor work.Drained ends = by_compactor ends.1 compactor
+    judged fed compactor work.Stopped ends = tt
+    judged fed compactor (work.TooWide count) ends = record { run = run; past = ends.1 }
+    judged fed compactor (work.OpsFull last) ends = record { run = run; past = (last, refl, ends.1) }
+    judged fed compactor work.Memory ends = tt

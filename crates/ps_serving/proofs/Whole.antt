@@ -1,0 +1,85 @@
+-- From a store that was fed and served to the whole command.
+use Rattle.std.proofs.Common.{◌≡◌, ◌∙◌, ℕ, ◌≤◌, Bool, true, List, ◌++◌, Option, Some, None, Result, Ok, Err, refl, ap, sym, subst, arith, inr, append_assoc}
+use mathlib.Core.List.{IsPrefix}
+use Rattle.ps_io.specs.Contents.{Gains}
+use Rattle.ps_doors.specs.Connections.{Connection}
+use Rattle.ps_serve.specs.declared.sites.Site.{Site}
+use Rattle.ps_store.specs.declared.fixed.Fixed.{Fixed}
+use Rattle.ps_store.specs.declared.events.Event.{Event}
+use Rattle.ps_store.specs.Histories.{LedgersTellHistories}
+use Rattle.ps_store.specs.LedgerLaws.{LedgersTellFeeds}
+use Rattle.ps_files.specs.declared.faults.Fault.TheVariants.{Usage, Rules, Change, PastLimit, TooManyBuckets, Claims, Keys, TooLong, CannotRead, CannotWrite, Script, Memory}
+use Rattle.ps_serve_words.specs.declared.words.ServeWords.{ServeWords}
+use Rattle.ps_serve_inputs.specs.declared.faults.ServeFault.{ServeFault}
+use Rattle.ps_serve_inputs.specs.declared.faults.ServeFault.TheVariants.{Plain, ConnectionFailed}
+use Rattle.ps_serve_inputs.specs.declared.inputs.Inputs.{Inputs}
+use Rattle.ps_serve_inputs.specs.Inputs.{AreInputs}
+use Rattle.ps_serving.specs.Openings.{opening}
+use Rattle.ps_serving.specs.Printing.{listening_line}
+use Rattle.ps_serving.specs.Serving.{FilesAt, DoorsAt, SinkAt, ServesFed, ServesSo, fixed_by, site_by, opening_by, most_of}
+use Rattle.ps_serving.specs.Totals.{TotalsAreOne}
+use Rattle.ps_serving.proofs.Closing.{fed_whole, written_whole}
+
+gains_both : (old mid new : Option (List ℕ)) (one two : List ℕ) → Gains old mid one → Gains mid new two → Gains old new (one ++ two)
+gains_both None mid new one two first second = let e = first in rw first at second
+gains_both (Some taken) mid new one two first second = let e = rw first at second in e ∙ ap Some (append_assoc taken one two)
+
+module _ (tells : LedgersTellHistories) (feeds : LedgersTellFeeds) (one : TotalsAreOne) (may_give : ℕ → Type 0) (said : ServeWords) (files files' : FilesAt) (doors doors' : DoorsAt)
+    (out mid out' : SinkAt) (inputs : Inputs) (read : AreInputs files.held said inputs) (listened : Gains out.taken mid.taken (listening_line said.listen)) (up : out.faults ≤ mid.faults) where
+  -- what came of the store that was fed came of the command
+  pub serves_so : (result : Result (Unit {0}) ServeFault)
+      → ServesFed (fixed_by inputs) (site_by said inputs) may_give (opening_by said inputs) (most_of said) doors doors' mid out' result
+      → ServesSo may_give said files files' doors doors' out out' result
+  serves_so (Ok done) s =
+      let stands = s.run.stood.1 in
+      record {
+        inputs = inputs;
+        read = read;
+        history = s.run.history;
+        stood = s.run.stood;
+        begins = s.run.begins;
+        ended = s.ended;
+        taken = s.taken;
+        quiet = s.quiet;
+        room = s.room;
+        answers = s.answers;
+        printed = gains_both out.taken mid.taken out'.taken (listening_line said.listen) _ listened s.printed;
+        whole = λ drained.
+            let begins : IsPrefix (opening true inputs.transactions.items) s.run.history =
+            subst (λ (b : Bool). IsPrefix (opening b inputs.transactions.items) s.run.history) drained s.run.begins in
+            let fed = fed_whole tells feeds inputs.rules inputs.transactions.items s.run.history begins stands.legal in
+            one inputs.rules inputs.transactions.items s.run.history (record {
+              legal = stands.legal;
+              plain = stands.plain;
+              fed = fed;
+              written = written_whole tells feeds inputs.rules inputs.transactions.items s.run.seen s.run.history s.run.earlier stands.legal fed s.drained.closed s.drained.written;
+            });
+      }
+  serves_so (Err ConnectionFailed) s = s
+  serves_so (Err (Plain Usage)) s = absurd s
+  serves_so (Err (Plain (Rules line column why))) s = absurd s
+  serves_so (Err (Plain (Change line why))) s = absurd s
+  serves_so (Err (Plain (PastLimit limit))) s = inr (record { inputs = inputs; read = read; refuses = s })
+  serves_so (Err (Plain (TooManyBuckets count))) s = absurd s
+  serves_so (Err (Plain Claims)) s = absurd s
+  serves_so (Err (Plain Keys)) s = absurd s
+  serves_so (Err (Plain (TooLong seen))) s = absurd s
+  serves_so (Err (Plain (CannotRead name))) s = absurd s
+  serves_so (Err (Plain CannotWrite)) s = omega arith
+  serves_so (Err (Plain (Script line why))) s = absurd s
+  serves_so (Err (Plain Memory)) s = tt
+
+-- the same, of doors that were asked to listen between
+pub same_doors : (a a' : ℕ) (b b' : Option (List (List ℕ))) (c c' : Option (List Connection)) (d d' : ℕ) → a ≡ a' → b ≡ b' → c ≡ c' → d ≡ d'
+    → let X : DoorsAt = record { opened = a; coming = b; closed = c; faults = d } in let Y : DoorsAt = record { opened = a'; coming = b'; closed = c'; faults = d' } in X ≡ Y
+same_doors a a' b b' c c' d d' p q r s = cc
+
+pub moved : (may_give : ℕ → Type 0) (fixed fixed2 : Fixed) (site site2 : Site) (start start2 : List Event) (most most2 : ℕ) (doors doors2 doors' : DoorsAt) (out out' : SinkAt)
+    (result : Result (Unit {0}) ServeFault) → fixed ≡ fixed2 → site ≡ site2 → start ≡ start2 → most ≡ most2 → doors ≡ doors2
+    → ServesFed fixed site may_give start most doors doors' out out' result → ServesFed fixed2 site2 may_give start2 most2 doors2 doors' out out' result
+moved may_give fixed fixed2 site site2 start start2 most most2 doors doors2 doors' out out' result a b c d e h =
+    let h1 = subst (λ (f : Fixed). ServesFed f site may_give start most doors doors' out out' result) a h in
+    let h2 = subst (λ (s : Site). ServesFed fixed2 s may_give start most doors doors' out out' result) b h1 in
+    let h3 = subst (λ (s : List Event). ServesFed fixed2 site2 may_give s most doors doors' out out' result) c h2 in
+    let h4 = subst (λ (n : ℕ). ServesFed fixed2 site2 may_give start2 n doors doors' out out' result) d h3 in
+    subst (λ (x : DoorsAt). ServesFed fixed2 site2 may_give start2 most2 x doors' out out' result) e h4

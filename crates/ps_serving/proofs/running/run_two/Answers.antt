@@ -1,0 +1,16 @@
+use denote.Param.Send.{sendable}
+use Rattle.std.proofs.Crossing.{crosses}
+use Rattle.ps_lock.proofs.tables.Seat.TheSendSync as seats
+use Rattle.ps_lock.proofs.tables.StoreLock.TheSendSync as locks
+use Rattle.ps_sockets.proofs.bells.Rings.TheSendSync as rings
+use Rattle.ps_workers.proofs.ends.WorkEnd.TheSendSync as ends
+use Rattle.ps_connections.proofs.Sent.{store_send}
+use Rattle.ps_serving.proofs.running.run_two.Goals as goal
+
+pub join-requires-send-F : goal.join-requires-send-F
+join-requires-send-F g c κs within =
+    let runtime = c.type_bounds.sync-R in
+    search (sendable, crosses, store_send, seats.the_field_send, locks.the_sync, rings.the_sync) depth 40
+
+pub join-requires-send-A : goal.join-requires-send-A
+join-requires-send-A g c κs within = search (sendable, crosses, store_send, seats.the_field_send, ends.the_field_send) depth 40

@@ -1,0 +1,49 @@
+use Rattle.std.proofs.Common.{◌≡◌, rules}
+use Rattle.ps_lock.specs.Words.{seen_by}
+use Rattle.ps_serve.specs.declared.sites.Site.{Site}
+use Rattle.ps_workers.specs.Sharing.{fixed_of}
+use Rattle.ps_serving.specs.Serving.{FilesAt, DoorsAt, SinkAt, ServesFed, fixed_by, site_by, opening_by, most_of}
+use Rattle.ps_serving.proofs.Whole.{serves_so, same_doors, moved}
+use Rattle.ps_serving.proofs.serving.serve.Goals as goal
+
+pub returns-clause-serves : goal.returns-clause-serves
+returns-clause-serves g c =
+    let inputs = c.in_ok-rules.field-0 in
+    let said = c.args.words.now in
+    let may_give = g.C.Clock.may_give c.args.tools.now.clock.now in
+    let files : FilesAt = record { held = g.F.Files.held c.args.files.now; faults = g.F.Files.faults c.args.files.now } in
+    let files' : FilesAt = record { held = g.F.Files.held c.load_inputs.new.files; faults = g.F.Files.faults c.load_inputs.new.files } in
+    let doors : DoorsAt = record {
+      opened = g.D.Doors.opened c.args.doors.now;
+      coming = g.D.Doors.coming c.args.doors.now;
+      closed = g.D.Doors.closed c.args.doors.now;
+      faults = g.D.Doors.faults c.args.doors.now;
+    } in
+    let mid : DoorsAt = record {
+      opened = g.D.Doors.opened c.listen.new.doors;
+      coming = g.D.Doors.coming c.listen.new.doors;
+      closed = g.D.Doors.closed c.listen.new.doors;
+      faults = g.D.Doors.faults c.listen.new.doors;
+    } in
+    let doors' : DoorsAt = record {
+      opened = g.D.Doors.opened c.serve_fed.new.doors;
+      coming = g.D.Doors.coming c.serve_fed.new.doors;
+      closed = g.D.Doors.closed c.serve_fed.new.doors;
+      faults = g.D.Doors.faults c.serve_fed.new.doors;
+    } in
+    let out : SinkAt = record { taken = g.O.Sink.taken c.args.out.now; faults = g.O.Sink.faults c.args.out.now } in
+    let out1 : SinkAt = record { taken = g.O.Sink.taken c.listen.new.out; faults = g.O.Sink.faults c.listen.new.out } in
+    let out' : SinkAt = record { taken = g.O.Sink.taken c.serve_fed.new.out; faults = g.O.Sink.faults c.serve_fed.new.out } in
+    let site : Site = record { keys = c.in_ok-rules.keys; until_drained = said.until_drained } in
+    let start = seen_by c.in_ok-lock.seat in
+    let fixed_is : fixed_of c.in_ok-lock.lock ≡ fixed_by inputs = c.in_ok-lock.ensures.fixed in
+    let site_is : site ≡ site_by said inputs = cc in
+    let start_is : start ≡ opening_by said inputs = c.in_ok-lock.ensures.seen in
+    let given : ServesFed (fixed_of c.in_ok-lock.lock) site may_give start c.pace_of.result.most mid doors' out1 out' c.serve_fed.result = search rules in
+    let doors_are : mid ≡ doors =
+    same_doors mid.opened doors.opened mid.coming doors.coming mid.closed doors.closed mid.faults doors.faults c.in_ok-listen.ensures.opened c.in_ok-listen.ensures.coming
+    c.in_ok-listen.ensures.closed c.in_ok-listen.ensures.listens.1 in
+    let fed = moved may_give (fixed_of c.in_ok-lock.lock) (fixed_by inputs) site (site_by said inputs) start (opening_by said inputs) c.pace_of.result.most (most_of said) mid doors doors' out1 out'
+    c.serve_fed.result fixed_is site_is start_is c.pace_of.ensures.most doors_are given in
+    serves_so c.ledgers_tell_histories.ensures c.ledgers_tell_events.ensures.feeds c.totals_are_one.ensures may_give said files files' doors doors' out out1 out' inputs
+    c.in_ok-rules.ensures.loads c.in_ok-listen.ensures.listens.0 c.in_ok-listen.ensures.faults c.serve_fed.result fed

@@ -1,0 +1,15 @@
+//! The law of totals. It is the contract of a function that does nothing.
+
+ghost use Rattle.ps_serving.specs.Totals.{TotalsAreOne};
+
+use ps_store::{ledgers_tell_events, ledgers_tell_histories, ledgers_tell_ops};
+
+/// A law: all histories that feed the same transactions and write all their changes, with no new rules, have the same totals, whatever batches they wrote, and
+/// whatever they committed, compacted and numbered between.
+pub fn totals_are_one()
+    ensures { TotalsAreOne }
+{
+    ledgers_tell_events();
+    ledgers_tell_histories();
+    ledgers_tell_ops();
+}

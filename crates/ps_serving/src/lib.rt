@@ -1,0 +1,15 @@
+//! The command `serve`: a change file is fed into a store that threads share, and its connections are served beside a writer and a compactor.
+#![tactic(auto)]
+
+mod ends;
+mod feeding;
+mod grounds;
+mod judging;
+mod laws;
+mod printing;
+mod running;
+mod serving;
+mod threads;
+
+pub use laws::totals_are_one;
+pub use serving::run_serve;

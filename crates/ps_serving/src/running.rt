@@ -1,0 +1,268 @@
+//! The writer, the compactor and the connections of a service, side by side.
+
+ghost use Rattle.std.specs.Prelude.{◌≡◌, List, length};
+ghost use mathlib.Core.List.{IsPrefix};
+ghost use Rattle.ps_lock.specs.Words.{IsSeatOf, seen_by};
+ghost use Rattle.ps_connections.specs.Taken.{HasTaken};
+ghost use Rattle.ps_serve_words.specs.Words.{IsInMillion};
+ghost use Rattle.ps_workers.specs.Sharing.{fixed_of};
+ghost use Rattle.ps_serving.specs.Running.{WroteTo, ServesUpTo};
+
+use crate::ends::Ends;
+use ps_connections::{Ended, Service, serve_connections};
+use ps_doors::{Bell, Doors};
+use ps_io::{Clock, Sink, Source};
+use ps_lock::{Seat, StoreLock};
+use ps_sockets::{Rings, RungBell};
+use ps_store::Store;
+use ps_workers::{OpenGate, WorkEnd, close_in_turn, compact_all, feed_and_write};
+use std::alloc::Global;
+use std::sync::Wait;
+use std::thread::{Threads, join};
+use std::time;
+
+/// The seats that the threads of a service begin with.
+pub(crate) struct Seats {
+    /// That of the loop that takes connections.
+    pub(crate) connections: Seat<Store>,
+    /// That of the writer.
+    pub(crate) writer: Seat<Store>,
+    /// That of the compactor.
+    pub(crate) compactor: Seat<Store>,
+}
+
+/// How much the threads of a service do at once.
+#[derive(Clone, Copy)]
+pub(crate) struct Pace {
+    /// How many connections are taken at most.
+    pub(crate) most: u64,
+    /// How many changes are written in one turn at most.
+    pub(crate) batch: u32,
+    /// How many operations a bucket gets until it is compacted again.
+    pub(crate) compact_at: u32,
+}
+
+// Writes what is fed, until it is refused or all is written that will ever be.
+fn write<R: Wait + time::Clock>(
+    rt: &R,
+    alloc: Global,
+    lock: &StoreLock<Store>,
+    rings: &Rings,
+    seat: Seat<Store>,
+    batch: u32,
+) -> (Seat<Store>, WorkEnd)
+    requires seat { IsSeatOf lock.now seat }
+    requires batch { IsInMillion batch }
+    ensures lock { IsSeatOf lock.now result.0 }
+    ensures wrote { WroteTo (fixed_of lock.now) (seen_by seat) (seen_by result.0) result.1 }
+{
+    let mut bell = RungBell::new(rt, rings);
+    let nothing = Vec::new(alloc);
+    feed_and_write(rt, alloc, lock, seat, nothing, batch, &OpenGate, &mut bell)
+}
+
+// Compacts buckets that have grown by so many operations, until the store is drained.
+fn compact<R: Wait + time::Clock>(
+    rt: &R,
+    alloc: Global,
+    lock: &StoreLock<Store>,
+    rings: &Rings,
+    seat: Seat<Store>,
+    at: u32,
+) -> (Seat<Store>, WorkEnd)
+    requires { IsSeatOf lock.now seat }
+    ensures { IsSeatOf lock.now result.0 }
+{
+    let mut bell = RungBell::new(rt, rings);
+    compact_all(rt, alloc, lock, seat, u64::from(at), &OpenGate, &mut bell)
+}
+
+// Closes the feed, where that was not done, and rings: the writer waits for it.
+fn close_behind<R: Wait + time::Clock, C>(service: &Service<R, C>, seat: Seat<Store>) -> Seat<Store>
+    requires { IsSeatOf service.now.lock.now seat }
+    ensures lock { IsSeatOf service.now.lock.now result }
+    ensures saw { IsPrefix (seen_by seat) (seen_by result) }
+{
+    let seat = if service.site.until_drained {
+        seat
+    } else {
+        close_in_turn(service.rt, service.lock, seat)
+    };
+    service.bell.another().ring();
+    seat
+}
+
+// Serves the connections, and closes the feed behind the last one.
+fn take<
+    R: Wait + time::Clock + Threads + Sync,
+    S: Source + Send + Drop,
+    K: Sink + Send + Drop,
+    C: Clock + Sync,
+    D: Doors<In = S, Out = K> + Drop,
+>(service: &Service<R, C>, seat: Seat<Store>, doors: D, most: u64) -> (Seat<Store>, D, Ended)
+    requires { IsSeatOf service.now.lock.now seat }
+    ensures lock { IsSeatOf service.now.lock.now result.0 }
+    ensures saw { IsPrefix (seen_by seat) (seen_by result.0) }
+    ensures place { D.place result.1 ≡ D.place doors }
+    ensures taken { HasTaken most (D.opened doors) (D.opened result.1) (D.coming doors) (D.coming result.1)
+        (D.faults doors) (D.faults result.1) result.2.stop result.2.connections }
+    ensures served { ServesUpTo (fixed_of service.now.lock.now) service.now.site.now (C.may_give service.now.clock.now) (seen_by seat) (seen_by result.0)
+        (D.opened doors) (D.closed doors) (D.closed result.1) result.2 }
+{
+    let (seat, doors, ended) = serve_connections(service, seat, doors, most);
+    let seat = close_behind(service, seat);
+    (seat, doors, ended)
+}
+
+// The compactor beside the loop that takes connections.
+fn run_two<
+    R: Wait + time::Clock + Threads + Sync,
+    S: Source + Send + Drop,
+    K: Sink + Send + Drop,
+    C: Clock + Sync,
+    D: Doors<In = S, Out = K> + Drop,
+>(
+    service: &Service<R, C>,
+    rings: &Rings,
+    compactor: Seat<Store>,
+    connections: Seat<Store>,
+    doors: D,
+    pace: Pace,
+) -> ((Seat<Store>, WorkEnd), (Seat<Store>, D, Ended))
+    requires compactor { IsSeatOf service.now.lock.now compactor }
+    requires connections { IsSeatOf service.now.lock.now connections }
+    ensures compactor { IsSeatOf service.now.lock.now result.0.0 }
+    ensures connections { IsSeatOf service.now.lock.now result.1.0 }
+    ensures saw { IsPrefix (seen_by connections) (seen_by result.1.0) }
+    ensures place { D.place result.1.1 ≡ D.place doors }
+    ensures taken { HasTaken pace.most (D.opened doors) (D.opened result.1.1) (D.coming doors) (D.coming result.1.1)
+        (D.faults doors) (D.faults result.1.1) result.1.2.stop result.1.2.connections }
+    ensures served { ServesUpTo (fixed_of service.now.lock.now) service.now.site.now (C.may_give service.now.clock.now)
+        (seen_by connections) (seen_by result.1.0) (D.opened doors) (D.closed doors) (D.closed result.1.1) result.1.2 }
+{
+    let Pace {
+        most,
+        batch: _,
+        compact_at,
+    } = pace;
+    let rt = service.rt;
+    let alloc = service.alloc;
+    let lock = service.lock;
+    let compacting = move || -> (Seat<Store>, WorkEnd)
+        requires { IsSeatOf lock.now compactor }
+        ensures { IsSeatOf lock.entry.now result.0 }
+    { compact(rt, alloc, lock, rings, compactor, compact_at) };
+    let taking = move || -> (Seat<Store>, D, Ended)
+        requires { IsSeatOf service.now.lock.now connections }
+        ensures lock { IsSeatOf service.entry.now.lock.now result.0 }
+        ensures saw { IsPrefix (seen_by connections) (seen_by result.0) }
+        ensures place { D.place result.1 ≡ D.place doors }
+        ensures taken { HasTaken most (D.opened doors) (D.opened result.1) (D.coming doors) (D.coming result.1)
+            (D.faults doors) (D.faults result.1) result.2.stop result.2.connections }
+        ensures served { ServesUpTo (fixed_of service.entry.now.lock.now) service.entry.now.site.now (C.may_give service.entry.now.clock.now)
+            (seen_by connections) (seen_by result.0) (D.opened doors) (D.closed doors) (D.closed result.1) result.2 }
+    { take(service, connections, doors, most) };
+    join(rt, compacting, taking)
+}
+
+// The writer beside both.
+fn run_threads<
+    R: Wait + time::Clock + Threads + Sync,
+    S: Source + Send + Drop,
+    K: Sink + Send + Drop,
+    C: Clock + Sync,
+    D: Doors<In = S, Out = K> + Drop,
+>(
+    service: &Service<R, C>,
+    rings: &Rings,
+    seats: Seats,
+    doors: D,
+    pace: Pace,
+) -> (
+    (Seat<Store>, WorkEnd),
+    ((Seat<Store>, WorkEnd), (Seat<Store>, D, Ended)),
+)
+    requires connections { IsSeatOf service.now.lock.now seats.connections }
+    requires writer { IsSeatOf service.now.lock.now seats.writer }
+    requires compactor { IsSeatOf service.now.lock.now seats.compactor }
+    requires batch { IsInMillion pace.batch }
+    ensures writer { IsSeatOf service.now.lock.now result.0.0 }
+    ensures wrote { WroteTo (fixed_of service.now.lock.now) (seen_by seats.writer) (seen_by result.0.0) result.0.1 }
+    ensures compactor { IsSeatOf service.now.lock.now result.1.0.0 }
+    ensures connections { IsSeatOf service.now.lock.now result.1.1.0 }
+    ensures saw { IsPrefix (seen_by seats.connections) (seen_by result.1.1.0) }
+    ensures place { D.place result.1.1.1 ≡ D.place doors }
+    ensures taken { HasTaken pace.most (D.opened doors) (D.opened result.1.1.1) (D.coming doors) (D.coming result.1.1.1)
+        (D.faults doors) (D.faults result.1.1.1) result.1.1.2.stop result.1.1.2.connections }
+    ensures served { ServesUpTo (fixed_of service.now.lock.now) service.now.site.now (C.may_give service.now.clock.now)
+        (seen_by seats.connections) (seen_by result.1.1.0) (D.opened doors) (D.closed doors) (D.closed result.1.1.1) result.1.1.2 }
+{
+    let Seats {
+        connections,
+        writer,
+        compactor,
+    } = seats;
+    let batch = pace.batch;
+    let rt = service.rt;
+    let alloc = service.alloc;
+    let lock = service.lock;
+    let writing = move || -> (Seat<Store>, WorkEnd)
+        requires seat { IsSeatOf lock.now writer }
+        requires batch { IsInMillion batch }
+        ensures lock { IsSeatOf lock.entry.now result.0 }
+        ensures wrote { WroteTo (fixed_of lock.entry.now) (seen_by writer) (seen_by result.0) result.1 }
+    { write(rt, alloc, lock, rings, writer, batch) };
+    let taking = move || -> ((Seat<Store>, WorkEnd), (Seat<Store>, D, Ended))
+        requires compactor { IsSeatOf service.now.lock.now compactor }
+        requires connections { IsSeatOf service.now.lock.now connections }
+        ensures compactor { IsSeatOf service.entry.now.lock.now result.0.0 }
+        ensures connections { IsSeatOf service.entry.now.lock.now result.1.0 }
+        ensures saw { IsPrefix (seen_by connections) (seen_by result.1.0) }
+        ensures place { D.place result.1.1 ≡ D.place doors }
+        ensures taken { HasTaken pace.most (D.opened doors) (D.opened result.1.1) (D.coming doors) (D.coming result.1.1)
+            (D.faults doors) (D.faults result.1.1) result.1.2.stop result.1.2.connections }
+        ensures served { ServesUpTo (fixed_of service.entry.now.lock.now) service.entry.now.site.now (C.may_give service.entry.now.clock.now)
+            (seen_by connections) (seen_by result.1.0) (D.opened doors) (D.closed doors) (D.closed result.1.1) result.1.2 }
+    { run_two(service, rings, compactor, connections, doors, pace) };
+    join(rt, writing, taking)
+}
+
+/// Runs the writer, the compactor and the loop that takes connections, and gives back the seat of all three. It waits for them.
+pub(crate) fn run_all<
+    R: Wait + time::Clock + Threads + Sync,
+    S: Source + Send + Drop,
+    K: Sink + Send + Drop,
+    C: Clock + Sync,
+    D: Doors<In = S, Out = K> + Drop,
+>(
+    service: &Service<R, C>,
+    rings: &Rings,
+    seats: Seats,
+    doors: D,
+    pace: Pace,
+) -> (Seat<Store>, D, Ends)
+    requires connections { IsSeatOf service.now.lock.now seats.connections }
+    requires writer { IsSeatOf service.now.lock.now seats.writer }
+    requires compactor { IsSeatOf service.now.lock.now seats.compactor }
+    requires batch { IsInMillion pace.batch }
+    ensures lock { IsSeatOf service.now.lock.now result.0 }
+    ensures wrote { WroteTo (fixed_of service.now.lock.now) (seen_by seats.writer) (seen_by result.0) result.2.writer }
+    ensures saw { IsPrefix (seen_by seats.connections) (seen_by result.0) }
+    ensures place { D.place result.1 ≡ D.place doors }
+    ensures taken { HasTaken pace.most (D.opened doors) (D.opened result.1) (D.coming doors) (D.coming result.1)
+        (D.faults doors) (D.faults result.1) result.2.connections.stop result.2.connections.connections }
+    ensures served { ServesUpTo (fixed_of service.now.lock.now) service.now.site.now (C.may_give service.now.clock.now)
+        (seen_by seats.connections) (seen_by result.0) (D.opened doors) (D.closed doors) (D.closed result.1) result.2.connections }
+{
+    let ((written, writer), ((compacted, compactor), (mut seat, doors, connections))) = run_threads(
+        service, rings, seats, doors, pace,
+    );
+    service.lock.join_in(&mut seat, written);
+    service.lock.join_in(&mut seat, compacted);
+    let ends = Ends {
+        writer,
+        compactor,
+        connections,
+    };
+    (seat, doors, ends)
+}
