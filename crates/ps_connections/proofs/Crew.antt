@@ -1,5 +1,6 @@
 -- Lists of workers.
-use Rattle.std.proofs.Common.{◌≡◌, ℕ, ◌+◌, Bool, ◌||◌, List, [], ◌∷◌, ◌++◌, length, Option, Some, None, IfSome, ◌∙◌, subst, arith}
+use Rattle.std.proofs.Common.{◌≡◌, ℕ, ◌+◌, Bool, ◌||◌, List, [], ◌∷◌, ◌++◌, length, Option, Some, None, IfSome, ◌∙◌, subst, arith, zero, suc, true, get_or, is_some, MatchOption, refl, sym}
+use Rattle.std.proofs.Math.ListN.{set}
 use mathlib.Core.List.{IsPrefix}
 use Rattle.ps_io.specs.declared.clocks.Clock as Clock
 use Rattle.ps_io.specs.declared.outputs.Sink as Sink
@@ -17,7 +18,7 @@ use Rattle.ps_connections.specs.declared.works.Done.{Done}
 use Rattle.ps_connections.specs.declared.works.Worker.{Worker}
 use Rattle.ps_connections.specs.Answers.{Upshot, HaveServed, StaysAnswered, is_out_of_memory}
 use Rattle.ps_connections.specs.Tasks.{HasAnswered}
-use Rattle.ps_connections.specs.Workers.{HasDone, IsAtWork, IsWorkerOf, AreWorkersOf}
+use Rattle.ps_connections.specs.Workers.{HasDone, IsGiven, IsAtWork, IsWorkerOf, AreWorkersOf, is_there}
 use Rattle.ps_connections.proofs.Answering.{answered_of, told_number}
 use Rattle.ps_connections.proofs.Closed.{one_closed}
 
@@ -84,6 +85,46 @@ module _ {S K C : Type 0} (g : Source.Ghosts S) (h : Sink.Ghosts K) (t : Clock.G
       let one = these.0 in
       let it = finishes lock site clock before one.from one.to one.at_work in
       (it.seat, has_ended closed number w done one it, these.1)
+
+-- ---- workers that end
+
+there_is : {A B : Type 0} (child : Option A) (done : Option B) (P : A → Type 0) (Q : B → Type 0) → MatchOption child (MatchOption done ⊥ Q) P → (is_some child || is_some done) ≡ true
+there_is (Some child) last P Q it = refl
+there_is None (Some last) P Q it = refl
+there_is None None P Q it = absurd it
+
+-- a worker that is in its thread was given what that was
+pub given_as : {A B : Type 0} (child : Option A) (done : Option B) (a : A) (P : A → Type 0) (Q : B → Type 0) → child ≡ Some a → MatchOption child (MatchOption done ⊥ Q) P → P a
+given_as {A = A} child done a P Q was it = let V : Option A → Type 0 = λ w. MatchOption w (MatchOption done ⊥ Q) P in subst V was it
+
+-- a thread has ended
+pub ended_as : {A B : Type 0} (child child' : Option A) (done : Option B) (a : A) (b : B) (P : A → Type 0) (Q : B → Type 0)
+    → child ≡ Some a → child' ≡ None → (P a → Q b) → MatchOption child (MatchOption done ⊥ Q) P → MatchOption child' (MatchOption (Some b) ⊥ Q) P
+ended_as {A = A} child child' done a b P Q was now gives it =
+    let W : Option A → Type 0 = λ w. MatchOption w (Q b) P in
+    let V : Option A → Type 0 = λ w. MatchOption w (MatchOption done ⊥ Q) P in
+    subst W (sym now) (gives (subst V was it))
+
+module _ {S K C : Type 0} (g : Source.Ghosts S) (h : Sink.Ghosts K) (t : Clock.Ghosts C) (lock : Lock) (site : Site) (clock : C) (before : List Event) where
+  -- the first of the workers is there
+  pub next_there : (closed : Option (List Connection)) (number : ℕ) (ws rest : List (Worker S K C)) (w : Worker S K C)
+      → AreWorkersOf g h t lock site clock before closed number ws → ws ≡ w ∷ rest → is_there w ≡ true
+  next_there closed number ws rest w are is =
+      let Q : List (Worker S K C) → Type 0 = λ v. AreWorkersOf g h t lock site clock before closed number v in
+      let these : AreWorkersOf g h t lock site clock before closed number (w ∷ rest) = subst Q is are in
+      let one = these.0 in
+      there_is w.child w.done (λ child. IsGiven g h t lock site clock before one.from one.to child.promise) (λ done. HasDone g h t lock site clock before one.from one.to done) one.at_work
+
+  -- one of them has ended
+  pub set_settled : (closed : Option (List Connection)) (number : ℕ) (ws : List (Worker S K C)) (i : ℕ) (w x : Worker S K C)
+      → get_or ws i w ≡ w → ((from : S) (to : K) → IsAtWork g h t lock site clock before from to w → IsAtWork g h t lock site clock before from to x)
+      → AreWorkersOf g h t lock site clock before closed number ws → AreWorkersOf g h t lock site clock before closed number (set ws i x)
+  set_settled closed number [] i w x is change are = tt
+  set_settled closed number (v ∷ ws) zero w x is change are =
+      let one = are.0 in
+      let Q : Worker S K C → Type 0 = λ u. IsAtWork g h t lock site clock before one.from one.to u in
+      (record { from = one.from; to = one.to; at_work = change one.from one.to (subst Q is one.at_work); ends = one.ends; is_fresh = one.is_fresh }, are.1)
+  set_settled closed number (v ∷ ws) (suc i) w x is change are = (are.0, set_settled closed (number + 1) ws i w x is change are.1)
 
 -- ---- closing them
 

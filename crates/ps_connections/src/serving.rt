@@ -19,7 +19,7 @@ use ps_doors::Doors;
 use ps_io::{Clock, Sink, Source};
 use ps_lock::Seat;
 use ps_store::Store;
-use std::sync::Wait;
+use std::sync::{Mutex, Wait};
 use std::thread::Threads;
 use std::{thread, time};
 
@@ -48,6 +48,8 @@ fn take_all<
     ensures workers { AreWorkersOf S.Source K.Sink C.Clock service.now.lock.now service.now.site.now service.now.clock.now (seen_by seat)
         (D.closed doors) (D.opened doors) result.2.0.items }
 {
+    let exits = Mutex::new(Vec::new(service.alloc));
+    let shared = &exits;
     thread::scope(
         thread::scope_env(),
         service.rt,
@@ -65,7 +67,7 @@ fn take_all<
         {
             let mut seat = seat;
             let mut doors = doors;
-            let workers = take_connections(scope, service, &mut seat, &mut doors, most);
+            let workers = take_connections(scope, service, shared, &mut seat, &mut doors, most);
             (seat, doors, workers)
         },
     )
@@ -74,7 +76,7 @@ fn take_all<
 /// Serves at most so many connections of these doors, each in a thread of its own, or here where no thread can be made. It waits: for the doors, and for its
 /// workers. The seat is one of the lock's.
 ///
-/// A worker answers its connection and gives up both ends. After the last connection was taken the workers' seats are joined in, and the connections are closed, in
+/// A worker answers its connection, gives up both ends and says that it has ended; its thread is waited for before the next connection is taken. After the last connection was taken the workers' seats are joined in, and the connections are closed, in
 /// the order of their numbers. It gives back the seat, which has then seen what it had seen and more, the doors, and how it ended. Room for a worker is made before
 /// its connection is taken; where that is refused, no more are taken.
 pub fn serve_connections<

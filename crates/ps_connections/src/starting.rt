@@ -8,7 +8,7 @@ ghost use Rattle.ps_connections.specs.Tasks.{HasAnswered};
 ghost use Rattle.ps_connections.specs.Workers.{IsAtWork};
 
 use crate::services::Service;
-use crate::works::{Done, Task, Worker, work};
+use crate::works::{Done, Exits, Task, Worker, leave, work};
 use core::thread::Stack;
 use ps_io::{Clock, Sink, Source};
 use ps_lock::Seat;
@@ -29,14 +29,16 @@ pub(crate) fn start<
 >(
     scope: &'s Scope<'s, E>,
     service: &'s Service<'s, R, C>,
+    exit: (&'s Exits, usize),
     seat: Seat<Store>,
-    from: S,
-    to: K,
+    ends: (S, K),
 ) -> Worker<S, K, C>
     requires lock { IsSeatOf service.now.lock.now seat }
     requires own { own_entries_of seat ≡ [] }
-    ensures { IsAtWork S.Source K.Sink C.Clock service.now.lock.now service.now.site.now service.now.clock.now (seen_by seat) from to result }
+    ensures { IsAtWork S.Source K.Sink C.Clock service.now.lock.now service.now.site.now service.now.clock.now (seen_by seat) ends.0 ends.1 result }
 {
+    let (from, to) = ends;
+    let (exits, place) = exit;
     let task = Task {
         lock: Snapshot::of(service.lock),
         site: Snapshot::of(service.site),
@@ -51,12 +53,22 @@ pub(crate) fn start<
         ensures answered { HasAnswered S.Source K.Sink (fixed_of service.entry.now.lock.now) service.entry.now.site.now
             (C.may_give service.entry.now.clock.now) (seen_by seat) (seen_by result.seat) (own_entries_of seat) (own_entries_of result.seat) from to
             result.from result.to result.end }
-    { work(service, seat, from, to) };
-    match Stack::new()
-        .stack_size(service.stack)
-        .spawn_scoped_with(scope, task, job)
     {
-        Ok(child) => Worker::There(child),
-        Err(refused) => Worker::Here((refused.value)()),
+        let done = work(service, seat, from, to);
+        leave(service.rt, exits, place);
+        done
+    };
+    let started = Stack::new()
+        .stack_size(service.stack)
+        .spawn_scoped_with(scope, task, job);
+    match started {
+        Ok(child) => Worker {
+            child: Some(child),
+            done: None,
+        },
+        Err(refused) => Worker {
+            child: None,
+            done: Some((refused.value)()),
+        },
     }
 }

@@ -1,10 +1,11 @@
 //! The worker of one connection: what it is given, and what it gives back.
 
-ghost use Rattle.std.specs.Prelude.{◌≡◌, ℕ, length};
+ghost use Rattle.std.specs.Prelude.{◌≡◌, ℕ, true, length};
 ghost use mathlib.Core.List.{IsPrefix};
 ghost use Rattle.ps_lock.specs.Words.{IsSeatOf, seen_by, own_entries_of};
 ghost use Rattle.ps_workers.specs.Sharing.{fixed_of};
 ghost use Rattle.ps_connections.specs.Tasks.{HasAnswered};
+ghost use Rattle.ps_connections.specs.Workers.{HasDone, IsAtWork, IsGiven, is_there};
 
 use crate::services::Service;
 use ps_io::{Clock, Sink, Source};
@@ -12,7 +13,7 @@ use ps_lock::{Seat, StoreLock};
 use ps_serve::{End, Site, answer_connection, answers_stay};
 use ps_store::Store;
 use std::snapshot::Snapshot;
-use std::sync::Wait;
+use std::sync::{Mutex, Wait};
 use std::thread::{Promise, PromisedHandle, Threads};
 use std::time;
 
@@ -53,35 +54,66 @@ impl<S: Source, K: Sink, C: Clock> Promise<Done<S, K>> for Task<S, K, C> {
         (seen_by t.seat.value) (seen_by d.seat) (own_entries_of t.seat.value) (own_entries_of d.seat) t.from.value t.to.value d.from d.to d.end };
 }
 
-/// A worker, in its thread; or what it gave back.
-pub(crate) enum Worker<S: Source, K: Sink, C: Clock> {
-    There(PromisedHandle<Done<S, K>, Task<S, K, C>>),
-    Here(Done<S, K>),
+// Waits for the end of a worker's thread.
+fn join_child<R: Threads, S: Source, K: Sink, C: Clock>(
+    rt: &R,
+    child: PromisedHandle<Done<S, K>, Task<S, K, C>>,
+) -> Done<S, K>
+    ensures { (lock : _) (site : _) (clock : C) (before : _) (from : S) (to : K)
+        → IsGiven S.Source K.Sink C.Clock lock site clock before from to child.promise
+        → HasDone S.Source K.Sink C.Clock lock site clock before from to result }
+{
+    child.join(rt)
+}
+
+/// A worker: in its thread, or at its end with what it gave back.
+pub(crate) struct Worker<S: Source, K: Sink, C: Clock> {
+    pub(crate) child: Option<PromisedHandle<Done<S, K>, Task<S, K, C>>>,
+    pub(crate) done: Option<Done<S, K>>,
 }
 
 impl<S: Source + Drop, K: Sink + Drop, C: Clock> Drop for Worker<S, K, C> {
     fn drop(self) {
-        match self {
-            Worker::There(child) => drop(child),
-            Worker::Here(done) => drop(done),
-        }
+        let Worker { child, done } = self;
+        drop(child);
+        drop(done);
     }
 }
 
 impl<S: Source + Drop, K: Sink + Drop, C: Clock> Worker<S, K, C> {
-    ghost use Rattle.ps_connections.specs.Workers.{IsAtWork, HasDone};
-
     /// Waits for its end.
+    pub(crate) fn settle<R: Threads>(&mut self, rt: &R)
+        ensures { (lock : _) (site : _) (clock : C) (before : _) (from : S) (to : K)
+            → IsAtWork S.Source K.Sink C.Clock lock site clock before from to self.old
+            → IsAtWork S.Source K.Sink C.Clock lock site clock before from to self.new }
+    {
+        if let Some(child) = self.child.take() {
+            self.done = Some(join_child(rt, child));
+        }
+    }
+
+    /// Waits for its end, and gives what it gave back.
     pub(crate) fn finish<R: Threads>(self, rt: &R) -> Done<S, K>
+        requires { is_there self ≡ true }
         ensures { (lock : _) (site : _) (clock : C) (before : _) (from : S) (to : K)
             → IsAtWork S.Source K.Sink C.Clock lock site clock before from to self
             → HasDone S.Source K.Sink C.Clock lock site clock before from to result }
     {
-        match self {
-            Worker::There(child) => child.join(rt),
-            Worker::Here(done) => done,
+        let Worker { child, done } = self;
+        if let Some(child) = child {
+            return join_child(rt, child);
         }
+        let Some(done) = done else { unreachable!() };
+        done
     }
+}
+
+/// Where the workers of a service say that they have ended: the places of those that have, among all that were started.
+pub(crate) type Exits = Mutex<Vec<usize>>;
+
+/// Says that the worker of that place has ended. Out of memory, nothing is said: that one is waited for at the end.
+pub(crate) fn leave<R: Wait>(rt: &R, exits: &Exits, place: usize) {
+    let _told = exits.lock(rt).push(place);
 }
 
 /// Answers a connection, and gives up both of its ends.

@@ -6,7 +6,7 @@ use Rattle.ps_lock.proofs.Prefixes.{prefix_self, prefix_trans}
 use Rattle.ps_workers.specs.Sharing.{fixed_of}
 use Rattle.ps_connections.specs.Answers.{Upshot, StaysAnswered}
 use Rattle.ps_connections.proofs.Closed.{next_lacks, none_closed}
-use Rattle.ps_connections.proofs.Crew.{next_ended, next_closed}
+use Rattle.ps_connections.proofs.Crew.{next_ended, next_closed, next_there}
 use Rattle.ps_connections.proofs.closing.close_all.Goals as goal
 
 pub workers-init : goal.workers-init
@@ -30,6 +30,14 @@ workers-init g c =
         none_closed (StaysAnswered (fixed_of lock) c.args.service.now.site.now (g.C.Clock.may_give c.args.service.now.clock.now) (length before) before) first (D.closed c.args.doors.now) (own_entries_of c.args.seat.now),
       );
     }
+
+pub finish-from-requires : goal.finish-from-requires
+finish-from-requires g c =
+    let D = g.D.Doors in
+    let inv = c.workers.invariant in
+    let first = D.opened c.args.doors.now - vec_len c.args.workers in
+    next_there g.S.Source g.K.Sink g.C.Clock c.args.service.now.lock.now c.args.service.now.site.now c.args.service.now.clock.now (seen_by c.args.seat.now) (D.closed c.args.doors.now)
+    (first + inv.workers.0) (into_iter_items c.workers.worker-iterator) (into_iter_items c.next.new.self) c.in-Some.worker inv.workers.2 c.in-Some.ensures.steps.0
 
 pub join_in-requires : goal.join_in-requires
 join_in-requires g c =

@@ -8,16 +8,16 @@ use Rattle.ps_serve.proofs.sites.Site.TheSendSync as sites
 use Rattle.ps_connections.proofs.Sent.{store_send}
 use Rattle.ps_connections.proofs.starting.start.Goals as goal
 
-pub spawn_scoped_with-requires-send-F : goal.spawn_scoped_with-requires-send-F
-spawn_scoped_with-requires-send-F g c κs within =
+pub spawn_scoped_with-started-requires-send-F : goal.spawn_scoped_with-started-requires-send-F
+spawn_scoped_with-started-requires-send-F g c κs within =
     let runtime = c.type_bounds.sync-R in
     let clock = c.type_bounds.sync-C in
     let source = c.type_bounds.send-S in
     let sink = c.type_bounds.send-K in
     search (sendable, crosses, store_send, seats.the_field_send, locks.the_sync, sites.the_sync, bells.the_sync) depth 40
 
-pub spawn_scoped_with-requires-send-T : goal.spawn_scoped_with-requires-send-T
-spawn_scoped_with-requires-send-T g c κs within =
+pub spawn_scoped_with-started-requires-send-T : goal.spawn_scoped_with-started-requires-send-T
+spawn_scoped_with-started-requires-send-T g c κs within =
     let source = c.type_bounds.send-S in
     let sink = c.type_bounds.send-K in
     search (sendable, crosses, store_send, seats.the_field_send, ends.the_field_send) depth 40

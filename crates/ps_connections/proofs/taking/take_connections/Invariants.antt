@@ -1,4 +1,4 @@
-use Rattle.std.proofs.Common.{◌≡◌, ◌+◌, length}
+use Rattle.std.proofs.Common.{◌≡◌, ◌+◌, length, vec_len}
 use Rattle.ps_lock.specs.Words.{IsSeatOf, seen_by, own_entries_of}
 use Rattle.ps_connections.specs.Taken.{HaveCome}
 use Rattle.ps_connections.specs.Workers.{AreWorkersOf}
@@ -14,6 +14,7 @@ invariant-connections g l =
       closed : D.closed l.doors ≡ D.closed l.fn.doors;
       opened : D.opened l.doors ≡ D.opened l.fn.doors + length l.workers.items;
       count : length l.workers.items ≡ l.counter;
+      sized : vec_len l.workers ≡ length l.workers.items;
       coming : HaveCome (D.coming l.fn.doors) (D.coming l.doors) (length l.workers.items);
       faults : D.faults l.doors ≡ D.faults l.fn.doors;
       workers : AreWorkersOf g.S.Source g.K.Sink g.C.Clock l.service.lock.now l.service.site.now l.service.clock.now (seen_by l.fn.seat) (D.closed l.fn.doors) (D.opened l.fn.doors) l.workers.items;
