@@ -1,18 +1,16 @@
 -- The totals of a history that feeds transactions and writes all their changes.
-use Rattle.std.proofs.Common.{◌≡◌, ℕ, List, [], length, take, refl, ap, ◌∙◌}
+use Rattle.std.proofs.Common.{◌≡◌, ℕ, List, [], length, take, ap, ◌∙◌}
 use Rattle.std.proofs.Math.Seq.{take-length}
 use Rattle.ps_rows.specs.declared.changes.Transaction.{Transaction}
 use Rattle.ps_bucket_log.specs.Ops.{sum_of}
-use Rattle.ps_definitions.specs.RuleSets.{RuleSet}
-use Rattle.ps_store.specs.declared.events.Event.{Event}
 use Rattle.ps_store.specs.declared.totals.Totals.{Totals}
 use Rattle.ps_store.specs.Histories.{LedgersTellHistories, LedgersTellOneGeneration}
 use Rattle.ps_store.specs.LedgerLaws.{LedgersTellFeeds}
 use Rattle.ps_store.specs.Ledgers.{ledger_of}
 use Rattle.ps_store.specs.Originals.{ops_from, timed}
 use Rattle.ps_store.specs.declared.entered.Entered.{Entered}
-use Rattle.ps_store.specs.Totals.{names_of, ops_of, totals_of}
-use Rattle.ps_serving.specs.Totals.{IsWholeOf, TotalsAreOne, totals_by, whole_totals}
+use Rattle.ps_store.specs.Totals.{names_of, ops_of}
+use Rattle.ps_serving.specs.Totals.{TotalsAreOne}
 
 abbrev counted : List Transaction → ℕ → List Entered → Totals
 counted fed written entered = record {

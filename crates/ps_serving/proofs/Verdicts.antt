@@ -13,14 +13,14 @@ use Rattle.ps_store.specs.Ledgers.{ledger_of}
 use Rattle.ps_store.specs.Totals.{totals_of}
 use Rattle.ps_files.specs.declared.faults.Fault.{Fault}
 use Rattle.ps_files.specs.declared.faults.Fault.TheVariants.{Usage, Rules, Change, PastLimit, TooManyBuckets, Claims, Keys, TooLong, CannotRead, CannotWrite, Script, Memory}
-use Rattle.ps_serve_inputs.specs.declared.faults.ServeFault.TheVariants.{Plain, ConnectionFailed}
+use Rattle.ps_serve_inputs.specs.declared.faults.ServeFault.TheVariants.{Plain}
 use Rattle.ps_workers.specs.declared.ends.WorkEnd.{WorkEnd}
 use Rattle.ps_workers.specs.declared.ends.WorkEnd.TheVariants as work
 use Rattle.ps_workers.specs.Work.{EndsWriting, IsStoreDrained}
 use Rattle.ps_serving.specs.Ends.{writer_fault, compactor_fault, doors_fault, output_fault, room_fault, is_no_room, first_of, unless_fault}
 use Rattle.ps_serving.specs.Printing.{PrintsLine, totals_line}
 use Rattle.ps_serving.specs.Running.{HaveAnswers}
-use Rattle.ps_serving.specs.Serving.{DoorsAt, SinkAt, HasRun, RefusesChange, ServesAll, ServesFed}
+use Rattle.ps_serving.specs.Serving.{DoorsAt, SinkAt, HasRun, ServesFed}
 
 no_short : (a b : Bool) → (a || b) ≡ false → b ≡ false
 no_short true b h = cc

@@ -1,5 +1,5 @@
 -- From a store that was fed and served to the whole command.
-use Rattle.std.proofs.Common.{◌≡◌, ◌∙◌, ℕ, ◌≤◌, Bool, true, List, ◌++◌, Option, Some, None, Result, Ok, Err, refl, ap, sym, subst, arith, inr, append_assoc}
+use Rattle.std.proofs.Common.{◌≡◌, ◌∙◌, ℕ, ◌≤◌, Bool, true, List, ◌++◌, Option, Some, None, Result, Ok, Err, ap, subst, arith, inr, append_assoc}
 use mathlib.Core.List.{IsPrefix}
 use Rattle.ps_io.specs.Contents.{Gains}
 use Rattle.ps_doors.specs.Connections.{Connection}

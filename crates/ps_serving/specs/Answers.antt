@@ -17,7 +17,7 @@ use Rattle.ps_serve_inputs.specs.declared.faults.ServeFault.{ServeFault}
 use Rattle.ps_serve_inputs.specs.declared.faults.ServeFault.TheVariants.{Plain, ConnectionFailed}
 use Rattle.ps_serve_inputs.specs.Inputs.{StopsInputs}
 use Rattle.ps_serve_inputs.specs.ServeFaults.{SaysServeFault}
-use Rattle.ps_serving.specs.Serving.{FilesAt, DoorsAt, SinkAt, IsServed, IsRefusedLate, ServesSo}
+use Rattle.ps_serving.specs.Serving.{FilesAt, DoorsAt, SinkAt, IsServed, IsRefusedLate}
 
 -- the name that could not be read joined those that could not be, and else none did
 abbrev pub MissesFault : Option (List (List ℕ)) → Option (List (List ℕ)) → ServeFault → Type 0

@@ -1,5 +1,5 @@
 -- What the ends of a service's threads make of its status.
-use Rattle.std.specs.Prelude.{ℕ, Bool, true, false, ◌||◌, if◌then◌else◌, Option, Some, None, option_map, Result, Ok, Err}
+use Rattle.std.specs.Prelude.{Bool, true, false, ◌||◌, if◌then◌else◌, Option, Some, None, option_map, Result, Ok, Err}
 use Rattle.ps_connections.specs.declared.ended.Ended.{Ended}
 use Rattle.ps_connections.specs.declared.ended.Stop.{Stop}
 use Rattle.ps_connections.specs.declared.ended.Stop.TheVariants.{NoneToCome, Most, NoRoom, Failed}

@@ -1,6 +1,5 @@
 -- What `serve` answers, and the cause of each answer.
-use Rattle.std.specs.Prelude.{◌≡◌, ◌≢◌, ◌⊎◌, ℕ, ◌-◌, ◌^◌, ◌≤◌, Bool, true, false, List, [], ◌++◌, length, Option, Some, None, unwrap_or, Result, Ok, Err, Vec}
-use Rattle.std.specs.declared.alloc.Global.{Global}
+use Rattle.std.specs.Prelude.{◌≡◌, ◌⊎◌, ℕ, ◌-◌, ◌^◌, true, false, List, ◌++◌, length, Option, unwrap_or, Result, Ok, Err}
 use mathlib.Core.List.{IsPrefix}
 use Rattle.ps_data.specs.declared.ids.OpId.{OpId}
 use Rattle.ps_io.specs.Contents.{Contents, Gains}
@@ -8,14 +7,10 @@ use Rattle.ps_io.specs.Counts.{Rose}
 use Rattle.ps_connections.specs.declared.ended.Ended.{Ended}
 use Rattle.ps_connections.specs.Taken.{HasTaken}
 use Rattle.ps_doors.specs.Connections.{Connection}
-use Rattle.ps_rows.specs.declared.changes.Transaction.{Transaction}
-use Rattle.ps_definitions.specs.RuleSets.{RuleSet}
-use Rattle.ps_token.specs.declared.key_lists.Key.{Key}
 use Rattle.ps_serve.specs.declared.sites.Site.{Site}
 use Rattle.ps_store.specs.declared.events.Event.{Event}
 use Rattle.ps_store.specs.declared.faults.WriteFault.TheVariants as writing
 use Rattle.ps_store.specs.declared.fixed.Fixed.{Fixed}
-use Rattle.ps_store.specs.declared.totals.Totals.{Totals}
 use Rattle.ps_store.specs.Ledgers.{Ledger, ledger_of}
 use Rattle.ps_store.specs.Stores.{IsRefused}
 use Rattle.ps_store.specs.Totals.{totals_of}
@@ -23,11 +18,8 @@ use Rattle.ps_files.specs.declared.faults.Fault.{Fault}
 use Rattle.ps_files.specs.declared.faults.Fault.TheVariants.{Usage, Rules, Change, PastLimit, TooManyBuckets, Claims, Keys, TooLong, CannotRead, CannotWrite, Script, Memory}
 use Rattle.ps_files.specs.declared.faults.Limit.{Limit}
 use Rattle.ps_files.specs.declared.faults.Limit.TheVariants.{LineBytes, Entries, Operations}
-use Rattle.ps_files.specs.declared.faults.LineFault.{LineFault}
-use Rattle.ps_files.specs.declared.faults.RulesCause.{RulesCause}
 use Rattle.ps_files.specs.ReadingChanges.{usual}
 use Rattle.ps_serve_words.specs.declared.words.ServeWords.{ServeWords}
-use Rattle.ps_serve_words.specs.Words.{AreRefused, AreTaken}
 use Rattle.ps_serve_inputs.specs.declared.faults.ServeFault.{ServeFault}
 use Rattle.ps_serve_inputs.specs.declared.faults.ServeFault.TheVariants.{Plain, ConnectionFailed}
 use Rattle.ps_serve_inputs.specs.declared.inputs.Inputs.{Inputs}

@@ -1,6 +1,6 @@
 //! The writer, the compactor and the connections of a service, side by side.
 
-ghost use Rattle.std.specs.Prelude.{◌≡◌, List, length};
+ghost use Rattle.std.specs.Prelude.{◌≡◌};
 ghost use mathlib.Core.List.{IsPrefix};
 ghost use Rattle.ps_lock.specs.Words.{IsSeatOf, seen_by};
 ghost use Rattle.ps_connections.specs.Taken.{HasTaken};

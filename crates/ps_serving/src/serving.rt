@@ -1,11 +1,9 @@
 //! The command `serve`, over files, doors, a clock and sinks.
 
-ghost use Rattle.std.specs.Prelude.{◌≡◌, ◌≢◌, ◌≤◌, ◌⊎◌, List, Ok, Err};
+ghost use Rattle.std.specs.Prelude.{◌≡◌, ◌≢◌, ◌≤◌, Ok, Err};
 ghost use Rattle.ps_lock.specs.Words.{IsSeatOf, seen_by};
-ghost use Rattle.ps_files.specs.Loading.{MissesNamed};
 ghost use Rattle.ps_serve_words.specs.Words.{IsInMillion, AreInRange};
 ghost use Rattle.ps_workers.specs.Sharing.{fixed_of};
-ghost use Rattle.ps_serving.specs.Printing.{listening_line};
 ghost use Rattle.ps_serving.specs.Serving.{most_of, Listens, ServesFed, ServesSo};
 ghost use Rattle.ps_serving.specs.Answers.{AnswersServe, MissesServe, SaysWhy, words_fault_of};
 

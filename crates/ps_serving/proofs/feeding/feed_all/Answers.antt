@@ -1,4 +1,4 @@
-use Rattle.std.proofs.Common.{◌≡◌, ◌∙◌, ℕ, suc, ◌≤◌, ◌<◌, List, [], ◌∷◌, ◌++◌, All, ap, sym, subst, arith}
+use Rattle.std.proofs.Common.{◌∙◌, suc, ◌≤◌, ◌∷◌, ◌++◌, All, ap, sym, subst, arith}
 use Rattle.ps_lock.specs.Words.{seen_by}
 use Rattle.ps_rows.specs.declared.changes.Transaction.{Transaction}
 use Rattle.ps_store.specs.Limits.{greatest}

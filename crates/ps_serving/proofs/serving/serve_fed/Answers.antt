@@ -1,4 +1,4 @@
-use Rattle.std.proofs.Common.{◌≡◌, sym, subst}
+use Rattle.std.proofs.Common.{subst}
 use mathlib.Core.List.{IsPrefix}
 use Rattle.ps_lock.specs.Words.{seen_by}
 use Rattle.ps_store.specs.declared.totals.Totals.{Totals}
