@@ -2,7 +2,8 @@
 
 use ps_data::Text;
 
-const COMMANDS: &str = "powersync: a sync service for offline-first applications, its client, and tools around both
+const COMMANDS: &str =
+    "powersync: a sync service for offline-first applications, its client, and tools around both
 
   check RULES                         what the rules have, and warnings; or the first fault, with its place
   rows RULES CHANGES CLAIMS           the rows that one user gets, after all changes
@@ -12,6 +13,8 @@ const COMMANDS: &str = "powersync: a sync service for offline-first applications
   generate N [lines]                  a summary of N made transactions, or their lines
   snapshot RULES LINES CLAIMS         the rows that one user gets, from a first copy of tables that runs beside changes
   audit RULES CHANGES CLAIMS STREAM   whether a recorded stream showed its user the right rows
+  serve OPTIONS                       the service, on a socket
+  sync OPTIONS                        a client of a service: uploads, and the rows of one checkpoint
 
 powersync COMMAND --help says more of one command. docs/FORMATS.md has the files, the texts and the statuses.
 Example: powersync rows examples/todo/rules.yaml examples/todo/changes.jsonl examples/todo/ann.json
@@ -68,6 +71,34 @@ The first line of the stream file is the body of the stream's request, and names
 Example: powersync audit rules.yaml changes.jsonl claims.json recorded.jsonl
 ";
 
+const SERVE: &str = "powersync serve --rules FILE --changes FILE --keys FILE --listen ADDRESS
+
+Serves streams, uploads and write checkpoints over HTTP: docs/OPERATING.md.
+
+  --rules FILE        the rules
+  --changes FILE      the changes of the source, one transaction on a line
+  --keys FILE         the keys that sign tokens
+  --listen ADDRESS    a host and a port
+  --connections N     take so many connections and no more, and end once they have ended; 1 to 1,000,000
+  --until-drained     feed the file and nothing more; a stream ends once it has shown all of it
+  --batch N           write at most so many changes in one turn; 1 to 1,000,000, else 1,000
+  --compact-at N      compact a bucket that has so many operations more than after its last compaction; 1 to 1,000,000, else 1,000
+
+Example: powersync serve --rules examples/todo/rules.yaml --changes examples/todo/changes.jsonl --keys examples/todo/keys.json --listen 127.0.0.1:8080
+";
+
+const SYNC: &str = "powersync sync --connect ADDRESS --token-file FILE --client-id ID
+
+Uploads local writes, waits for a checkpoint that has them, and prints the rows that it shows.
+
+  --connect ADDRESS   the service: a host and a port
+  --token-file FILE   the token of the user
+  --client-id ID      the client, for its write checkpoints
+  --upload FILE       changes to upload, one on a line
+
+Example: powersync sync --connect 127.0.0.1:8080 --token-file token --client-id phone
+";
+
 /// The text for words that ask for help or for the version and for nothing else: `--help`, `-h` or `--version` alone, or a command's name and
 /// `--help`. None for all other words.
 pub(crate) fn help_for(words: &[Text]) -> Option<&'static str> {
@@ -98,6 +129,8 @@ fn help_of(command: &str) -> Option<&'static str> {
         "generate" => Some(GENERATE),
         "snapshot" => Some(SNAPSHOT),
         "audit" => Some(AUDIT),
+        "serve" => Some(SERVE),
+        "sync" => Some(SYNC),
         _ => None,
     }
 }

@@ -1,15 +1,23 @@
-//! The program `powersync`, over `ps_commands`: the system's words, files and streams.
+//! The program `powersync`: the system's words, files, streams and sockets, and the size of its stack.
 #![tactic(auto)]
 
 mod help;
+mod jobs;
 
 use help::help_for;
+use jobs::{Job, job_of};
+use ps_client_log::VolatileKeeper;
 use ps_commands::run_plain;
 use ps_data::Text;
 use ps_files::{Fault, say};
-use ps_io::{DiskFiles, Sink, StdSink};
+use ps_io::{DiskFiles, Sink, StdSink, WallClock};
+use ps_serving::run_serve;
+use ps_sockets::{TcpDoors, TcpLink};
+use ps_syncing::run_sync;
 use std::process::ExitCode;
-use std::{env, io, thread};
+use std::sync::Wait;
+use std::thread::Threads;
+use std::{env, io, thread, time};
 
 // Reading, checking and dropping a hostile file may nest as deep as it is long.
 const STACK: usize = 1610612736;
@@ -36,26 +44,80 @@ fn tell<K: Sink, E: Sink>(text: &str, out: &mut K, err: &mut E) -> u8 {
     }
 }
 
-fn run(rt: &HostRuntime) -> u8 {
+// The service, over the system's sockets and its clock.
+fn serve<R: Wait + Threads + time::Clock + Sync, K: Sink, E: Sink>(
+    rt: &HostRuntime,
+    waits: &R,
+    words: &[Text],
+    out: &mut K,
+    err: &mut E,
+) -> u8 {
+    let mut files = DiskFiles::new(*rt);
+    let mut doors = TcpDoors::new(*rt);
+    let clock = WallClock::new(*rt);
+    run_serve(
+        waits,
+        rt.alloc(),
+        words,
+        &mut files,
+        &mut doors,
+        &clock,
+        out,
+        err,
+    )
+}
+
+// A client over the system's sockets. What it keeps ends with the program.
+fn sync<R: Wait, K: Sink, E: Sink>(
+    rt: &HostRuntime,
+    waits: &R,
+    words: &[Text],
+    out: &mut K,
+    err: &mut E,
+) -> u8 {
+    let mut files = DiskFiles::new(*rt);
+    let mut link = TcpLink::new(*rt);
+    let keeper = VolatileKeeper;
+    let (status, _keeper) = run_sync(
+        waits,
+        rt.alloc(),
+        words,
+        &mut files,
+        &mut link,
+        keeper,
+        out,
+        err,
+    );
+    status
+}
+
+fn run<R: Wait + Threads + time::Clock + Sync>(rt: &HostRuntime, waits: &R) -> u8 {
     let words = words_of(rt);
+    let words = words.as_slice();
     let stdout = rt.stdout();
     let stderr = rt.stderr();
-    let mut files = DiskFiles::new(*rt);
     let mut out = StdSink::new(io::writer(&stdout));
     let mut err = StdSink::new(io::writer(&stderr));
-    match help_for(words.as_slice()) {
-        Some(text) => tell(text, &mut out, &mut err),
-        None => run_plain(rt.alloc(), words.as_slice(), &mut files, &mut out, &mut err),
+    if let Some(text) = help_for(words) {
+        return tell(text, &mut out, &mut err);
+    }
+    match job_of(words) {
+        Job::Plain => {
+            let mut files = DiskFiles::new(*rt);
+            run_plain(rt.alloc(), words, &mut files, &mut out, &mut err)
+        }
+        Job::Serve => serve(rt, waits, words, &mut out, &mut err),
+        Job::Sync => sync(rt, waits, words, &mut out, &mut err),
     }
 }
 
 fn main(rt: HostRuntime) -> ExitCode {
     let status = match thread::Builder::new()
         .stack_size(STACK)
-        .spawn(&rt, move || run(&rt))
+        .spawn(&rt, move || run(&rt, &rt))
     {
         Ok(handle) => handle.join(&rt),
-        Err(_) => run(&rt),
+        Err(_) => run(&rt, &rt),
     };
     ExitCode::from(status)
 }
