@@ -1,6 +1,4 @@
 -- What a client answers to a line, and what its taking leaves.
-use Rattle.std.specs.Prelude.{Vec}
-use Rattle.std.specs.declared.alloc.Global.{Global}
 use Rattle.std.proofs.Common.{◌≡◌, ℕ, Bool, true, false, Option, Some, None, List, [], ◌∷◌, refl, sym, ap, subst, ◌∙◌, arith, length}
 use Rattle.std.specs.Prelude.{if◌then◌else◌, Result, Ok, Err, ◌==◌}
 use Rattle.std.specs.List.{list_all}
@@ -42,12 +40,13 @@ use Rattle.ps_core.specs.Plays as plays
 use Rattle.ps_core.specs.ReaderEvents.{ShowsAfter, TakesLine, link_after_answer, took_effect, took_outcome}
 use Rattle.ps_core.specs.PlaySteps.{TakesOn}
 use Rattle.ps_core.specs.declared.readers.Reader.{Reader}
+use Rattle.ps_core.specs.declared.readers.Sent.{Sent}
 use Rattle.ps_core.specs.declared.readers.Stream.{Stream}
 use Rattle.ps_core.specs.declared.taking.Answer.{Answer}
 use Rattle.ps_core.specs.Answers.{CanFault, IsAnswered, IsRefusing, ends, refused_by, said_by}
 use Rattle.ps_core.specs.Texts.{IsPrintable}
 use Rattle.ps_core.specs.Parts.{CameTo, IsAt}
-use Rattle.ps_core.specs.Worlds.{AreWaiting, LinkStandsFor, StreamStandsFor, bytes_of}
+use Rattle.ps_core.specs.Worlds.{AreWaiting, LinkStandsFor, StreamStandsFor}
 use Rattle.ps_core.proofs.Visited.{HasLink, became, said_to, streams_so}
 use Rattle.ps_core.proofs.StreamSteps.{known, streaming}
 
@@ -171,25 +170,25 @@ is_over (Err fault) link is = refl
 
 -- ---- lines that wait
 
-no_line : (lines : List (Vec ℕ Global)) (waiting : List Made) → lines ≡ [] → AreWaiting (bytes_of lines) waiting → waiting ≡ []
+no_line : (lines : List Sent) (waiting : List Made) → lines ≡ [] → AreWaiting lines waiting → waiting ≡ []
 no_line lines [] is are = refl
-no_line lines (m ∷ ms) is are = absurd (subst (λ (ls : List (Vec ℕ Global)). AreWaiting (bytes_of ls) (m ∷ ms)) is are)
+no_line lines (m ∷ ms) is are = absurd (subst (λ (ls : List Sent). AreWaiting ls (m ∷ ms)) is are)
 
-pub record IsOldest (bytes : Vec ℕ Global) (rest : List (Vec ℕ Global)) (waiting : List Made) : Type 0 where
+pub record IsOldest (sent : Sent) (rest : List Sent) (waiting : List Made) : Type 0 where
   pub oldest : Made
   pub others : List Made
   pub waiting_is : waiting ≡ oldest ∷ others
-  pub read : line_of bytes.items ≡ Ok (without_targets oldest.line)
-  pub rest_are : AreWaiting (bytes_of rest) others
+  pub read : line_of sent.bytes.items ≡ Ok (without_targets oldest.line)
+  pub rest_are : AreWaiting rest others
 
-pub oldest_of : (lines : List (Vec ℕ Global)) (bytes : Vec ℕ Global) (rest : List (Vec ℕ Global)) (waiting : List Made) → lines ≡ bytes ∷ rest → AreWaiting (bytes_of lines) waiting → IsOldest bytes rest waiting
-oldest_of lines bytes rest [] is are = absurd (subst (λ (ls : List (Vec ℕ Global)). AreWaiting (bytes_of ls) []) is are)
-oldest_of lines bytes rest (m ∷ ms) is are =
-    let here : AreWaiting (bytes_of (bytes ∷ rest)) (m ∷ ms) = subst (λ (ls : List (Vec ℕ Global)). AreWaiting (bytes_of ls) (m ∷ ms)) is are in
-    record { oldest = m; others = ms; waiting_is = refl; read = here.0; rest_are = here.1 }
+pub oldest_of : (lines : List Sent) (sent : Sent) (rest : List Sent) (waiting : List Made) → lines ≡ sent ∷ rest → AreWaiting lines waiting → IsOldest sent rest waiting
+oldest_of lines sent rest [] is are = absurd (subst (λ (ls : List Sent). AreWaiting ls []) is are)
+oldest_of lines sent rest (m ∷ ms) is are =
+    let here : AreWaiting (sent ∷ rest) (m ∷ ms) = subst (λ (ls : List Sent). AreWaiting ls (m ∷ ms)) is are in
+    record { oldest = m; others = ms; waiting_is = refl; read = here.0.reads; rest_are = here.1 }
 
 popped_stands : (fixed : Fixed) (history : List StoreEvent) (asker : Asker) (old new : Stream) (at : ℕ) (session : SessionState) (waiting others : List Made)
-    → StreamStandsFor fixed history asker old at session waiting → new.session ≡ old.session → AreWaiting (bytes_of new.waiting.items) others
+    → StreamStandsFor fixed history asker old at session waiting → new.session ≡ old.session → AreWaiting new.waiting.items others
     → StreamStandsFor fixed history asker new at session others
 popped_stands fixed history asker old new at session waiting others it same are = record {
   session_is = ap state_of same ∙ it.session_is;
@@ -224,14 +223,14 @@ module _ (fixed : Fixed) (play : Play) (name : List ℕ) (store : Store) (old : 
         link_is = subst (λ (o : Option Stream). LinkStandsFor fixed play.history it.reader.asker o it.reader.link) (sym now_is)
             (subst (λ (l : Link). LinkStandsFor fixed play.history it.reader.asker (Some now) l) (sym link.link_is)
             (popped_stands fixed play.history it.reader.asker stream now link.at link.session link.waiting link.waiting link.stands session
-            (subst (λ (w : List Made). AreWaiting (bytes_of now.waiting.items) w) (sym are) (subst (λ (ls : List (Vec ℕ Global)). AreWaiting (bytes_of ls) []) (sym still) tt))));
+            (subst (λ (w : List Made). AreWaiting now.waiting.items w) (sym are) (subst (λ (ls : List Sent). AreWaiting ls []) (sym still) tt))));
       })
 
-  module _ (bytes : Vec ℕ Global) (rest : List (Vec ℕ Global)) (lines : stream.waiting.items ≡ bytes ∷ rest) where
-    abbrev first : IsOldest bytes rest link.waiting
-    first = oldest_of stream.waiting.items bytes rest link.waiting lines link.stands.waiting_are
+  module _ (sent : Sent) (rest : List Sent) (lines : stream.waiting.items ≡ sent ∷ rest) where
+    abbrev first : IsOldest sent rest link.waiting
+    first = oldest_of stream.waiting.items sent rest link.waiting lines link.stands.waiting_are
 
-    pub read : line_of bytes.items ≡ Ok (without_targets first.oldest.line)
+    pub read : line_of sent.bytes.items ≡ Ok (without_targets first.oldest.line)
     read = first.read
 
     took_so : (new : Reader) (answer : Answer) → IsAnswered (state old.client) (state new.client) (without_targets first.oldest.line) answer → new.asker ≡ old.asker
@@ -265,7 +264,7 @@ module _ (fixed : Fixed) (play : Play) (name : List ℕ) (store : Store) (old : 
         (subst (λ (l : Link). LinkStandsFor fixed play.history it.reader.asker new.stream l) (sym (goes_on _ _ (ends_is new answer false has on)))
         (subst (λ (o : Option Stream). LinkStandsFor fixed play.history it.reader.asker o (Streaming link.at link.session first.others)) (sym now_is)
         (popped_stands fixed play.history it.reader.asker stream now link.at link.session link.waiting first.others link.stands session
-        (subst (λ (ls : List (Vec ℕ Global)). AreWaiting (bytes_of ls) first.others) (sym rest_is) first.rest_are))))
+        (subst (λ (ls : List Sent). AreWaiting ls first.others) (sym rest_is) first.rest_are))))
 
     pub took_last : (new : Reader) (answer : Answer) → IsAnswered (state old.client) (state new.client) (without_targets first.oldest.line) answer → answer.over ≡ true
         → new.asker ≡ old.asker → new.stream ≡ None → CameTo fixed play (scripts.Take name) name store new answer.effect

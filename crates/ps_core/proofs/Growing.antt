@@ -15,7 +15,7 @@ use Rattle.ps_store.specs.Runs.{Run}
 use Rattle.ps_store.specs.Stores.{next_run}
 use Rattle.ps_core.specs.declared.effects.Effect.{Effect}
 use Rattle.ps_core.specs.Plays.{Play, Reader, Outcome, ledger}
-use Rattle.ps_core.specs.PlayHeadline.{AreLed, IsLed}
+use Rattle.ps_core.specs.PlayHeadline.{UnalteredAreLed, IsLed}
 use Rattle.ps_core.specs.StoreEvents.{feed_refusal, fed_or, feeding, feeds, closes, unwritten_effect, written_run, writes, commits_over, commits, compacts_over, compacts, tells_totals}
 use Rattle.ps_core.proofs.Grounds.{Under}
 use Rattle.ps_core.proofs.Leading.{led_grown}
@@ -27,10 +27,10 @@ pub record IsGrown (history : List Event) (readers : List ℕ → Option Reader)
   pub readers_are : outcome.play.readers ≡ readers
   pub calm : IsCalm outcome.effect
 
-pub grown_led : (fixed : Fixed) → Under fixed → (play : Play) (outcome : Outcome) → IsGrown play.history play.readers outcome → AreLed fixed play → AreLed fixed outcome.play
-grown_led fixed under play outcome grown led name reader is =
+pub grown_led : (fixed : Fixed) → Under fixed → (play : Play) (outcome : Outcome) → IsGrown play.history play.readers outcome → UnalteredAreLed fixed play → UnalteredAreLed fixed outcome.play
+grown_led fixed under play outcome grown led name reader is plain =
     let old : play.readers name ≡ Some reader = sym (ap (λ (readers : List ℕ → Option Reader). readers name) grown.readers_are) ∙ is in
-    subst (λ (h : List Event). IsLed fixed h reader) (sym grown.history_is) (led_grown fixed under play.history grown.new reader (led name reader old))
+    subst (λ (h : List Event). IsLed fixed h reader) (sym grown.history_is) (led_grown fixed under play.history grown.new reader (led name reader old plain))
 
 still : (play : Play) (effect : Effect) → IsCalm effect → IsGrown play.history play.readers (record { effect = effect; play = play })
 still play effect calm = record { new = []; history_is = sym (append-nil play.history); readers_are = refl; calm = calm }

@@ -1,5 +1,5 @@
 -- What keeps clients led: a history that grows, and what becomes of one of them.
-use Rattle.std.proofs.Common.{◌≡◌, ℕ, ◌≤◌, List, [], ◌∷◌, ◌++◌, length, Some, true, refl, sym, subst, inl, inr, arith, append_assoc, append-nil, length-append}
+use Rattle.std.proofs.Common.{◌≡◌, ℕ, ◌≤◌, List, [], ◌∷◌, ◌++◌, length, Some, true, false, refl, sym, subst, inl, inr, arith, append_assoc, append-nil, length-append}
 use Rattle.std.specs.Prelude.{bytes_eq}
 use Rattle.std.proofs.lemmas.Bool.{cases_Bool}
 use Rattle.std.proofs.lemmas.Slice.Eq.{bytes_eq-Decides}
@@ -13,7 +13,7 @@ use Rattle.ps_streams.specs.Headline.{Local, AreHonest, reader_of, with_local}
 use Rattle.ps_streams.specs.Lives.{Link, Idle, Streaming}
 use Rattle.ps_streams.specs.Runs.{Made}
 use Rattle.ps_core.specs.Plays.{Play, Reader, course, with_reader}
-use Rattle.ps_core.specs.PlayHeadline.{AreTakenBy, IsLed, IsLedBy, AreLed}
+use Rattle.ps_core.specs.PlayHeadline.{AreTakenBy, IsLed, IsLedBy, UnalteredAreLed}
 use Rattle.ps_core.proofs.Grounds.{Laws, Under, lawful_in}
 
 -- ---- one client over one course
@@ -74,14 +74,15 @@ pub one_of : {x y : Reader} → Some x ≡ Some y → x ≡ y
 one_of same = cc
 
 -- a client becomes another
-pub with_led : (fixed : Fixed) (name : List ℕ) (reader : Reader) (play : Play) → IsLed fixed play.history reader → AreLed fixed play → AreLed fixed (with_reader name reader play)
-with_led fixed name reader play here others other r is = elim (cases_Bool (bytes_eq name other)) [
+pub with_led : (fixed : Fixed) (name : List ℕ) (reader : Reader) (play : Play) → (reader.altered ≡ false → IsLed fixed play.history reader) → UnalteredAreLed fixed play
+    → UnalteredAreLed fixed (with_reader name reader play)
+with_led fixed name reader play here others other r is plain = elim (cases_Bool (bytes_eq name other)) [
   | inl same ↦
       let own : Some reader ≡ Some r = rw same at is in
-      subst (λ (x : Reader). IsLed fixed play.history x) (one_of own) here
+      subst (λ (x : Reader). x.altered ≡ false → IsLed fixed play.history x) (one_of own) here plain
   | inr differs ↦
       let old : play.readers other ≡ Some r = rw differs at is in
-      others other r old
+      others other r old plain
 ]
 
 pub with_same : (name : List ℕ) (reader : Reader) (play : Play) → (with_reader name reader play).readers name ≡ Some reader

@@ -21,11 +21,11 @@ use Rattle.ps_streams.specs.Lives.{Link, Idle, Streaming}
 use Rattle.ps_streams.specs.Runs.{Made}
 use Rattle.ps_session.specs.Sessions.{SessionState}
 use Rattle.ps_script.specs.declared.events.ScriptEvent.{ScriptEvent}
-use Rattle.ps_script.specs.declared.events.ScriptEvent.TheVariants.{Feed, Close, Write, Commit, Compact, Client, Open, Turn, Take, Cut, Local, Upload, Number, Rows, Totals}
+use Rattle.ps_script.specs.declared.events.ScriptEvent.TheVariants.{Feed, Close, Write, Commit, Compact, Client, Open, Turn, Take, Cut, Alter, Local, Upload, Number, Rows, Totals}
 use Rattle.ps_core.specs.Plays.{Play, Reader, Outcome, course, ledger, place}
 use Rattle.ps_core.specs.StoreEvents.{commits_over, compacts_over, fed_or, feed_refusal, feeding, written_run}
 use Rattle.ps_core.specs.ReaderEvents.{TakesLine, numbers_for, takes_in, turn_outcome, uploads_from}
-use Rattle.ps_core.specs.PlaySteps.{Gives, NumbersAs, TakesOn, TurnsOn}
+use Rattle.ps_core.specs.PlaySteps.{AltersOn, Gives, NumbersAs, TakesOn, TurnsOn}
 use Rattle.ps_core.specs.Scripts.{AreLow, PlaysStayLegal}
 
 abbrev IsLow : Transaction → Type 0
@@ -194,6 +194,12 @@ link_sound : (link : Link) (rules : RuleSet) (name : List ℕ) (play : Play) (re
 link_sound Idle rules name play reader outcome sound takes = absurd takes
 link_sound (Streaming at session waiting) rules name play reader outcome sound takes = takes_sound waiting rules at session name play reader outcome sound takes
 
+alters_sound : (link : Link) (rules : RuleSet) (name : List ℕ) (play : Play) (reader : Reader) (outcome : Outcome) → IsSound rules play → AltersOn link name play reader outcome
+    → IsSound rules outcome.play
+alters_sound Idle rules name play reader outcome sound alters = absurd alters
+alters_sound (Streaming at session waiting) rules name play reader outcome sound alters =
+    subst (λ (o : Outcome). IsSound rules o.play) (sym alters) (record { legal = sound.legal; low = sound.low })
+
 number_sound : (client : Option (List ℕ)) (fixed : Fixed) (name : List ℕ) (play : Play) (reader : Reader) (outcome : Outcome) → AreWithin fixed.limits → IsSound fixed.rules play
     → NumbersAs fixed client name play reader outcome → IsSound fixed.rules outcome.play
 number_sound None fixed name play reader outcome within sound numbers = absurd numbers
@@ -235,6 +241,7 @@ event_sound (Open name) fixed play outcome within sound gives = subst (λ (o : O
 event_sound (Turn name) fixed play outcome within sound gives = turns_sound gives.0.link fixed name play gives.0 outcome sound gives.2
 event_sound (Take name) fixed play outcome within sound gives = link_sound gives.0.link fixed.rules name play gives.0 outcome sound gives.2
 event_sound (Cut name) fixed play outcome within sound gives = subst (λ (o : Outcome). IsSound fixed.rules o.play) (sym gives.2) (record { legal = sound.legal; low = sound.low })
+event_sound (Alter name) fixed play outcome within sound gives = alters_sound gives.0.link fixed.rules name play gives.0 outcome sound gives.2
 event_sound (Local name change) fixed play outcome within sound gives = subst (λ (o : Outcome). IsSound fixed.rules o.play) (sym gives.2) (record { legal = sound.legal; low = sound.low })
 event_sound (Upload name) fixed play outcome within sound gives =
     along fixed.rules outcome (uploads_from gives.0.client.kept.queue fixed.limits (ledger fixed play) name play gives.0) gives.2

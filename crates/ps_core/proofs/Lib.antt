@@ -17,5 +17,6 @@ pub mod Sent
 pub mod Visited
 pub mod StreamSteps
 pub mod Answered
+pub mod Altered
 pub mod Written
 pub mod WorldSteps

@@ -1,5 +1,5 @@
 -- The streams of scripts stay runs of their sessions, event by event.
-use Rattle.std.proofs.Common.{◌≡◌, ℕ, ◌+◌, ◌≤◌, ◌&&◌, Bool, true, false, List, [], ◌∷◌, ◌++◌, Option, Some, None, Ok, Err, refl, sym, ap, subst, ◌∙◌, inl, inr, arith, length, length-append}
+use Rattle.std.proofs.Common.{◌≡◌, ℕ, ◌+◌, ◌≤◌, ◌&&◌, Bool, true, false, List, [], ◌∷◌, ◌++◌, Option, Some, None, Ok, Err, sym, ap, subst, ◌∙◌, inl, inr, arith, length, length-append}
 use Rattle.std.specs.Prelude.{Result, bytes_eq, nat_lt}
 use Rattle.std.proofs.lemmas.Bool.{cases_Bool}
 use Rattle.ps_rows.specs.declared.changes.Change.{Change}
@@ -25,12 +25,12 @@ use Rattle.ps_streams.specs.Lives.{Link, Idle, Streaming}
 use Rattle.ps_streams.specs.Runs.{Made}
 use Rattle.ps_streams.specs.RunsTo.{RunsBegin, RunsTurn, RunsStay, RunsCarry}
 use Rattle.ps_script.specs.declared.events.ScriptEvent.{ScriptEvent}
-use Rattle.ps_script.specs.declared.events.ScriptEvent.TheVariants.{Feed, Close, Write, Commit, Compact, Client, Open, Turn, Take, Cut, Local, Upload, Number, Rows, Totals}
+use Rattle.ps_script.specs.declared.events.ScriptEvent.TheVariants.{Feed, Close, Write, Commit, Compact, Client, Open, Turn, Take, Cut, Alter, Local, Upload, Number, Rows, Totals}
 use Rattle.ps_core.specs.declared.effects.Effect.{Effect}
 use Rattle.ps_core.specs.Plays.{Play, Reader, Outcome, course, first_reader, happens, ledger, place, with_reader}
 use Rattle.ps_core.specs.PlayRuns.{AreRuns, IsRunOn, PlaysBeginRuns, PlaysStayRuns}
-use Rattle.ps_core.specs.PlaySteps.{Gives, NumbersAs, TakesOn, TurnsOn}
-use Rattle.ps_core.specs.ReaderEvents.{TakesLine, becomes, cut, link_after_answer, link_after_event, next_position, numbered, numbers_for, opened, takes_in, turn_outcome, turned, uploaded_at, uploads_from, with_kept}
+use Rattle.ps_core.specs.PlaySteps.{AltersOn, Gives, NumbersAs, TakesOn, TurnsOn}
+use Rattle.ps_core.specs.ReaderEvents.{TakesLine, altered_in, becomes, cut, link_after_answer, link_after_event, next_position, numbered, numbers_for, opened, takes_in, turn_outcome, turned, uploaded_at, uploads_from, with_kept}
 use Rattle.ps_core.specs.StoreEvents.{closes, commits, compacts, feeds, tells_totals, writes}
 use Rattle.ps_core.proofs.Growing.{IsGrown, closes_grown, commits_grown, compacts_grown, feeds_grown, totals_grown, writes_grown}
 
@@ -147,6 +147,12 @@ module _ (ground : Ground) (fixed : Fixed) where
   takes_runs Idle name play reader outcome takes here runs = absurd takes
   takes_runs (Streaming at session waiting) name play reader outcome takes here runs = takes_line at session waiting name play reader outcome takes here runs
 
+  alters_runs : (link : Link) (name : List ℕ) (play : Play) (reader : Reader) (outcome : Outcome) → AltersOn link name play reader outcome
+      → IsRunOn (course fixed play.history reader.asker) (place play) link → AreRuns fixed play → AreRuns fixed outcome.play
+  alters_runs Idle name play reader outcome alters here runs = absurd alters
+  alters_runs (Streaming at session waiting) name play reader outcome alters here runs =
+      subst (λ (o : Outcome). AreRuns fixed o.play) (sym alters) (with_runs name (altered_in at session waiting reader) play here runs)
+
   -- ---- uploads and numbers
 
   uploaded_runs : (queue : List Change) (limits : Limits) (l : Ledger) (name : List ℕ) (play : Play) (reader : Reader)
@@ -193,6 +199,7 @@ module _ (ground : Ground) (fixed : Fixed) where
   comes_runs (Turn name) play outcome gives runs = turns_runs gives.0.link name play gives.0 outcome gives.2 (runs name gives.0 gives.1) runs
   comes_runs (Take name) play outcome gives runs = takes_runs gives.0.link name play gives.0 outcome gives.2 (runs name gives.0 gives.1) runs
   comes_runs (Cut name) play outcome gives runs = subst (λ (o : Outcome). AreRuns fixed o.play) (sym gives.2) (with_runs name (cut gives.0) play tt runs)
+  comes_runs (Alter name) play outcome gives runs = alters_runs gives.0.link name play gives.0 outcome gives.2 (runs name gives.0 gives.1) runs
   comes_runs (Local name change) play outcome gives runs =
       let reader : Reader = gives.0 in
       subst (λ (o : Outcome). AreRuns fixed o.play) (sym gives.2) (with_runs name (with_kept (written change reader.client.kept) reader) play (runs name reader gives.1) runs)

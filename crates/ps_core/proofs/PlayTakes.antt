@@ -1,5 +1,5 @@
 -- A client takes the oldest line that waits.
-use Rattle.std.proofs.Common.{◌≡◌, ℕ, ◌≤◌, List, [], ◌∷◌, ◌++◌, length, Some, Ok, Err, refl, sym, ap, subst, ◌∙◌}
+use Rattle.std.proofs.Common.{◌≡◌, ℕ, ◌≤◌, List, [], ◌∷◌, ◌++◌, length, Some, Ok, Err, false, refl, sym, ap, subst, ◌∙◌}
 use Rattle.std.specs.Prelude.{Result}
 use Rattle.ps_data.specs.declared.ids.OpId.{OpId}
 use Rattle.ps_lines.specs.Writing.{without_targets}
@@ -21,7 +21,7 @@ use Rattle.ps_session.specs.Sessions.{SessionState}
 use Rattle.ps_script.specs.declared.events.ScriptEvent.TheVariants.{Turn, Take}
 use Rattle.ps_core.specs.declared.effects.Effect.TheVariants as effects
 use Rattle.ps_core.specs.Plays.{Play, Reader, Outcome, course, place, says, with_reader}
-use Rattle.ps_core.specs.PlayHeadline.{IsLed, IsLedBy, IsLedAlong, AreLed, IsRight, ShowsDue}
+use Rattle.ps_core.specs.PlayHeadline.{IsLed, IsLedBy, IsLedAlong, UnalteredAreLed, IsRight, ShowsDue}
 use Rattle.ps_core.specs.ReaderEvents.{ShowsAfter, TakesLine, link_after_answer, took_effect, took_outcome}
 use Rattle.ps_core.specs.PlaySteps.{TakesOn}
 use Rattle.ps_core.proofs.Grounds.{Laws, Under}
@@ -97,10 +97,10 @@ line_led fixed under history reader at session m ms rows link led more legal =
     let took : Took = taken reader.client (without_targets m.line) in
     link_goes_on took.answer c m.at reader.client.kept (length history) (showing rows took.client) (Streaming at session ms) it.0 it.1
 
-record IsTook (fixed : Fixed) (play : Play) (name : List ℕ) (outcome : Outcome) : Type 0 where
+record IsTook (fixed : Fixed) (play : Play) (name : List ℕ) (reader : Reader) (outcome : Outcome) : Type 0 where
   history : outcome.play.history ≡ play.history
-  led : AreLed fixed outcome.play
-  calm : IsCalm outcome.effect
+  led : UnalteredAreLed fixed outcome.play
+  calm : reader.altered ≡ false → IsCalm outcome.effect
   applies : Applies fixed play (Take name) outcome
 
 same_named : (name other : List ℕ) → Take name ≡ Take other → name ≡ other
@@ -114,11 +114,11 @@ waits_not at own session ours given waiting is = cc
 
 -- what is said where a checkpoint is applied
 line_applies : (fixed : Fixed) (play : Play) (name : List ℕ) (reader : Reader) (at : ℕ) (session : SessionState) (m : Made) (ms : List Made) (rows : Rows)
-    → play.readers name ≡ Some reader → reader.link ≡ Streaming at session (m ∷ ms) → m.at ≤ place play
-    → IsGood (course fixed play.history reader.asker) m.at reader.client.kept (taken reader.client (without_targets m.line)).answer
+    → play.readers name ≡ Some reader → reader.link ≡ Streaming at session (m ∷ ms)
+    → (reader.altered ≡ false → (m.at ≤ place play) × IsGood (course fixed play.history reader.asker) m.at reader.client.kept (taken reader.client (without_targets m.line)).answer)
     → ShowsAfter (taken reader.client (without_targets m.line)).answer reader.client.kept rows
     → Applies fixed play (Take name) (took_outcome (taken reader.client (without_targets m.line)) rows (Streaming at session ms) name reader play)
-line_applies fixed play name reader at session m ms rows there link late good shows other old new own ours given waiting op is before linked now says_so =
+line_applies fixed play name reader at session m ms rows there link good shows other old new own ours given waiting op is before plain linked now says_so =
     let took : Took = taken reader.client (without_targets m.line) in
     let after : Reader = after_line rows reader took at session ms in
     let same : name ≡ other = same_named name other is in
@@ -126,56 +126,59 @@ line_applies fixed play name reader at session m ms rows there link late good sh
     let old_is : reader ≡ old = one_of (sym there ∙ old_there) in
     let line_is : m ≡ given = same_link at own session ours m given ms waiting (sym link ∙ ap (λ (r : Reader). r.link) old_is ∙ linked) in
     let new_is : after ≡ new = one_of (sym (with_same name after play) ∙ ap (with_reader name after play).readers same ∙ now) in
+    let fine = good (subst (λ (r : Reader). r.altered ≡ false) (sym old_is) plain) in
     let here : ShowsDue fixed play m op reader after =
-    (late, shows_answer took.answer (course fixed play.history reader.asker) m.at reader.client took.client rows op says_so good shows) in
+    (fine.0, shows_answer took.answer (course fixed play.history reader.asker) m.at reader.client took.client rows op says_so fine.1 shows) in
     subst (λ (r : Reader). ShowsDue fixed play given op old r) new_is
     (subst (λ (r : Reader). ShowsDue fixed play given op r after) old_is (subst (λ (l : Made). ShowsDue fixed play l op reader after) line_is here))
 
 -- the client that took the line
 line_shows : (fixed : Fixed) → Under fixed → (play : Play) (name : List ℕ) (reader : Reader) (at : ℕ) (session : SessionState) (m : Made) (ms : List Made) (rows : Rows)
-    → IsLegal fixed.rules play.history → play.readers name ≡ Some reader → reader.link ≡ Streaming at session (m ∷ ms) → AreLed fixed play
+    → IsLegal fixed.rules play.history → play.readers name ≡ Some reader → reader.link ≡ Streaming at session (m ∷ ms) → UnalteredAreLed fixed play
     → ShowsAfter (taken reader.client (without_targets m.line)).answer reader.client.kept rows
-    → IsTook fixed play name (took_outcome (taken reader.client (without_targets m.line)) rows (Streaming at session ms) name reader play)
+    → IsTook fixed play name reader (took_outcome (taken reader.client (without_targets m.line)) rows (Streaming at session ms) name reader play)
 line_shows fixed under play name reader at session m ms rows legal there link led shows =
     let took : Took = taken reader.client (without_targets m.line) in
-    let c = course fixed play.history reader.asker in
-    let along : IsLedBy c (place play) reader.client (Streaming at session (m ∷ ms)) =
-    subst (λ (l : Link). IsLedBy c (place play) reader.client l) link (led_here fixed play.history reader legal (led name reader there)) in
-    let it = along_line under.laws c (place play) at session m ms reader.client rows along in
     record {
       history = refl;
-      led = with_led fixed name (after_line rows reader took at session ms) play (line_led fixed under play.history reader at session m ms rows link (led name reader there)) led;
-      calm = good_calm took.answer c m.at reader.client.kept it.0;
-      applies = line_applies fixed play name reader at session m ms rows there link along.taken.0 it.0 shows;
+      led = with_led fixed name (after_line rows reader took at session ms) play (λ plain. line_led fixed under play.history reader at session m ms rows link (led name reader there plain)) led;
+      calm = λ plain. good_calm took.answer (course fixed play.history reader.asker) m.at reader.client.kept (along plain).0;
+      applies = line_applies fixed play name reader at session m ms rows there link (λ plain. ((along plain).1.taken.0, (along plain).0)) shows;
     }
+  where
+    waits : reader.altered ≡ false → IsLedAlong (course fixed play.history reader.asker) (place play) at session (m ∷ ms) reader.client
+    waits plain = subst (λ (l : Link). IsLedBy (course fixed play.history reader.asker) (place play) reader.client l) link (led_here fixed play.history reader legal (led name reader there plain))
+
+    along : reader.altered ≡ false → IsGood (course fixed play.history reader.asker) m.at reader.client.kept (taken reader.client (without_targets m.line)).answer × IsLedAlong (course fixed play.history reader.asker) (place play) at session (m ∷ ms) reader.client
+    along plain = ((along_line under.laws (course fixed play.history reader.asker) (place play) at session m ms reader.client rows (waits plain)).0, waits plain)
 
 none_shows : (fixed : Fixed) (play : Play) (name : List ℕ) (reader : Reader) (at : ℕ) (session : SessionState) → play.readers name ≡ Some reader
-    → reader.link ≡ Streaming at session [] → AreLed fixed play → IsTook fixed play name (says effects.NoLine play)
-none_shows fixed play name reader at session there link led = record { history = refl; led = led; calm = tt; applies = by }
+    → reader.link ≡ Streaming at session [] → UnalteredAreLed fixed play → IsTook fixed play name reader (says effects.NoLine play)
+none_shows fixed play name reader at session there link led = record { history = refl; led = led; calm = λ plain. tt; applies = by }
   where
     by : Applies fixed play (Take name) (says effects.NoLine play)
-    by other old new own ours given waiting op is before linked now says_so = cc
+    by other old new own ours given waiting op is before plain linked now says_so = cc
 
 waiting_shows : (waiting : List Made) (fixed : Fixed) → Under fixed → (play : Play) (name : List ℕ) (reader : Reader) (at : ℕ) (session : SessionState) (outcome : Outcome)
-    → IsLegal fixed.rules play.history → play.readers name ≡ Some reader → reader.link ≡ Streaming at session waiting → AreLed fixed play
-    → TakesLine at session waiting name play reader outcome → IsTook fixed play name outcome
+    → IsLegal fixed.rules play.history → play.readers name ≡ Some reader → reader.link ≡ Streaming at session waiting → UnalteredAreLed fixed play
+    → TakesLine at session waiting name play reader outcome → IsTook fixed play name reader outcome
 waiting_shows [] fixed under play name reader at session outcome legal there link led takes =
-    subst (λ (o : Outcome). IsTook fixed play name o) (sym takes) (none_shows fixed play name reader at session there link led)
+    subst (λ (o : Outcome). IsTook fixed play name reader o) (sym takes) (none_shows fixed play name reader at session there link led)
 waiting_shows (m ∷ ms) fixed under play name reader at session outcome legal there link led takes =
-    subst (λ (o : Outcome). IsTook fixed play name o) (sym takes.2) (line_shows fixed under play name reader at session m ms takes.0 legal there link led takes.1)
+    subst (λ (o : Outcome). IsTook fixed play name reader o) (sym takes.2) (line_shows fixed under play name reader at session m ms takes.0 legal there link led takes.1)
 
 link_shows : (link : Link) (fixed : Fixed) → Under fixed → (play : Play) (name : List ℕ) (reader : Reader) (outcome : Outcome) → IsLegal fixed.rules play.history
-    → play.readers name ≡ Some reader → reader.link ≡ link → AreLed fixed play → TakesOn link name play reader outcome → IsTook fixed play name outcome
+    → play.readers name ≡ Some reader → reader.link ≡ link → UnalteredAreLed fixed play → TakesOn link name play reader outcome → IsTook fixed play name reader outcome
 link_shows Idle fixed under play name reader outcome legal there is led takes = absurd takes
 link_shows (Streaming at session waiting) fixed under play name reader outcome legal there is led takes =
     waiting_shows waiting fixed under play name reader at session outcome legal there is led takes
 
 pub take_stays_led : (fixed : Fixed) → Under fixed → (play : Play) (name : List ℕ) (reader : Reader) (outcome : Outcome) → IsLegal fixed.rules play.history
-    → IsLegal fixed.rules outcome.play.history → play.readers name ≡ Some reader → AreLed fixed play → TakesOn reader.link name play reader outcome
-    → AreLed fixed outcome.play × IsRight fixed play (Take name) outcome
+    → IsLegal fixed.rules outcome.play.history → play.readers name ≡ Some reader → UnalteredAreLed fixed play → TakesOn reader.link name play reader outcome
+    → UnalteredAreLed fixed outcome.play × IsRight fixed play (Take name) outcome
 take_stays_led fixed under play name reader outcome legal after there led takes =
     let it = link_shows reader.link fixed under play name reader outcome legal there refl led takes in
-    (it.led, says_right fixed under play (Take name) outcome after it.led it.calm it.applies (turns_not fixed play (Take name) other))
+    (it.led, says_right fixed under play (Take name) outcome after it.led (λ plain. it.calm (plain name reader refl there)) it.applies (turns_not fixed play (Take name) other))
   where
     other : (own : List ℕ) → Take name ≡ Turn own → ⊥
     other own is = cc

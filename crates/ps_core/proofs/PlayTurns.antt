@@ -1,14 +1,13 @@
 -- A session's turn: its line waits behind the others.
-use Rattle.std.proofs.Common.{◌≡◌, ℕ, ◌<◌, ◌≤◌, Bool, false, ◌&&◌, List, [], ◌∷◌, ◌++◌, length, Option, Some, None, refl, sym, ap, subst, inl, inr, arith}
+use Rattle.std.proofs.Common.{◌≡◌, ℕ, ◌≤◌, Bool, false, ◌&&◌, List, [], ◌∷◌, ◌++◌, length, Option, Some, None, refl, sym, ap, subst, inl, inr, arith}
 use Rattle.std.specs.Prelude.{nat_lt}
 use Rattle.std.proofs.lemmas.Bool.{cases_Bool}
 use Rattle.ps_data.specs.declared.ids.OpId.{OpId}
 use Rattle.ps_bucket_log.specs.declared.batches.Batch.{Batch}
 use Rattle.ps_lines.specs.declared.lines.Line.{Line}
-use Rattle.ps_lines.specs.Writing.{without_targets}
 use Rattle.ps_sql_eval.specs.declared.askers.Asker.{Asker}
 use Rattle.ps_sql_eval.specs.Evaluated.{asker_of}
-use Rattle.ps_client.specs.Clients.{PlainClient, taken}
+use Rattle.ps_client.specs.Clients.{PlainClient}
 use Rattle.ps_store.specs.declared.events.Event.{Event}
 use Rattle.ps_store.specs.declared.fixed.Fixed.{Fixed}
 use Rattle.ps_bucket_log.specs.declared.takes.Taken.{Taken}
@@ -19,19 +18,17 @@ use Rattle.ps_store.specs.Ledgers.{Ledger, IsLegal}
 use Rattle.ps_store.specs.Readings.{AreTold, take_of, batch_of, taken_names}
 use Rattle.ps_session.specs.declared.phases.Phase.{Phase}
 use Rattle.ps_session.specs.declared.phases.Phase.TheVariants.{Start, Download, Void, Done}
-use Rattle.ps_streams.specs.Headline.{Local}
 use Rattle.ps_streams.specs.Lives.{Link, Idle, Streaming}
 use Rattle.ps_streams.specs.Runs.{Made, IsToldIn, at_after, download, made_by, turn, turn_in}
 use Rattle.ps_session.specs.Sessions.{SessionState, Turned, behind, read, took_in}
-use Rattle.ps_streams.specs.Ties.{Leads, TiedIn}
-use Rattle.ps_script.specs.declared.events.ScriptEvent.{ScriptEvent}
+use Rattle.ps_streams.specs.Ties.{Leads}
 use Rattle.ps_script.specs.declared.events.ScriptEvent.TheVariants.{Turn, Take}
 use Rattle.ps_core.specs.Plays.{Play, Reader, Outcome, course, place}
-use Rattle.ps_core.specs.PlayHeadline.{AreTakenBy, IsLed, IsLedBy, IsLedAlong, AreLed, IsRight}
+use Rattle.ps_core.specs.PlayHeadline.{AreTakenBy, IsLed, IsLedBy, IsLedAlong, UnalteredAreLed, IsRight}
 use Rattle.ps_core.specs.ReaderEvents.{cut, passed_in, takes_in, turn_effect, turn_outcome, turned}
 use Rattle.ps_core.specs.PlaySteps.{TurnsOn}
 use Rattle.ps_core.proofs.Grounds.{Laws, Under, lawful_in}
-use Rattle.ps_core.proofs.Leading.{honest_by, led_here, with_led}
+use Rattle.ps_core.proofs.Leading.{honest_by, with_led}
 use Rattle.ps_core.proofs.Saying.{IsCalm, Retakes, says_right, takes_not}
 
 -- ---- what comes later changes nothing of it
@@ -107,27 +104,6 @@ pub cut_led : (fixed : Fixed) → Under fixed → (history : List Event) (reader
 cut_led fixed under history reader led more legal =
     honest_by under.laws (course fixed (history ++ more) reader.asker) (lawful_in fixed under (history ++ more) reader.asker legal) (length history) reader.client reader.link (led more legal)
 
--- ---- a checkpoint that was given up
-
-abbrev own_local : PlainClient → Local
-own_local client = record { queue = client.kept.queue; target = client.kept.target; shown = client.kept.shown }
-
-void_more : (waiting : List Made) (c : Course) (at n : ℕ) (session : SessionState) (client : PlainClient) → session.phase ≡ Void → Leads c at n session client waiting
-    → session.last.last_op.0 < c.op n
-void_more [] c at n session client phase leads =
-    (subst (λ (p : Phase). TiedIn p c at n session client.kept.bucket client.stream) phase leads.phase).more
-void_more (m ∷ ms) c at n session client phase leads =
-    void_more ms c at n session (taken client (without_targets m.line)).client phase (leads.2 (own_local client)).1
-
-pub retakes_led : (fixed : Fixed) → Under fixed → (play : Play) (event : ScriptEvent) → IsLegal fixed.rules play.history → AreLed fixed play → Retakes fixed play event
-retakes_led fixed under play event legal led name reader at session waiting is there link phase =
-    let c = course fixed play.history reader.asker in
-    let here : IsLedBy c (place play) reader.client (Streaming at session waiting) =
-    subst (λ (l : Link). IsLedBy c (place play) reader.client l) link (led_here fixed play.history reader legal (led name reader there)) in
-    let more : session.last.last_op.0 < c.op (place play) = void_more waiting c at (place play) session reader.client phase here.leads in
-    let op_is : (c.take (place play)).last_op.0 ≡ c.op (place play) = (lawful_in fixed under play.history reader.asker legal).takes.op (place play) in
-    subst (λ (op : ℕ). session.last.last_op.0 < op) (sym op_is) more
-
 -- ---- the event
 
 told_in : (phase : Phase) (many : Bool) (c : Course) (n : ℕ) → (takes_in phase && many) ≡ false → (many ≡ false → IsToldIn phase c n) → IsToldIn phase c n
@@ -143,25 +119,25 @@ turn_calm None None = tt
 
 record IsTurned (fixed : Fixed) (play : Play) (outcome : Outcome) : Type 0 where
   history : outcome.play.history ≡ play.history
-  led : AreLed fixed outcome.play
+  led : UnalteredAreLed fixed outcome.play
   calm : IsCalm outcome.effect
 
 outcome_turned : (fixed : Fixed) → Under fixed → (play : Play) (name : List ℕ) (reader : Reader) (at : ℕ) (session : SessionState) (waiting : List Made) (many : Bool)
     → ((takes_in session.phase && many) ≡ false → IsToldIn session.phase (course fixed play.history reader.asker) (place play))
-    → reader.link ≡ Streaming at session waiting → IsLed fixed play.history reader → AreLed fixed play
+    → reader.link ≡ Streaming at session waiting → (reader.altered ≡ false → IsLed fixed play.history reader) → UnalteredAreLed fixed play
     → IsTurned fixed play (turn_outcome (takes_in session.phase && many) at (course fixed play.history reader.asker) (place play) session waiting name reader play)
 outcome_turned fixed under play name reader at session waiting many told link here led = elim (cases_Bool (takes_in session.phase && many)) [
-  | inl full ↦ rw full (record { history = refl; led = with_led fixed name (cut reader) play (cut_led fixed under play.history reader here) led; calm = tt })
+  | inl full ↦ rw full (record { history = refl; led = with_led fixed name (cut reader) play (λ plain. cut_led fixed under play.history reader (here plain)) led; calm = tt })
   | inr few ↦ rw few (record {
     history = refl;
     led = with_led fixed name (record reader { link = turned (course fixed play.history reader.asker) (place play) at session waiting }) play
-        (turned_led fixed under play reader at session waiting (told few) link here) led;
+        (λ plain. turned_led fixed under play reader at session waiting (told few) link (here plain)) led;
     calm = turn_calm (turn (course fixed play.history reader.asker) (place play) session).line (passed_in session.phase (course fixed play.history reader.asker) (place play) session);
   })
 ]
 
 turns_along : (fixed : Fixed) → Under fixed → (link : Link) (name : List ℕ) (play : Play) (reader : Reader) (outcome : Outcome) → reader.link ≡ link
-    → IsLed fixed play.history reader → AreLed fixed play → TurnsOn fixed link name play reader outcome → IsTurned fixed play outcome
+    → (reader.altered ≡ false → IsLed fixed play.history reader) → UnalteredAreLed fixed play → TurnsOn fixed link name play reader outcome → IsTurned fixed play outcome
 turns_along fixed under Idle name play reader outcome is here led turns = absurd turns
 turns_along fixed under (Streaming at session waiting) name play reader outcome is here led turns =
     let c = course fixed play.history reader.asker in
@@ -170,12 +146,12 @@ turns_along fixed under (Streaming at session waiting) name play reader outcome 
     (outcome_turned fixed under play name reader at session waiting many (λ (few : (takes_in session.phase && many) ≡ false). told_in session.phase many c (place play) few turns.told) is here led)
 
 pub turn_stays_led : (fixed : Fixed) → Under fixed → (play : Play) (name : List ℕ) (reader : Reader) (outcome : Outcome) → IsLegal fixed.rules play.history
-    → IsLegal fixed.rules outcome.play.history → play.readers name ≡ Some reader → AreLed fixed play → TurnsOn fixed reader.link name play reader outcome
-    → AreLed fixed outcome.play × IsRight fixed play (Turn name) outcome
-turn_stays_led fixed under play name reader outcome legal after there led turns =
+    → IsLegal fixed.rules outcome.play.history → play.readers name ≡ Some reader → Retakes fixed play (Turn name) → UnalteredAreLed fixed play → TurnsOn fixed reader.link name play reader outcome
+    → UnalteredAreLed fixed outcome.play × IsRight fixed play (Turn name) outcome
+turn_stays_led fixed under play name reader outcome legal after there retakes led turns =
     let it = turns_along fixed under reader.link name play reader outcome refl (led name reader there) led turns in (
       it.led,
-      says_right fixed under play (Turn name) outcome after it.led it.calm (takes_not fixed play (Turn name) outcome other) (retakes_led fixed under play (Turn name) legal led),
+      says_right fixed under play (Turn name) outcome after it.led (λ plain. it.calm) (takes_not fixed play (Turn name) outcome other) retakes,
     )
   where
     other : (own : List ℕ) → Turn name ≡ Take own → ⊥

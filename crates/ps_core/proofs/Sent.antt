@@ -1,17 +1,13 @@
 -- The turns of a script's stream, and the lines that wait behind them.
-use Rattle.std.specs.Prelude.{Vec, Ok, Err}
-use Rattle.std.specs.declared.alloc.Global.{Global}
-use Rattle.std.proofs.Common.{◌≡◌, ◌∷◌, ℕ, ◌≤◌, ◌&&◌, Bool, true, false, Option, Some, None, List, [], ◌++◌, refl, sym, ap, subst, ◌∙◌, arith, length, inl, inr}
+use Rattle.std.specs.Prelude.{Ok, Err}
+use Rattle.std.proofs.Common.{◌≡◌, ◌∷◌, ℕ, ◌≤◌, ◌&&◌, true, false, Option, Some, None, List, [], ◌++◌, refl, sym, ap, subst, ◌∙◌, arith, length, inl, inr}
 use Rattle.std.specs.Prelude.{nat_lt}
 use Rattle.std.proofs.lemmas.Bool.{and_left, and_right, cases_Bool, le-ltb}
 use Rattle.std.proofs.lemmas.List.{length-map}
 use Rattle.ps_data.specs.declared.ids.OpId.{OpId}
 use Rattle.ps_lines.specs.declared.lines.Line.{Line}
-use Rattle.ps_lines.specs.Reading.{line_of}
-use Rattle.ps_lines.specs.Writing.{without_targets}
 use Rattle.ps_sql_eval.specs.declared.askers.Asker.{Asker}
 use Rattle.ps_sql_eval.specs.Evaluated.{asker_of}
-use Rattle.ps_bucket_log.specs.declared.takes.Taken.{Taken}
 use Rattle.ps_store.specs.declared.fixed.Fixed.{Fixed}
 use Rattle.ps_store.specs.declared.readings.TakeFault.{TakeFault}
 use Rattle.ps_store.specs.declared.readings.TakeFault.TheVariants.{TooManyBuckets, Memory}
@@ -22,38 +18,37 @@ use Rattle.ps_store.specs.Ledgers.{Ledger, ledger_of}
 use Rattle.ps_store.specs.Readings.{bucket_upto, names_of, take_of}
 use Rattle.ps_session.specs.Kept.{state_of}
 use Rattle.ps_session.specs.Sessions.{SessionState}
-use Rattle.ps_session.specs.Sessions as sessions
 use Rattle.ps_streams.specs.declared.outcomes.TurnOutcome.{TurnOutcome}
-use Rattle.ps_streams.specs.declared.outcomes.TurnOutcome.TheVariants as outcomes
 use Rattle.ps_streams.specs.Runs.{Made, at_after, made_by, turn}
 use Rattle.ps_streams.specs.Ties.{HasTaken}
-use Rattle.ps_streams.specs.Turning.{IsTurn, IsUnderWay, TurnsSo, line_in, outcome_of, passed_in, takes_in}
+use Rattle.ps_streams.specs.Turning.{IsUnderWay, TurnsSo, line_in, outcome_of, passed_in, takes_in}
 use Rattle.ps_core.specs.declared.effects.Effect.{Effect}
+use Rattle.ps_core.specs.declared.readers.Sent.{Sent}
 use Rattle.ps_core.specs.declared.readers.Stream.{Stream}
 use Rattle.ps_core.specs.Plays.{Play, course, place}
 use Rattle.ps_core.specs.ReaderEvents.{turn_effect}
 use Rattle.ps_core.specs.Texts.{IsPrintable}
 use Rattle.ps_core.specs.Streams.{IsStream, Turned, Turns, effect_of}
-use Rattle.ps_core.specs.Worlds.{AreWaiting, bytes_of}
+use Rattle.ps_core.specs.Worlds.{AreWaiting, IsSentFor}
 
 -- one more line waits
-pub waits_more : (lines : List (Vec ℕ Global)) (bytes : Vec ℕ Global) (made : List Made) (at : ℕ) (line : Line) → AreWaiting (bytes_of lines) made → line_of bytes.items ≡ Ok (without_targets line)
-    → AreWaiting (bytes_of (lines ++ bytes ∷ [])) (made ++ (record { at = at; line = line }) ∷ [])
-waits_more [] bytes [] at line are read = (read, tt)
-waits_more [] bytes (m ∷ ms) at line are read = absurd are
-waits_more (l ∷ ls) bytes [] at line are read = absurd are
-waits_more (l ∷ ls) bytes (m ∷ ms) at line are read = (are.0, waits_more ls bytes ms at line are.1 read)
+pub waits_more : (lines : List Sent) (sent : Sent) (made : List Made) (at : ℕ) (line : Line) → AreWaiting lines made → IsSentFor sent line
+    → AreWaiting (lines ++ sent ∷ []) (made ++ (record { at = at; line = line }) ∷ [])
+waits_more [] sent [] at line are here = (here, tt)
+waits_more [] sent (m ∷ ms) at line are here = absurd are
+waits_more (l ∷ ls) sent [] at line are here = absurd are
+waits_more (l ∷ ls) sent (m ∷ ms) at line are here = (are.0, waits_more ls sent ms at line are.1 here)
 
-pub waits_in : (lines new : List (Vec ℕ Global)) (bytes : Vec ℕ Global) (made : List Made) (at : ℕ) (line : Line) → new ≡ lines ++ bytes ∷ [] → AreWaiting (bytes_of lines) made
-    → line_of bytes.items ≡ Ok (without_targets line) → AreWaiting (bytes_of new) (made ++ made_by at (Some line) None [])
-waits_in lines new bytes made at line is are read =
-    subst (λ (ls : List (Vec ℕ Global)). AreWaiting (bytes_of ls) (made ++ made_by at (Some line) None [])) (sym is) (waits_more lines bytes made at line are read)
+pub waits_in : (lines new : List Sent) (sent : Sent) (made : List Made) (at : ℕ) (line : Line) → new ≡ lines ++ sent ∷ [] → AreWaiting lines made
+    → IsSentFor sent line → AreWaiting new (made ++ made_by at (Some line) None [])
+waits_in lines new sent made at line is are here =
+    subst (λ (ls : List Sent). AreWaiting ls (made ++ made_by at (Some line) None [])) (sym is) (waits_more lines sent made at line are here)
 
 -- how what a turn made is sent
 pub record IsSent (old new : Stream) (outcome : TurnOutcome) (effect : Effect) : Type 0 where
   pub effect_is : effect_of outcome ≡ effect
   pub printable : IsPrintable effect
-  pub waiting : (at : ℕ) (made : List Made) → AreWaiting (bytes_of old.waiting.items) made → AreWaiting (bytes_of new.waiting.items) (made ++ made_by at (line_in outcome) None [])
+  pub waiting : (at : ℕ) (made : List Made) → AreWaiting old.waiting.items made → AreWaiting new.waiting.items (made ++ made_by at (line_in outcome) None [])
   pub asker : new.session.asker ≡ old.session.asker
 
 effect_so : (line : Option Line) (passed : Option OpId) → turn_effect line passed ≡ effect_of (outcome_of line passed)
@@ -116,7 +111,7 @@ module _ (fixed : Fixed) (play : Play) (store : Store) (asker : Asker) (old : St
           asker_is = sent.asker ∙ it.stands.asker_is;
           taken = subst (λ (s : SessionState). HasTaken c (at_after session.phase at n) s) own.session_is own.under_way.taken;
           late = own.under_way.late;
-          waiting_are = subst (λ (l : Option Line). AreWaiting (bytes_of new.waiting.items) (waiting ++ made_by (at_after session.phase at n) l None [])) own.line_is
+          waiting_are = subst (λ (l : Option Line). AreWaiting new.waiting.items (waiting ++ made_by (at_after session.phase at n) l None [])) own.line_is
               (sent.waiting (at_after session.phase at n) waiting it.stands.waiting_are);
         };
       }

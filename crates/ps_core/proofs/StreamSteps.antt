@@ -1,6 +1,4 @@
 -- What a client's stream does.
-use Rattle.std.specs.Prelude.{Vec}
-use Rattle.std.specs.declared.alloc.Global.{Global}
 use Rattle.std.proofs.Common.{◌≡◌, ℕ, ◌&&◌, Bool, true, false, Option, Some, None, List, [], refl, sym, ap, subst, ◌∙◌, arith, length}
 use Rattle.std.specs.Prelude.{nat_lt}
 use Rattle.std.proofs.lemmas.Bool.{cond-true, cond-false, lt-ltb, true≢false}
@@ -25,10 +23,11 @@ use Rattle.ps_core.specs.Plays as plays
 use Rattle.ps_core.specs.ReaderEvents.{Turns, becomes, cut, opened, passed_in, takes_in, turn_effect, turned}
 use Rattle.ps_core.specs.PlaySteps.{TurnsOn, idle, unknown, unknown_or_idle}
 use Rattle.ps_core.specs.declared.readers.Reader.{Reader}
+use Rattle.ps_core.specs.declared.readers.Sent.{Sent}
 use Rattle.ps_core.specs.declared.readers.Stream.{Stream}
 use Rattle.ps_core.specs.Parts.{CameTo, IsAt}
 use Rattle.ps_core.specs.Streams.{IsStream, IsTooMuch, Turned}
-use Rattle.ps_core.specs.Worlds.{AreWaiting, LinkStandsFor, ReaderStandsFor, StreamStandsFor, bytes_of}
+use Rattle.ps_core.specs.Worlds.{AreWaiting, LinkStandsFor, ReaderStandsFor, StreamStandsFor}
 use Rattle.ps_core.proofs.Visited.{HasLink, became, idle_so, streams_so}
 
 -- the client is known
@@ -47,8 +46,8 @@ pub record HasOpened (old new : Reader) (stream : Stream) (body : StreamBody) (o
   pub session_asker : stream.session.asker ≡ old.asker
   pub none_waits : stream.waiting.items ≡ []
 
-none_waits : (lines : List (Vec ℕ Global)) → lines ≡ [] → AreWaiting (bytes_of lines) []
-none_waits lines is = subst (λ (ls : List (Vec ℕ Global)). AreWaiting (bytes_of ls) []) (sym is) tt
+none_waits : (lines : List Sent) → lines ≡ [] → AreWaiting lines []
+none_waits lines is = subst (λ (ls : List Sent). AreWaiting ls []) (sym is) tt
 
 pub opened_so : RequestsAskOn → BeginsUntaken → (fixed : Fixed) (play : Play) (name own said : List ℕ) (store : Store) (old new : Reader) (stream : Stream) (body : StreamBody)
     → IsAt fixed play name store old → said ≡ name → HasOpened old new stream body own → CameTo fixed play (scripts.Open name) name store new (effects.Opened said)

@@ -21,12 +21,12 @@ use Rattle.ps_core.specs.declared.effects.Effect.TheVariants as effects
 use Rattle.ps_core.specs.Plays.{Play, Outcome, first_reader}
 use Rattle.ps_core.specs.Plays as plays
 use Rattle.ps_core.specs.ReaderEvents.{becomes}
-use Rattle.ps_core.specs.PlaySteps.{refusal, uncounted, unknown, unknown_or_idle, unknown_or_nameless}
+use Rattle.ps_core.specs.PlaySteps.{refusal, uncounted, unknown, unknown_or_dataless, unknown_or_idle, unknown_or_nameless}
 use Rattle.ps_core.specs.StoreEvents.{feeds}
 use Rattle.ps_core.specs.PlayHeadline.{PlaysStayLed}
 use Rattle.ps_core.specs.declared.readers.Reader.{Reader}
 use Rattle.ps_core.specs.declared.visits.Visit.{Visit}
-use Rattle.ps_core.specs.declared.visits.Visit.TheVariants.{Open, Turn, Take, Cut, Local, Upload, Number, Rows}
+use Rattle.ps_core.specs.declared.visits.Visit.TheVariants.{Open, Turn, Take, Cut, Alter, Local, Upload, Number, Rows}
 use Rattle.ps_core.specs.declared.worlds.World.{World}
 use Rattle.ps_core.specs.Feeding.{FeedsAll, IsLeft}
 use Rattle.ps_core.specs.Parts.{Acts, Came, CameStill, HasTable, IsAt, Serves, event_of}
@@ -148,6 +148,7 @@ unknown_visit play name Open table none = ap unknown none
 unknown_visit play name Turn table none = ap unknown_or_idle none
 unknown_visit play name Take table none = ap unknown_or_idle none
 unknown_visit play name Cut table none = ap unknown_or_idle none
+unknown_visit play name Alter table none = ap unknown_or_dataless none
 unknown_visit play name (Local change) table none = tabled change.now.table (play.readers name) table ∙ ap unknown none
 unknown_visit play name Upload table none = ap unknown none
 unknown_visit play name Number table none = ap unknown_or_nameless none

@@ -2,10 +2,11 @@ pub mod Types
 pub mod Texts
 pub mod Plays
 pub mod StoreEvents
+pub mod Altering
 pub mod ReaderEvents
 pub mod PlaySteps
-pub mod PlayHeadline
 pub mod PlayRuns
+pub mod PlayHeadline
 pub mod Scripts
 pub mod Worlds
 pub mod Readers

@@ -1,5 +1,5 @@
 -- What the parts of a world do: to its store, and to one of its clients.
-use Rattle.std.specs.Prelude.{◌≡◌, ◌≢◌, ℕ, ◌++◌, false, List, [], Some, None, Result, Ok, Err, bytes_eq}
+use Rattle.std.specs.Prelude.{◌≡◌, ◌≢◌, ℕ, ◌++◌, true, false, List, [], Some, None, Result, Ok, Err, bytes_eq}
 use Rattle.ps_data.specs.declared.shortage.Memory as values
 use Rattle.ps_rows.specs.declared.changes.Transaction.{Transaction}
 use Rattle.ps_client.specs.declared.faults.ClientFault.{ClientFault}
@@ -19,10 +19,13 @@ use Rattle.ps_core.specs.Plays as plays
 use Rattle.ps_core.specs.PlaySteps.{Comes, refusal}
 use Rattle.ps_core.specs.declared.readers.Reader.{Reader}
 use Rattle.ps_core.specs.declared.visits.Visit.{Visit}
-use Rattle.ps_core.specs.declared.visits.Visit.TheVariants.{Open, Turn, Take, Cut, Local, Upload, Number, Rows}
+use Rattle.ps_core.specs.declared.visits.Visit.TheVariants.{Open, Turn, Take, Cut, Alter, Local, Upload, Number, Rows}
 use Rattle.ps_core.specs.Texts.{IsPrintable}
 use Rattle.ps_core.specs.Scripts.{AreLow}
-use Rattle.ps_core.specs.Worlds.{ReaderStandsFor}
+use Rattle.ps_core.specs.Altering.{altered_oldest, has_data}
+use Rattle.ps_core.specs.declared.readers.Sent.{Sent}
+use Rattle.ps_core.specs.Worlds.{AreWaiting, ReaderStandsFor}
+use Rattle.ps_streams.specs.Runs.{Made}
 
 -- the store stands for the play's history, under valid rules
 abbrev pub Serves : Fixed → Store → Play → Type 0
@@ -62,6 +65,7 @@ event_of name Open = events.Open name
 event_of name Turn = events.Turn name
 event_of name Take = events.Take name
 event_of name Cut = events.Cut name
+event_of name Alter = events.Alter name
 event_of name (Local change) = events.Local name change.now
 event_of name Upload = events.Upload name
 event_of name Number = events.Number name
@@ -73,6 +77,7 @@ HasTable Open = Unit {0}
 HasTable Turn = Unit {0}
 HasTable Take = Unit {0}
 HasTable Cut = Unit {0}
+HasTable Alter = Unit {0}
 HasTable (Local change) = change.now.table ≢ []
 HasTable Upload = Unit {0}
 HasTable Number = Unit {0}
@@ -115,3 +120,11 @@ IsWant faults.KeeperFault = ⊥
 IsWant faults.QueueEmpty = ⊥
 IsWant (faults.QueueWaiting length) = ⊥
 IsWant faults.Memory = Unit {0}
+
+-- what becomes of lines that wait where the oldest of data is altered; memory is wanting only where there is one
+abbrev pub Alters : List Made → List Sent → List Sent → Result Unit ScriptFault → Type 0
+Alters made old new (Ok done) = (has_data made ≡ true) × AreWaiting new (altered_oldest made)
+Alters made old new (Err BadEvent) = ⊥
+Alters made old new (Err UnknownClient) = ⊥
+Alters made old new (Err WrongPhase) = (has_data made ≡ false) × (new ≡ old)
+Alters made old new (Err Memory) = has_data made ≡ true

@@ -1,5 +1,5 @@
--- What every play keeps: no client is led wrong.
-use Rattle.std.specs.Prelude.{◌≡◌, ◌≢◌, ℕ, ◌<◌, ◌≤◌, List, [], ◌∷◌, length, ◌++◌, Some}
+-- What every play keeps: no client is led wrong, but for those of which a stream was altered.
+use Rattle.std.specs.Prelude.{◌≡◌, ◌≢◌, ℕ, ◌<◌, ◌≤◌, List, [], ◌∷◌, length, ◌++◌, Some, false}
 use Rattle.ps_data.specs.declared.ids.OpId.{OpId}
 use Rattle.ps_definitions.specs.RuleSets.{AreRules}
 use Rattle.ps_rows.specs.declared.changes.Transaction.{Transaction}
@@ -21,6 +21,7 @@ use Rattle.ps_script.specs.declared.events.ScriptEvent.{ScriptEvent}
 use Rattle.ps_script.specs.declared.events.ScriptEvent.TheVariants.{Turn, Take}
 use Rattle.ps_core.specs.declared.effects.Effect.TheVariants as effects
 use Rattle.ps_core.specs.Plays.{Play, Reader, Outcome, course, first_play, place}
+use Rattle.ps_core.specs.PlayRuns.{AreRuns}
 use Rattle.ps_core.specs.PlaySteps.{Comes}
 
 -- ---- clients that are led right
@@ -46,8 +47,14 @@ abbrev pub IsLed : Fixed → List Event → Reader → Type 0
 IsLed fixed history reader = (more : List Event) → IsLegal fixed.rules (history ++ more)
     → IsLedBy (course fixed (history ++ more) reader.asker) (length history) reader.client reader.link
 
-abbrev pub AreLed : Fixed → Play → Type 0
-AreLed fixed play = (name : List ℕ) (reader : Reader) → play.readers name ≡ Some reader → IsLed fixed play.history reader
+-- each client none of whose streams was altered
+abbrev pub UnalteredAreLed : Fixed → Play → Type 0
+UnalteredAreLed fixed play = (name : List ℕ) (reader : Reader) → play.readers name ≡ Some reader → reader.altered ≡ false → IsLed fixed play.history reader
+
+-- and the session of each stream is where a run leads, altered or not
+pub record AreLed (fixed : Fixed) (play : Play) : Type 0 where
+  pub led : UnalteredAreLed fixed play
+  pub runs : AreRuns fixed play
 
 -- ---- what is then said
 
@@ -56,19 +63,23 @@ AreLed fixed play = (name : List ℕ) (reader : Reader) → play.readers name �
 abbrev pub ShowsDue : Fixed → Play → Made → OpId → Reader → Reader → Type 0
 ShowsDue fixed play m op old new = (m.at ≤ place play) × IsShown (course fixed play.history old.asker) m.at op old.client new.client
 
+-- no client takes a line of which a stream was altered
+abbrev pub TakesUnaltered : Play → ScriptEvent → Type 0
+TakesUnaltered play event = (name : List ℕ) (reader : Reader) → event ≡ Take name → play.readers name ≡ Some reader → reader.altered ≡ false
+
 pub record IsRight (fixed : Fixed) (play : Play) (event : ScriptEvent) (outcome : Outcome) : Type 0 where
-  -- every client is honest
-  pub honest : (name : List ℕ) (reader : Reader) → outcome.play.readers name ≡ Some reader
+  -- every client none of whose streams was altered is honest
+  pub honest : (name : List ℕ) (reader : Reader) → outcome.play.readers name ≡ Some reader → reader.altered ≡ false
       → AreHonest (course fixed outcome.play.history reader.asker) (place outcome.play) reader.client.kept.bucket
-  -- where one applies a checkpoint, it shows what is due
+  -- where such a one applies a checkpoint, it shows what is due
   pub applied : (name : List ℕ) (old new : Reader) (at : ℕ) (session : SessionState) (m : Made) (waiting : List Made) (op : OpId)
-      → event ≡ Take name → play.readers name ≡ Some old → old.link ≡ Streaming at session (m ∷ waiting)
+      → event ≡ Take name → play.readers name ≡ Some old → old.altered ≡ false → old.link ≡ Streaming at session (m ∷ waiting)
       → outcome.play.readers name ≡ Some new → outcome.effect ≡ effects.Applied op → ShowsDue fixed play m op old new
-  -- none refuses a checksum, or a line
-  pub agrees : (buckets : List Differing) → outcome.effect ≢ effects.Refused buckets
-  pub in_order : outcome.effect ≢ effects.OutOfOrder
-  pub reads : outcome.effect ≢ effects.BadLine
-  -- a session that gave its checkpoint up takes a greater op next
+  -- none of them refuses a checksum, or a line
+  pub agrees : TakesUnaltered play event → (buckets : List Differing) → outcome.effect ≢ effects.Refused buckets
+  pub in_order : TakesUnaltered play event → outcome.effect ≢ effects.OutOfOrder
+  pub reads : TakesUnaltered play event → outcome.effect ≢ effects.BadLine
+  -- a session, of an altered stream too, that gave its checkpoint up takes a greater op next
   pub retakes : (name : List ℕ) (reader : Reader) (at : ℕ) (session : SessionState) (waiting : List Made) → event ≡ Turn name → play.readers name ≡ Some reader
       → reader.link ≡ Streaming at session waiting → session.phase ≡ Void
       → session.last.last_op.0 < ((course fixed play.history reader.asker).take (place play)).last_op.0

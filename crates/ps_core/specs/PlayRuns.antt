@@ -1,7 +1,6 @@
 -- The streams of scripts are runs of their sessions.
 use Rattle.std.specs.Prelude.{◌≡◌, ℕ, List, Some}
 use Rattle.ps_rows.specs.declared.changes.Transaction.{Transaction}
-use Rattle.ps_store.specs.declared.events.Event.{Event}
 use Rattle.ps_store.specs.declared.fixed.Fixed.{Fixed}
 use Rattle.ps_store.specs.Courses.{Course}
 use Rattle.ps_streams.specs.Lives.{Link, Idle, Streaming}

@@ -3,13 +3,14 @@ use Rattle.std.specs.Prelude.{◌≡◌, ℕ, ◌&&◌, if◌then◌else◌, Lis
 use Rattle.ps_store.specs.declared.fixed.Fixed.{Fixed}
 use Rattle.ps_streams.specs.Lives.{Link, Idle, Streaming}
 use Rattle.ps_script.specs.declared.events.ScriptEvent.{ScriptEvent}
-use Rattle.ps_script.specs.declared.events.ScriptEvent.TheVariants.{Feed, Close, Write, Commit, Compact, Client, Open, Turn, Take, Cut, Local, Upload, Number, Rows, Totals}
+use Rattle.ps_script.specs.declared.events.ScriptEvent.TheVariants.{Feed, Close, Write, Commit, Compact, Client, Open, Turn, Take, Cut, Alter, Local, Upload, Number, Rows, Totals}
 use Rattle.ps_script.specs.declared.faults.ScriptFault.{ScriptFault}
 use Rattle.ps_script.specs.declared.faults.ScriptFault.TheVariants.{BadEvent, UnknownClient, WrongPhase}
 use Rattle.ps_core.specs.declared.effects.Effect.TheVariants as effects
+use Rattle.ps_core.specs.Altering.{has_data}
 use Rattle.ps_core.specs.Plays.{Play, Reader, Outcome, first_reader, ledger}
 use Rattle.ps_core.specs.StoreEvents.{feeds, closes, writes, commits, compacts, tells_totals}
-use Rattle.ps_core.specs.ReaderEvents.{Opens, Turns, TakesLine, TellsRows, becomes, cut, numbers_for, uploads, writes_locally}
+use Rattle.ps_core.specs.ReaderEvents.{Opens, Turns, TakesLine, TellsRows, altered_in, becomes, cut, numbers_for, uploads, writes_locally}
 
 -- ---- refusals
 
@@ -26,6 +27,15 @@ idle (Streaming at session waiting) = None
 abbrev pub unknown_or_idle : Option Reader → Option ScriptFault
 unknown_or_idle None = Some UnknownClient
 unknown_or_idle (Some reader) = idle reader.link
+
+-- and have a line of data that waits
+abbrev pub dataless : Link → Option ScriptFault
+dataless Idle = Some WrongPhase
+dataless (Streaming at session waiting) = if has_data waiting then None else Some WrongPhase
+
+abbrev pub unknown_or_dataless : Option Reader → Option ScriptFault
+unknown_or_dataless None = Some UnknownClient
+unknown_or_dataless (Some reader) = dataless reader.link
 
 -- and have an id of its own
 abbrev pub nameless : Option (List ℕ) → Option ScriptFault
@@ -57,6 +67,7 @@ refusal play (Open name) = unknown (play.readers name)
 refusal play (Turn name) = unknown_or_idle (play.readers name)
 refusal play (Take name) = unknown_or_idle (play.readers name)
 refusal play (Cut name) = unknown_or_idle (play.readers name)
+refusal play (Alter name) = unknown_or_dataless (play.readers name)
 refusal play (Local name change) = untabled change.table (play.readers name)
 refusal play (Upload name) = unknown (play.readers name)
 refusal play (Number name) = unknown_or_nameless (play.readers name)
@@ -78,6 +89,10 @@ abbrev pub TakesOn : Link → List ℕ → Play → Reader → Outcome → Type 
 TakesOn Idle name play reader outcome = ⊥
 TakesOn (Streaming at session waiting) name play reader outcome = TakesLine at session waiting name play reader outcome
 
+abbrev pub AltersOn : Link → List ℕ → Play → Reader → Outcome → Type 0
+AltersOn Idle name play reader outcome = ⊥
+AltersOn (Streaming at session waiting) name play reader outcome = outcome ≡ becomes effects.Altered name (altered_in at session waiting reader) play
+
 abbrev pub NumbersAs : Fixed → Option (List ℕ) → List ℕ → Play → Reader → Outcome → Type 0
 NumbersAs fixed None name play reader outcome = ⊥
 NumbersAs fixed (Some client) name play reader outcome = outcome ≡ numbers_for client fixed.limits (ledger fixed play) name play reader
@@ -93,6 +108,7 @@ Gives fixed play (Open name) outcome = OfReader name play (λ reader. Opens name
 Gives fixed play (Turn name) outcome = OfReader name play (λ reader. TurnsOn fixed reader.link name play reader outcome)
 Gives fixed play (Take name) outcome = OfReader name play (λ reader. TakesOn reader.link name play reader outcome)
 Gives fixed play (Cut name) outcome = OfReader name play (λ reader. outcome ≡ becomes (effects.Cut name) name (cut reader) play)
+Gives fixed play (Alter name) outcome = OfReader name play (λ reader. AltersOn reader.link name play reader outcome)
 Gives fixed play (Local name change) outcome = OfReader name play (λ reader. outcome ≡ writes_locally name change play reader)
 Gives fixed play (Upload name) outcome = OfReader name play (λ reader. outcome ≡ uploads fixed name play reader)
 Gives fixed play (Number name) outcome = OfReader name play (λ reader. NumbersAs fixed reader.asker.client name play reader outcome)

@@ -1,5 +1,5 @@
 -- The play of a script: one history of a store, and the clients of the script, each with its stream.
-use Rattle.std.specs.Prelude.{ℕ, if◌then◌else◌, List, [], ◌∷◌, ◌++◌, length, Option, Some, None, bytes_eq}
+use Rattle.std.specs.Prelude.{ℕ, Bool, false, if◌then◌else◌, List, [], ◌∷◌, ◌++◌, length, Option, Some, None, bytes_eq}
 use Rattle.ps_rows.specs.declared.changes.Transaction.{Transaction}
 use Rattle.ps_client.specs.declared.streams.Stream.TheVariants.{Over}
 use Rattle.ps_client.specs.Clients.{PlainClient}
@@ -13,11 +13,13 @@ use Rattle.ps_store.specs.Ledgers.{Ledger, ledger_of}
 use Rattle.ps_streams.specs.Lives.{Link, Idle}
 use Rattle.ps_core.specs.declared.effects.Effect.{Effect}
 
--- a client of the script: who it is, what it is, and its stream: the session, and the lines that were made and are not taken yet
+-- a client of the script: who it is, what it is, its stream (the session, and the lines that were made and are not taken yet), and
+-- whether one of its streams was ever altered
 pub record Reader : Type 0 where
   pub asker : Asker
   pub client : PlainClient
   pub link : Link
+  pub altered : Bool
 
 pub record Play : Type 0 where
   -- what the store was made to do
@@ -38,7 +40,7 @@ first_play transactions = record { history = []; left = transactions; readers = 
 
 -- a client that begins holds nothing, and has no stream
 abbrev pub first_reader : Asker → Reader
-first_reader asker = record { asker = asker; client = record { kept = nothing_kept; stream = Over }; link = Idle }
+first_reader asker = record { asker = asker; client = record { kept = nothing_kept; stream = Over }; link = Idle; altered = false }
 
 -- what is known of the history
 abbrev pub ledger : Fixed → Play → Ledger

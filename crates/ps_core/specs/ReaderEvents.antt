@@ -27,6 +27,7 @@ use Rattle.ps_session.specs.Sessions.{SessionState, begin}
 pub use Rattle.ps_streams.specs.Turning.{passed_in, takes_in}
 use Rattle.ps_core.specs.declared.effects.Effect.{Effect}
 use Rattle.ps_core.specs.declared.effects.Effect.TheVariants as effects
+use Rattle.ps_core.specs.Altering.{altered_oldest}
 use Rattle.ps_core.specs.Plays.{Play, Reader, Outcome, course, happens, ledger, place, says, with_reader}
 
 -- the effect, and the client is then this one
@@ -128,6 +129,10 @@ TakesLine at session [] name play reader outcome = outcome ≡ says effects.NoLi
 TakesLine at session (m ∷ ms) name play reader outcome =
     (rows : Rows) × ShowsAfter (taken reader.client (without_targets m.line)).answer reader.client.kept rows
     × (outcome ≡ took_outcome (taken reader.client (without_targets m.line)) rows (Streaming at session ms) name reader play)
+
+-- the oldest line of data that waits is altered, and the client counts as altered for good
+abbrev pub altered_in : ℕ → SessionState → List Made → Reader → Reader
+altered_in at session waiting reader = record reader { link = Streaming at session (altered_oldest waiting); altered = true }
 
 -- ---- local writes
 

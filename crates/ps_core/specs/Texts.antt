@@ -7,7 +7,7 @@ use Rattle.ps_client.specs.declared.events.Why.TheVariants.{Queue, Pending, Targ
 use Rattle.ps_lines.specs.Writing.{IsWritable, text_of}
 use Rattle.ps_data.specs.Documents.{quoted_of}
 use Rattle.ps_core.specs.declared.effects.Effect.{Effect}
-use Rattle.ps_core.specs.declared.effects.Effect.TheVariants.{Fed, FedNotRising, FedClosed, Closed, Wrote, NothingToWrite, TooWide, OpsFull, Committed, NothingToCommit, Compacted, NoBucket, Client, Opened, Line, Waiting, Passed, TooMany, Nothing, Applied, Held, Refused, OutOfOrder, BadLine, NoLine, Cut, Local, Uploaded, QueueEmpty, PositionsFull, Number, NumberFull, Rows, Totals}
+use Rattle.ps_core.specs.declared.effects.Effect.TheVariants.{Fed, FedNotRising, FedClosed, Closed, Wrote, NothingToWrite, TooWide, OpsFull, Committed, NothingToCommit, Compacted, NoBucket, Client, Opened, Line, Waiting, Passed, TooMany, Nothing, Applied, Held, Refused, OutOfOrder, BadLine, NoLine, Cut, Altered, Local, Uploaded, QueueEmpty, PositionsFull, Number, NumberFull, Rows, Totals}
 
 -- ---- printed rows
 
@@ -68,6 +68,7 @@ effect_text OutOfOrder = line_of (codes "out of order") []
 effect_text BadLine = line_of (codes "bad line") []
 effect_text NoLine = line_of (codes "no line") []
 effect_text (Cut name) = line_of (codes "cut") (name ∷ [])
+effect_text Altered = line_of (codes "altered") []
 effect_text (Local name) = line_of (codes "local") (name ∷ [])
 effect_text (Uploaded position) = line_of (codes "uploaded") (decimal position.0 ∷ [])
 effect_text QueueEmpty = line_of (codes "queue empty") []

@@ -1,11 +1,10 @@
 -- The world of a script stands for a play.
-use Rattle.std.specs.Prelude.{Vec}
-use Rattle.std.specs.declared.alloc.Global.{Global}
-use Rattle.std.specs.Prelude.{◌≡◌, ℕ, ◌≤◌, ◌⊎◌, true, false, List, [], ◌∷◌, length, map, Option, Some, None, Ok}
+use Rattle.std.specs.Prelude.{◌≡◌, ℕ, ◌≤◌, ◌⊎◌, true, false, List, [], ◌∷◌, length, Option, Some, None, Ok}
 use Rattle.std.specs.BTreeMap.{get}
 use Rattle.std.specs.Cmp.Lexicographic.{slice_cmp}
 use Rattle.std.specs.Ordering.{nat_cmp}
 use Rattle.ps_definitions.specs.RuleSets.{AreRules}
+use Rattle.ps_lines.specs.declared.lines.Line.{Line}
 use Rattle.ps_lines.specs.Reading.{line_of}
 use Rattle.ps_lines.specs.Writing.{without_targets}
 use Rattle.ps_client.specs.States.{state}
@@ -23,20 +22,24 @@ use Rattle.ps_core.specs.Plays.{Play, course}
 use Rattle.ps_core.specs.Plays as plays
 use Rattle.ps_core.specs.Scripts.{AreLow}
 use Rattle.ps_core.specs.declared.readers.Reader.{Reader}
+use Rattle.ps_core.specs.Altering.{is_data}
+use Rattle.ps_core.specs.declared.readers.Sent.{Sent}
 use Rattle.ps_core.specs.declared.readers.Stream.{Stream}
 use Rattle.ps_core.specs.declared.worlds.World.{World}
 
 -- ---- a client
 
--- the bytes that wait are read as the lines that wait, in order
-abbrev pub AreWaiting : List (List ℕ) → List Made → Type 0
+-- the bytes are read as that line
+pub record IsSentFor (sent : Sent) (line : Line) : Type 0 where
+  pub reads : line_of sent.bytes.items ≡ Ok (without_targets line)
+  pub kind : sent.has_data ≡ is_data line
+
+-- what waits is read as the lines that wait, in order
+abbrev pub AreWaiting : List Sent → List Made → Type 0
 AreWaiting [] [] = Unit {0}
 AreWaiting [] (m ∷ ms) = ⊥
-AreWaiting (bytes ∷ waiting) [] = ⊥
-AreWaiting (bytes ∷ waiting) (m ∷ ms) = (line_of bytes ≡ Ok (without_targets m.line)) × AreWaiting waiting ms
-
-abbrev pub bytes_of : List (Vec ℕ Global) → List (List ℕ)
-bytes_of lines = map (λ (bytes : Vec ℕ Global). bytes.items) lines
+AreWaiting (sent ∷ waiting) [] = ⊥
+AreWaiting (sent ∷ waiting) (m ∷ ms) = IsSentFor sent m.line × AreWaiting waiting ms
 
 -- a stream stands for its session and the lines that wait; what the session took last, it took at that place of the history
 pub record StreamStandsFor (fixed : Fixed) (history : List Event) (asker : Asker) (stream : Stream) (at : ℕ) (session : SessionState) (waiting : List Made) : Type 0 where
@@ -44,7 +47,7 @@ pub record StreamStandsFor (fixed : Fixed) (history : List Event) (asker : Asker
   pub asker_is : stream.session.asker ≡ asker
   pub taken : HasTaken (course fixed history asker) at session
   pub late : at ≤ length history
-  pub waiting_are : AreWaiting (bytes_of stream.waiting.items) waiting
+  pub waiting_are : AreWaiting stream.waiting.items waiting
 
 abbrev pub LinkStandsFor : Fixed → List Event → Asker → Option Stream → Link → Type 0
 LinkStandsFor fixed history asker None Idle = Unit {0}

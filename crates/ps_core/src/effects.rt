@@ -117,6 +117,8 @@ pub enum Effect {
         /// The client's name.
         name: Text,
     },
+    /// The oldest line of data that waits for a client was altered.
+    Altered,
     /// A client wrote locally.
     Local {
         /// The client's name.

@@ -1,6 +1,7 @@
 //! The world of a script, which has a store and clients that have names: what no script does wrong, event by event.
 #![tactic(auto)]
 
+mod altering;
 mod effects;
 mod feeding;
 mod play_laws;

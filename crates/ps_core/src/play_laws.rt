@@ -5,23 +5,28 @@ ghost use Rattle.ps_core.specs.PlayRuns.{PlaysBeginRuns, PlaysStayRuns};
 ghost use Rattle.ps_core.specs.Scripts.{PlaysStayLegal, ScriptsAreRight};
 
 use ps_store::{courses_are_lawful, places_are_fronts};
-use ps_streams::{clients_are_led, runs_lead_on};
+use ps_streams::{clients_are_led, runs_lead_on, voids_are_taken_again};
 
 /// A law: before its first event a play has no client.
 pub fn plays_begin_led()
     ensures { PlaysBeginLed }
-{}
+{
+    plays_are_runs();
+}
 
-/// A law: each event of a script leaves every client led by the lines of its session, or honest where it has no stream, whatever
-/// the store is made to do from then on. So every client is honest, and no line that one takes is refused. Where a client applies
-/// a checkpoint it shows exactly the rows that are due to it at the place where that checkpoint was taken, its own uploads that
-/// the checkpoint covers among them. A session that gave a checkpoint up takes a greater op next.
+/// A law: each event of a script leaves every client none of whose streams was altered led by the lines of its session, or honest
+/// where it has no stream, whatever the store is made to do from then on. So every such client is honest, and no line that one takes
+/// is refused. Where such a client applies a checkpoint it shows exactly the rows that are due to it at the place where that checkpoint
+/// was taken, its own uploads that the checkpoint covers among them. A session that gave a checkpoint up takes a greater op next,
+/// whatever became of its lines.
 pub fn plays_stay_led()
     ensures { PlaysStayLed }
 {
     courses_are_lawful();
     places_are_fronts();
     clients_are_led();
+    voids_are_taken_again();
+    plays_are_runs();
 }
 
 /// A law: each event of a script keeps the history legal, under limits that are not above the usual ones, and leaves no
@@ -30,8 +35,8 @@ pub fn plays_stay_legal()
     ensures { PlaysStayLegal }
 {}
 
-/// A law: over valid rules and any transactions, what is said of each event of every script is right. Every client is honest,
-/// none refuses a line, and one that applies a checkpoint shows exactly the rows that are due to it there.
+/// A law: over valid rules and any transactions, what is said of each event of every script is right. Every client none of whose
+/// streams was altered is honest, refuses no line, and shows exactly the rows that are due to it where it applies a checkpoint.
 pub fn scripts_are_right()
     ensures { ScriptsAreRight }
 {

@@ -22,9 +22,16 @@ impl Drop for Reader {
     }
 }
 
-/// Its stream: the session, and the bytes of the lines that were made and are not taken yet.
+/// Its stream: the session, and the lines that were made and are not taken yet.
 #[derive(Drop)]
 pub(crate) struct Stream {
     pub session: Session,
-    pub waiting: VecDeque<Vec<u8>>,
+    pub waiting: VecDeque<Sent>,
+}
+
+/// The bytes of a line, and whether it is one of data.
+#[derive(Drop)]
+pub(crate) struct Sent {
+    pub bytes: Vec<u8>,
+    pub has_data: bool,
 }

@@ -91,14 +91,14 @@ pub(crate) fn take(alloc: Global, reader: &mut Reader) -> Result<Effect, ScriptF
     ensures { (fixed : FixedSeen) (play : Play) (name : List ℕ) (store : StoreSeen) → IsAt fixed play name store reader.old
         → Acts fixed play (events.Take name) name store reader.new result }
 {
-    let bytes = match &mut reader.stream {
+    let sent = match &mut reader.stream {
         None => return Err(ScriptFault::WrongPhase),
         Some(stream) => match stream.waiting.pop_front() {
             None => return Ok(Effect::NoLine),
-            Some(bytes) => bytes,
+            Some(sent) => sent,
         },
     };
-    match answer_to(alloc, &mut reader.client, bytes.as_slice()) {
+    match answer_to(alloc, &mut reader.client, sent.bytes.as_slice()) {
         Ok(Answer { effect, over }) => {
             if over {
                 reader.stream = None;

@@ -152,6 +152,7 @@ pub fn effect_text(alloc: Global, effect: &Effect) -> Result<Vec<u8>, Memory>
         Effect::BadLine => fixed(alloc, "bad line"),
         Effect::NoLine => fixed(alloc, "no line"),
         Effect::Cut { name } => named(alloc, "cut", name),
+        Effect::Altered => fixed(alloc, "altered"),
         Effect::Local { name } => named(alloc, "local", name),
         Effect::Uploaded { position } => numbered(alloc, "uploaded", position.0),
         Effect::QueueEmpty => fixed(alloc, "queue empty"),

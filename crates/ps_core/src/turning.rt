@@ -9,10 +9,11 @@ ghost use Rattle.ps_streams.specs.Turning.{IsWritableOutcome, line_in};
 ghost use Rattle.ps_core.specs.Plays.{Play};
 ghost use Rattle.ps_core.specs.Texts.{IsPrintable};
 ghost use Rattle.ps_core.specs.Streams.{IsStream, Turns, effect_of};
-ghost use Rattle.ps_core.specs.Worlds.{AreWaiting, bytes_of};
+ghost use Rattle.ps_core.specs.Worlds.{AreWaiting};
 
+use crate::altering::is_data;
 use crate::effects::Effect;
-use crate::readers::Stream;
+use crate::readers::{Sent, Stream};
 use crate::writable_lines::WritableLine;
 use ps_data::Memory;
 use ps_lines::write_line;
@@ -22,21 +23,18 @@ use std::alloc::Global;
 use std::collections::VecDeque;
 
 // The effect of a turn. Its line, if there is one, waits behind the others.
-fn send(
-    alloc: Global,
-    waiting: &mut VecDeque<Vec<u8>>,
-    outcome: TurnOutcome,
-) -> Result<Effect, Memory>
+fn send(alloc: Global, waiting: &mut VecDeque<Sent>, outcome: TurnOutcome) -> Result<Effect, Memory>
     requires { IsWritableOutcome outcome }
     ensures effect { IfOk result (λ effect. effect_of outcome ≡ effect) }
     ensures printable { IfOk result IsPrintable }
-    ensures waiting { IfOk result (λ _. (at : ℕ) (made : List Made) → AreWaiting (bytes_of waiting.old.items) made
-        → AreWaiting (bytes_of waiting.new.items) (made ++ made_by at (line_in outcome) None [])) }
+    ensures waiting { IfOk result (λ _. (at : ℕ) (made : List Made) → AreWaiting waiting.old.items made
+        → AreWaiting waiting.new.items (made ++ made_by at (line_in outcome) None [])) }
 {
     match outcome {
         TurnOutcome::Line { line } => {
             let bytes = write_line(alloc, &line)?;
-            waiting.push_back(bytes)?;
+            let has_data = is_data(&line);
+            waiting.push_back(Sent { bytes, has_data })?;
             Ok(Effect::Line {
                 line: WritableLine::new(line),
             })

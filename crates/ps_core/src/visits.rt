@@ -5,6 +5,7 @@ ghost use Rattle.ps_store.specs.declared.fixed.Fixed.{Fixed as FixedSeen};
 ghost use Rattle.ps_core.specs.Plays.{Play};
 ghost use Rattle.ps_core.specs.Parts.{Acts, HasTable, IsAt, event_of, faulted};
 
+use crate::altering::alter;
 use crate::effects::Effect;
 use crate::readers::Reader;
 use crate::streaming::{cut, open, turn};
@@ -23,6 +24,7 @@ pub(crate) enum Visit<'a> {
     Turn,
     Take,
     Cut,
+    Alter,
     Local { change: &'a Change },
     Upload,
     Number,
@@ -57,6 +59,7 @@ pub(crate) fn act(
         Visit::Turn => turn(alloc, store, reader),
         Visit::Take => take(alloc, reader),
         Visit::Cut => cut(alloc, reader, name),
+        Visit::Alter => alter(alloc, reader),
         Visit::Local { change } => or_fault(write_locally(alloc, reader, name, change)),
         Visit::Upload => or_fault(upload(alloc, store, reader)),
         Visit::Number => number(alloc, store, reader),

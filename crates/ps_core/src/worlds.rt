@@ -205,6 +205,7 @@ impl World {
             ScriptEvent::Turn { name } => self.ask(alloc, name, Visit::Turn),
             ScriptEvent::Take { name } => self.ask(alloc, name, Visit::Take),
             ScriptEvent::Cut { name } => self.ask(alloc, name, Visit::Cut),
+            ScriptEvent::Alter { name } => self.ask(alloc, name, Visit::Alter),
             ScriptEvent::Local { name, change } => self.write_locally(alloc, name, change),
             ScriptEvent::Upload { name } => self.ask(alloc, name, Visit::Upload),
             ScriptEvent::Number { name } => self.ask(alloc, name, Visit::Number),

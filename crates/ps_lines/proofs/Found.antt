@@ -508,7 +508,7 @@ json_found law (array ds) line h = absurd (no_ok BadShape line h)
 json_found law (object ms) line h = let found = members_found law ms line h in (found.0, found.1, ap object found.2, found.3)
 
 -- what is read has the form
-spelled : ReadsWhatIsWritten → (bytes : List ℕ) (line : Line) → line_of bytes ≡ Ok line → IsLine bytes line
+pub spelled : ReadsWhatIsWritten → (bytes : List ℕ) (line : Line) → line_of bytes ≡ Ok line → IsLine bytes line
 unfolding line_of
 spelled law bytes line h =
     let json = bound (or_fault BadJson (json_of (without_feed bytes))) line_of_json line h in

@@ -9,3 +9,4 @@ pub mod Parameters
 pub mod RoundTrips
 pub mod Texts
 pub mod Tokens
+pub mod ReadLines

@@ -9,3 +9,4 @@ pub mod Bodies
 pub mod BodyTexts
 pub mod Grammar
 pub mod BodyGrammar
+pub mod Laws

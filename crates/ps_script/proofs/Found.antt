@@ -15,11 +15,11 @@ use Rattle.ps_values.specs.Laws.{ReadsWhatIsWritten}
 use Rattle.ps_script.specs.declared.events.ScriptEvent.{ScriptEvent}
 use Rattle.ps_script.specs.declared.events.ScriptEvent.TheVariants as events
 use Rattle.ps_script.specs.declared.verbs.Verb.{Verb}
-use Rattle.ps_script.specs.declared.verbs.Verb.TheVariants.{Open, Turn, Take, Cut, Upload, Number, Rows}
+use Rattle.ps_script.specs.declared.verbs.Verb.TheVariants.{Open, Turn, Take, Cut, Alter, Upload, Number, Rows}
 use Rattle.ps_script.specs.Words.{IsName, cut, text_of, count_of, name_of}
 use Rattle.ps_script.specs.Verbs.{verb_of, event_by}
 use Rattle.ps_script.specs.Events.{asker_by, claims_in, read_or_none, change_in, alone, named, client_in, local_in, behind, by_words, event_of}
-use Rattle.ps_script.specs.Grammar.{IsEvent, feeds, closes, writes, commits, compacts, begins_client, opens, turns, takes, cuts, changes_locally, uploads, numbers, shows_rows, sums_up}
+use Rattle.ps_script.specs.Grammar.{IsEvent, feeds, closes, writes, commits, compacts, begins_client, opens, turns, takes, cuts, alters, changes_locally, uploads, numbers, shows_rows, sums_up}
 use Rattle.ps_script.proofs.Cutting.{cut_joins}
 use Rattle.ps_script.proofs.Arguments.{text_found, count_found, name_found}
 use Rattle.ps_script.proofs.Tests.{choose}
@@ -60,10 +60,11 @@ verb_found verb word name named h =
     choose (bytes_eq word (codes "turn")) _ _ verb h (λ is e. verb_is word (codes "turn") Turn verb name is e (turns name named)) (λ h.
     choose (bytes_eq word (codes "take")) _ _ verb h (λ is e. verb_is word (codes "take") Take verb name is e (takes name named)) (λ h.
     choose (bytes_eq word (codes "cut")) _ _ verb h (λ is e. verb_is word (codes "cut") Cut verb name is e (cuts name named)) (λ h.
+    choose (bytes_eq word (codes "alter")) _ _ verb h (λ is e. verb_is word (codes "alter") Alter verb name is e (alters name named)) (λ h.
     choose (bytes_eq word (codes "upload")) _ _ verb h (λ is e. verb_is word (codes "upload") Upload verb name is e (uploads name named)) (λ h.
     choose (bytes_eq word (codes "number")) _ _ verb h (λ is e. verb_is word (codes "number") Number verb name is e (numbers name named)) (λ h.
     choose (bytes_eq word (codes "rows")) _ _ verb h (λ is e. verb_is word (codes "rows") Rows verb name is e (shows_rows name named)) (λ h.
-    absurd (cc))))))))
+    absurd (cc)))))))))
 
 named_found : (word rest : List ℕ) (event : ScriptEvent) → named word rest ≡ Some event → IsEvent (word ++ 32 ∷ rest) event
 named_found word rest event h =

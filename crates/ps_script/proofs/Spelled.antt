@@ -11,11 +11,11 @@ use Rattle.ps_values.specs.Laws.{ReadsWhatIsWritten}
 use Rattle.ps_script.specs.declared.events.ScriptEvent.{ScriptEvent}
 use Rattle.ps_script.specs.declared.events.ScriptEvent.TheVariants.{Feed, Write, Client, Local}
 use Rattle.ps_script.specs.declared.verbs.Verb.{Verb}
-use Rattle.ps_script.specs.declared.verbs.Verb.TheVariants.{Open, Turn, Take, Cut, Upload, Number, Rows}
+use Rattle.ps_script.specs.declared.verbs.Verb.TheVariants.{Open, Turn, Take, Cut, Alter, Upload, Number, Rows}
 use Rattle.ps_script.specs.Words.{cut, IsName, name_of}
 use Rattle.ps_script.specs.Verbs.{event_by}
 use Rattle.ps_script.specs.Events.{read_or_none, change_in, client_in, local_in, event_of}
-use Rattle.ps_script.specs.Grammar.{IsEvent, feeds, closes, writes, commits, compacts, begins_client, opens, turns, takes, cuts, changes_locally, uploads, numbers, shows_rows, sums_up}
+use Rattle.ps_script.specs.Grammar.{IsEvent, feeds, closes, writes, commits, compacts, begins_client, opens, turns, takes, cuts, alters, changes_locally, uploads, numbers, shows_rows, sums_up}
 use Rattle.ps_script.proofs.Cutting.{cut_behind}
 use Rattle.ps_script.proofs.Arguments.{text_only, count_only, name_only, name_has_no_space}
 
@@ -47,6 +47,7 @@ event_only law changes (opens name h) = verb_only Open name h
 event_only law changes (turns name h) = verb_only Turn name h
 event_only law changes (takes name h) = verb_only Take name h
 event_only law changes (cuts name h) = verb_only Cut name h
+event_only law changes (alters name h) = verb_only Alter name h
 event_only law changes (changes_locally name text change h is) = local_only changes name text change h is
 event_only law changes (uploads name h) = verb_only Upload name h
 event_only law changes (numbers name h) = verb_only Number name h

@@ -6,7 +6,7 @@ use Rattle.ps_claims.specs.Claims.{asker_of_claims}
 use Rattle.ps_sql_eval.specs.Evaluated.{asker_of}
 use Rattle.ps_sql_eval.specs.declared.askers.Asker.{Asker}
 use Rattle.ps_script.specs.declared.events.ScriptEvent.{ScriptEvent}
-use Rattle.ps_script.specs.declared.events.ScriptEvent.TheVariants.{Feed, Close, Write, Commit, Compact, Client, Open, Turn, Take, Cut, Local, Upload, Number, Rows, Totals}
+use Rattle.ps_script.specs.declared.events.ScriptEvent.TheVariants.{Feed, Close, Write, Commit, Compact, Client, Open, Turn, Take, Cut, Alter, Local, Upload, Number, Rows, Totals}
 use Rattle.ps_script.specs.Words.{IsCount, IsName}
 
 -- a line spells an event: words with one space between them; the last argument of `compact`, `client` and `local` is the rest of the line
@@ -22,6 +22,7 @@ pub data IsEvent : List ℕ → ScriptEvent → Type 0 where
   turns : (name : List ℕ) → IsName name → IsEvent (codes "turn " ++ name) (Turn name)
   takes : (name : List ℕ) → IsName name → IsEvent (codes "take " ++ name) (Take name)
   cuts : (name : List ℕ) → IsName name → IsEvent (codes "cut " ++ name) (Cut name)
+  alters : (name : List ℕ) → IsName name → IsEvent (codes "alter " ++ name) (Alter name)
   changes_locally : (name text : List ℕ) (change : Change) → IsName name → IsLoneChange text change
       → IsEvent (codes "local " ++ name ++ codes " " ++ text) (Local name change)
   uploads : (name : List ℕ) → IsName name → IsEvent (codes "upload " ++ name) (Upload name)

@@ -51,6 +51,11 @@ pub enum ScriptEvent {
         /// The client's name in the script.
         name: Text,
     },
+    /// Alter the oldest line of data that waits for a client.
+    Alter {
+        /// The client's name in the script.
+        name: Text,
+    },
     /// Change a row at a client, to be uploaded.
     Local {
         /// The client's name in the script.

@@ -12,6 +12,7 @@ pub enum Verb {
     Turn,
     Take,
     Cut,
+    Alter,
     Upload,
     Number,
     Rows,
@@ -31,6 +32,9 @@ pub fn read_verb(word: &[u8]) -> Option<Verb>
     }
     if word == b"cut".as_slice() {
         return Some(Verb::Cut);
+    }
+    if word == b"alter".as_slice() {
+        return Some(Verb::Alter);
     }
     if word == b"upload".as_slice() {
         return Some(Verb::Upload);
@@ -54,6 +58,7 @@ impl Verb {
             Verb::Turn => ScriptEvent::Turn { name },
             Verb::Take => ScriptEvent::Take { name },
             Verb::Cut => ScriptEvent::Cut { name },
+            Verb::Alter => ScriptEvent::Alter { name },
             Verb::Upload => ScriptEvent::Upload { name },
             Verb::Number => ScriptEvent::Number { name },
             Verb::Rows => ScriptEvent::Rows { name },

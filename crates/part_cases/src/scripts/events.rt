@@ -22,6 +22,7 @@ pub fn show_event(out: &mut String, event: &ScriptEvent) -> Result<(), Memory> {
         ScriptEvent::Turn { name } => push_named(out, "turn", name),
         ScriptEvent::Take { name } => push_named(out, "take", name),
         ScriptEvent::Cut { name } => push_named(out, "cut", name),
+        ScriptEvent::Alter { name } => push_named(out, "alter", name),
         ScriptEvent::Upload { name } => push_named(out, "upload", name),
         ScriptEvent::Number { name } => push_named(out, "number", name),
         ScriptEvent::Rows { name } => push_named(out, "rows", name),

@@ -12,4 +12,4 @@ returns c = stay_led (record {
   locally = c.clients_are_led.ensures.locally;
   taken = c.clients_are_led.ensures.taken;
   honest = c.clients_are_led.ensures.honest;
-})
+}) c.voids_are_taken_again.ensures c.plays_are_runs.ensures.stay

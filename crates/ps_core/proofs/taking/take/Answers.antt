@@ -12,17 +12,17 @@ returns-in-None-pop_front c = λ fixed play name store it.
 
 pub returns-then-over : goal.returns-then-over
 returns-then-over c = λ fixed play name store it.
-    let lines : c.in-Some.stream.waiting.items ≡ c.in-Some-pop_front.bytes ∷ c.pop_front.new.self.items = c.in-Some-pop_front.ensures.items in
-    took_last fixed play name store c.args.reader.now c.in-Some.stream it c.in-Some.is c.in-Some-pop_front.bytes c.pop_front.new.self.items lines _ c.in-Ok.field-0
-    (c.in-Ok.ensures _ (ap line_of c.as_slice.ensures.value ∙ read fixed play name store c.args.reader.now c.in-Some.stream it c.in-Some.is c.in-Some-pop_front.bytes c.pop_front.new.self.items lines))
+    let lines : c.in-Some.stream.waiting.items ≡ c.in-Some-pop_front.sent ∷ c.pop_front.new.self.items = c.in-Some-pop_front.ensures.items in
+    took_last fixed play name store c.args.reader.now c.in-Some.stream it c.in-Some.is c.in-Some-pop_front.sent c.pop_front.new.self.items lines _ c.in-Ok.field-0
+    (c.in-Ok.ensures _ (ap line_of c.as_slice.ensures.value ∙ read fixed play name store c.args.reader.now c.in-Some.stream it c.in-Some.is c.in-Some-pop_front.sent c.pop_front.new.self.items lines))
     (cc) refl refl
 
 pub returns-in-Ok : goal.returns-in-Ok
 returns-in-Ok c = λ fixed play name store it.
-    let lines : c.in-Some.stream.waiting.items ≡ c.in-Some-pop_front.bytes ∷ c.pop_front.new.self.items = c.in-Some-pop_front.ensures.items in
-    took_on fixed play name store c.args.reader.now c.in-Some.stream it c.in-Some.is c.in-Some-pop_front.bytes c.pop_front.new.self.items lines _
+    let lines : c.in-Some.stream.waiting.items ≡ c.in-Some-pop_front.sent ∷ c.pop_front.new.self.items = c.in-Some-pop_front.ensures.items in
+    took_on fixed play name store c.args.reader.now c.in-Some.stream it c.in-Some.is c.in-Some-pop_front.sent c.pop_front.new.self.items lines _
     (record { session = c.in-Some.stream.session; waiting = c.pop_front.new.self }) c.in-Ok.field-0
-    (c.in-Ok.ensures _ (ap line_of c.as_slice.ensures.value ∙ read fixed play name store c.args.reader.now c.in-Some.stream it c.in-Some.is c.in-Some-pop_front.bytes c.pop_front.new.self.items lines))
+    (c.in-Ok.ensures _ (ap line_of c.as_slice.ensures.value ∙ read fixed play name store c.args.reader.now c.in-Some.stream it c.in-Some.is c.in-Some-pop_front.sent c.pop_front.new.self.items lines))
     (cc) refl refl refl refl
 
 pub returns : goal.returns

@@ -1,4 +1,3 @@
-use Rattle.std.proofs.Common.{◌∙◌}
 use Rattle.std.proofs.lemmas.Result.{err_from_is_err_and}
 use Rattle.ps_core.proofs.Sent.{not_turned, turned_so, way}
 use Rattle.ps_core.proofs.turning.advance.Goals as goal

@@ -20,6 +20,11 @@ pub returns-in-Cut : goal.returns-in-Cut
 returns-in-Cut c = λ fixed play it.
     subst (λ (v : Visit). Acts fixed play (event_of c.args.name.now v) c.args.name.now c.args.store.now c.cut.new.reader c.cut.result) (sym c.in-Cut.is) (c.cut.ensures fixed play c.args.store.now it)
 
+pub returns-in-Alter : goal.returns-in-Alter
+returns-in-Alter c = λ fixed play it.
+    subst (λ (v : Visit). Acts fixed play (event_of c.args.name.now v) c.args.name.now c.args.store.now c.alter.new.reader c.alter.result) (sym c.in-Alter.is)
+    (c.alter.ensures fixed play c.args.name.now c.args.store.now it)
+
 pub returns-in-Number : goal.returns-in-Number
 returns-in-Number c = λ fixed play it.
     subst (λ (v : Visit). Acts fixed play (event_of c.args.name.now v) c.args.name.now c.number.new.store c.number.new.reader c.number.result) (sym c.in-Number.is)
