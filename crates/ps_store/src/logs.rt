@@ -15,15 +15,16 @@ ghost use Rattle.ps_store.specs.Readings.{bucket_upto};
 ghost use Rattle.ps_store.specs.StoreLogs.{wanted, log_at, room_at, HasRoom, has_ops, first_ops, AreRising, Continue};
 
 use crate::entered::Entered;
-use ps_bucket_log::{Batch, BucketLog, Log, Op, TakenBucket};
+use ps_bucket_log::{Batch, Log, Op, TakenBucket};
 use ps_checksum::Sum;
 use ps_compact::{Report, compact};
 use ps_data::{Items, Memory, OpId, Text};
+use ps_segments::SegmentLog;
 use std::alloc::Global;
 use std::collections::BTreeMap;
 
 /// The log that the store uses.
-pub(crate) type StoredLog = BucketLog;
+pub(crate) type StoredLog = SegmentLog;
 
 /// The logs of all buckets, by name.
 #[derive(Drop)]
@@ -46,7 +47,7 @@ impl Logs {
         ensures { result ≡ length (up_to upto.0 (log_at self.now name.now)) }
     {
         match self.logs.get(name) {
-            Some(log) => log.count_upto(upto),
+            Some(log) => Log::count_upto(log, upto),
             None => 0,
         }
     }
@@ -57,9 +58,9 @@ impl Logs {
     {
         match self.logs.get(&name) {
             Some(log) => TakenBucket {
-                sum: log.sum_upto(upto),
-                count: log.count_upto(upto),
-                newest: log.newest_upto(upto),
+                sum: Log::sum_upto(log, upto),
+                count: Log::count_upto(log, upto),
+                newest: Log::newest_upto(log, upto),
                 name,
             },
             None => TakenBucket {
@@ -98,7 +99,7 @@ impl Logs {
         ensures { IfOk result (λ batch. batch ≡ batch_of after.0 upto.0 (log_at self.now name.now)) }
     {
         match self.logs.get(name) {
-            Some(log) => log.read(alloc, after, upto),
+            Some(log) => Log::read(log, alloc, after, upto),
             None => Ok(Batch {
                 ops: Items::new(alloc),
                 has_more: false,
@@ -117,7 +118,7 @@ impl Logs {
         if let Some(log) = self.logs.get_mut(name) {
             return log.reserve(alloc, count);
         }
-        let mut log = BucketLog::new(alloc);
+        let mut log = StoredLog::new(alloc);
         log.reserve(alloc, count)?;
         self.logs.insert(name.copy(alloc)?, log)?;
         Ok(())
@@ -162,7 +163,7 @@ impl Logs {
         ensures rooms { (other : List ℕ) → room_at self.old other ≤ room_at self.new other + (if bytes_eq other name.now then 1 else 0) }
     {
         if let Some(log) = self.logs.get_mut(name) {
-            let first = log.count_upto(op.id()) == 0;
+            let first = Log::count_upto(log, op.id()) == 0;
             log.append(op);
             return first;
         }
@@ -220,7 +221,7 @@ fn add_name(
 ) -> Result<(), Memory>
     ensures { OnOk result (names.new ≡ (if has_ops (up_to upto.0 log.now.ops) then names.old ++ name.now ∷ [] else names.old)) }
 {
-    if log.count_upto(upto) == 0 {
+    if Log::count_upto(log, upto) == 0 {
         return Ok(());
     }
     names.push(name.copy(alloc)?)
