@@ -44,12 +44,13 @@ use Rattle.ps_store.specs.StepLaws.{HoldsLaneBuckets, transactions_upto}
 use Rattle.ps_store.proofs.Committed.{asked_of}
 use Rattle.ps_store.proofs.Endings.{well_at, GoesOn, goes_at, lives, ends_later}
 use Rattle.ps_store.proofs.Going.{IsWell, well_fresh}
-use Rattle.ps_store.proofs.Growing.{IsSound, IsLater, entries_lower, sound_fresh, heads_push, sound_after, sound_at, later_at, later_whole, later_end, legal_at, legal_parts, last_at, rises_at}
+use Rattle.ps_store.proofs.Growing.{IsSound, IsLater, entries_lower, sound_fresh, heads_push, sound_after, sound_at, later_at, later_whole, later_end, legal_at, legal_parts, last_at, head_at, rises_at}
 use Rattle.ps_store.proofs.Lawful.{BucketLaws, EndsWithin, EndsPast, KeepsLogs, KeepsTakes, lawful}
 use Rattle.ps_store.proofs.Fronts.{is_le, le_from}
 use Rattle.ps_store.proofs.Members.{Has, has_left, has_right, has_cases, has_filter, from_filter, has_map, from_map, has_flat, from_flat, has_contains, contains_has}
 use Rattle.ps_store.proofs.Ordered.{NamesRise, in_order_rise, has_in_order, from_in_order, names_sorted, never_below}
 use Rattle.ps_store.proofs.Reaching.{take_append, head_above}
+use Rattle.ps_store.proofs.Telling.{tells_reach}
 
 -- ---- places
 
@@ -101,6 +102,10 @@ module _ (op : ℕ) (log : List ℕ → List Op) where
       by : (b : Bool) → bytes_eq name q ≡ b → is_some (if b then Some (bucket_upto op q (log q)) else bucket_in name (told names)) ≡ true → (is_in (told names) name ≡ true → Has names name) → Has (q ∷ names) name
       by true e is rest = inl (sym ((bytes_eq-Decides name q).0 e))
       by false e is rest = inr (rest is)
+
+  all_told : (names : List (List ℕ)) → AllByRecursion (λ (b : TakenBucket). b ≡ bucket_upto op b.name (log b.name)) (told names)
+  all_told [] = tt
+  all_told (name ∷ names) = (refl, all_told names)
 
   none_told : (name : List ℕ) (names : List (List ℕ)) → ((y : List ℕ) → Has names y → slice_cmp nat_cmp name y ≡ Less) → bucket_in name (told names) ≡ None
   none_told name [] h = refl
@@ -369,6 +374,7 @@ module _ (laws : StoreLaws) (rules : RuleSet) (history : List Event) (asker : As
     level_low = λ n name. (sound n).level_low name;
     batch = λ n low high name. refl;
     within = within_op;
+    newest_low = λ n name. omega (arith, (sound n).newest_low name, last_low n);
     takes = λ n name bucket is.
         let told_is = told_by (place n).op (place n).log (names_of (place n) asker) name bucket is in
         record {
@@ -405,13 +411,16 @@ module _ (laws : StoreLaws) (rules : RuleSet) (history : List Event) (asker : As
   names_rise : (n : ℕ) → NamesRise (names_of (place n) asker)
   names_rise n = marked_rise (place n).force.number (plain_names n) (in_order_rise (flat_map (definition_names asker (rows n)) (place n).force.rules.definitions))
 
-  keeps_takes : KeepsTakes course
+  keeps_takes : KeepsTakes course (λ n bucket. (place n).log bucket)
   keeps_takes = record {
     op = λ n. refl;
     number = λ n. numbers_low laws.grows laws.stands laws.buckets.itself laws.compacted rules history asker n legal laws.greatest;
     rise = λ n. subst (IsStrictlySortedBy (slice_cmp nat_cmp)) (names_kept (place n).op (place n).log (names_of (place n) asker)) (names_sorted (names_of (place n) asker) (names_rise n));
     apart = λ n. told_apart (place n).op (place n).log (names_of (place n) asker) (names_rise n);
     position = λ n m low. (goes n m low).position;
+    position_low = λ n. (tells_reach rules (take n history) (legal_place n)).checkpoint.fed;
+    head_low = λ n. head_at (take n history) (fresh rules) (legal_place n) (omega arith);
+    taken = λ n. all_told (place n).op (place n).log (names_of (place n) asker);
     rows = λ n held shown told holds shows.
         let w = well n in
         let wide : AreSqlVectors (place n).force.rules.definitions asker (rows n) =

@@ -651,3 +651,21 @@ rises_event l Abandon can h = subst (RisesFrom 0) (sym (dropped_fed l.building l
 pub rises_at : (history : List Event) (l : Ledger) → IsLegalFrom l history → RisesFrom 0 l.fed → RisesFrom 0 (fold ledger_after l history).fed
 rises_at [] l legal h = h
 rises_at (e ∷ history) l legal h = rises_at history (ledger_after l e) legal.1 (rises_event l e legal.0 h)
+
+-- ---- no position is past the greatest
+
+head_event : (l : Ledger) (e : Event) → CanCome l e → head_of l.fed ≤ greatest → head_of (ledger_after l e).fed ≤ greatest
+head_event l (Feed t) can h = omega (arith, can.2, head_fed l.fed t 0)
+head_event l Close can h = h
+head_event l (Write n) can h = omega (arith, h, ap head_of (writes_fed (take n (unwritten l)) l))
+head_event l Commit can h = h
+head_event l (Compact bucket) can h = h
+head_event l (WriteCheckpoint user client) can h = h
+head_event l (Deploy rules) can h = h
+head_event l (Build n) can h = omega (arith, h, ap head_of (builds_fed (take n (queue_in l.building)) l))
+head_event l Switch can h = omega (arith, h, ap head_of (switched_fed l.building l))
+head_event l Abandon can h = omega (arith, h, ap head_of (dropped_fed l.building l))
+
+pub head_at : (history : List Event) (l : Ledger) → IsLegalFrom l history → head_of l.fed ≤ greatest → head_of (fold ledger_after l history).fed ≤ greatest
+head_at [] l legal h = h
+head_at (e ∷ history) l legal h = head_at history (ledger_after l e) legal.1 (head_event l e legal.0 h)

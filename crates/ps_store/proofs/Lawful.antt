@@ -1,24 +1,26 @@
 -- A course whose logs stand for their originals is lawful, by the laws of one bucket; also where generations end.
-use Rattle.std.proofs.Common.{refl, ◌≡◌, ◌≢◌, ℕ, ◌<◌, ◌≤◌, ◌⊎◌, inl, inr, Option, Some, None, IfSome, List, [], ◌++◌, sym, ◌∙◌, arith}
+use Rattle.std.proofs.Common.{refl, ◌≡◌, ◌≢◌, ℕ, suc, ◌+◌, ◌%◌, ◌^◌, ◌<◌, ◌≤◌, ◌⊎◌, inl, inr, Bool, true, false, cond, Option, Some, None, IfSome, List, [], ◌∷◌, ◌++◌, filter, length, sym, ap, ◌∙◌, subst, arith}
+use Rattle.std.proofs.Math.Nat.{mod-lt}
 use Rattle.std.specs.Cmp.Lexicographic.{slice_cmp}
+use Rattle.std.specs.List.{AllByRecursion, AllZip}
 use Rattle.std.specs.List.Sorted.{IsStrictlySortedBy}
 use Rattle.std.specs.Ordering.{nat_cmp}
 use Rattle.std.proofs.lemmas.Bool.{cases_lt, lt-ltb, le-ltb}
 use Rattle.ps_data.specs.declared.ids.OpId.{OpId}
 use Rattle.ps_bucket_log.specs.declared.ops.Op.{Op}
 use Rattle.ps_bucket_log.specs.declared.batches.Batch.{Batch}
-use Rattle.ps_bucket_log.specs.Ops.{greatest_target, upto, past, newest, sum_of}
-use Rattle.ps_bucket_log.specs.Logs.{IsRising, IsLog, AreEntries, cleared}
-use Rattle.ps_bucket_log.specs.Standing.{StandsFor}
+use Rattle.ps_bucket_log.specs.Ops.{id_of, is_clear, checksum, greatest_target, upto, past, newest, place_after, sum_of}
+use Rattle.ps_bucket_log.specs.Logs.{IsRising, IsLog, AreEntries, cleared, rest}
+use Rattle.ps_bucket_log.specs.Standing.{StandsFor, Matches}
 use Rattle.ps_bucket_log.specs.Laws.{StaysHonest, StaysHonestUpTo, WholeAtNewest, FreshIsHonest, HonestLater, AddsNothing, StandsForItself, StandingIsLog, WithinLevel, TargetWithinLevel, SameSums, TotalIsSum, BatchRises, ReadsLongestFront, ReadsOn}
 use Rattle.ps_rows.specs.declared.shown.Shown.{Shown}
 use Rattle.ps_bucket_log.specs.declared.takes.TakenBucket.{TakenBucket}
 use Rattle.ps_store.specs.Courses.{Course, bucket_in}
-use Rattle.ps_store.specs.CourseLaws.{IsLawful, StayHonest, BatchesKeepHonest, Stays, Covers, AreApart, HoldsTaken, due_bucket}
+use Rattle.ps_store.specs.CourseLaws.{IsLawful, StayHonest, BatchesKeepHonest, IsLow, Stays, Covers, AreApart, HoldsTaken, due_bucket}
 use Rattle.ps_store.specs.Generations.{Ending, Switched, Abandoned}
 use Rattle.ps_store.specs.Latest.{ShowsLatest}
 use Rattle.ps_store.specs.Limits.{greatest}
-use Rattle.ps_store.specs.Readings.{taken_names, AreTold, batch_in}
+use Rattle.ps_store.specs.Readings.{taken_names, AreTold, bucket_upto, batch_in}
 use Rattle.ps_store.specs.Standing.{Holding}
 
 -- the laws of one bucket
@@ -75,18 +77,83 @@ pub record KeepsLogs (course : Course) (log : ℕ → List ℕ → List Op) (lev
   pub level_low : (n : ℕ) (name : List ℕ) → level n name ≤ course.op n
   pub batch : (n low high : ℕ) (name : List ℕ) → course.batch n name low high ≡ batch_in (ended n name) (log n name) low high
   pub within : (n : ℕ) (name : List ℕ) → EndsWithin (course.op n) (ended n name)
+  pub newest_low : (n : ℕ) (name : List ℕ) → newest (course.original n name) ≤ greatest
   pub takes : (n : ℕ) (name : List ℕ) (bucket : TakenBucket) → bucket_in name (course.take n).buckets ≡ Some bucket → TellsLog (ended n name) (course.op n) (log n name) bucket
   pub ends : (n m : ℕ) (name : List ℕ) (bucket : TakenBucket) → n ≤ m → bucket_in name (course.take n).buckets ≡ Some bucket → EndsPast (course.op n) (ended m name)
 
 -- what is said of takes besides
-pub record KeepsTakes (course : Course) : Type 0 where
+pub record KeepsTakes (course : Course) (log : ℕ → List ℕ → List Op) : Type 0 where
   pub op : (n : ℕ) → (course.take n).last_op.0 ≡ course.op n
   pub number : (n : ℕ) → IfSome (course.take n).number (λ number. number ≤ greatest)
   pub rise : (n : ℕ) → IsStrictlySortedBy (slice_cmp nat_cmp) (taken_names (course.take n))
   pub apart : (n : ℕ) → AreApart (course.take n).buckets
   pub position : (n m : ℕ) → n ≤ m → (course.take n).position.0 ≤ (course.take m).position.0
+  pub position_low : (n : ℕ) → (course.take n).position.0 ≤ (course.take n).head.0
+  pub head_low : (n : ℕ) → (course.take n).head.0 ≤ greatest
+  pub taken : (n : ℕ) → AllByRecursion (λ (b : TakenBucket). b ≡ bucket_upto (course.op n) b.name (log n b.name)) (course.take n).buckets
   pub rows : (n : ℕ) (held : Holding) (rows : List Shown) → AreTold (taken_names (course.take n)) → HoldsTaken course n held → ShowsLatest held rows → rows ≡ course.due n
   pub covers : Covers course
+
+-- ---- ids
+
+abbrev AllLow : ℕ → List Op → Type 0
+AllLow top ops = AllByRecursion (λ (op : Op). id_of op ≤ top) ops
+
+-- who rises is at its end or below
+rising_below : (p : ℕ) (ops : List Op) → IsRising p ops → p + length ops ≤ place_after p ops
+rising_below p [] rises = omega arith
+rising_below p (op ∷ ops) rises = let rest = rising_below (id_of op) ops rises.1 in omega (arith, rest, rises.0)
+
+rising_low : (p top : ℕ) (ops : List Op) → IsRising p ops → place_after p ops ≤ top → AllLow top ops
+rising_low p top [] rises low = tt
+rising_low p top (op ∷ ops) rises low =
+    let below = rising_below (id_of op) ops rises.1 in
+    (omega (arith, below, low), rising_low (id_of op) top ops rises.1 low)
+
+-- the last of low ones is low
+last_of_low : (p top : ℕ) (ops : List Op) → AllLow top ops → p ≤ top → place_after p ops ≤ top
+last_of_low p top [] low from = from
+last_of_low p top (op ∷ ops) low from = last_of_low (id_of op) top ops low.1 low.0
+
+low_front : (top : ℕ) (xs ys : List Op) → AllLow top (xs ++ ys) → AllLow top xs
+low_front top [] ys low = tt
+low_front top (x ∷ xs) ys low = (low.0, low_front top xs ys low.1)
+
+low_filtered : (top : ℕ) (p : Op → Bool) (ops : List Op) → AllLow top ops → AllLow top (filter p ops)
+low_filtered top p [] low = tt
+low_filtered top p (op ∷ ops) low = by (p op) (low_filtered top p ops low.1)
+  where
+    by : (b : Bool) → AllLow top (filter p ops) → AllLow top (cond b (op ∷ filter p ops) (filter p ops))
+    by true rest = (low.0, rest)
+    by false rest = rest
+
+few_filtered : (p : Op → Bool) (ops : List Op) → length (filter p ops) ≤ length ops
+few_filtered p [] = omega arith
+few_filtered p (op ∷ ops) = by (p op) (few_filtered p ops)
+  where
+    by : (b : Bool) → length (filter p ops) ≤ length ops → length (cond b (op ∷ filter p ops) (filter p ops)) ≤ suc (length ops)
+    by true rest = omega (arith, rest)
+    by false rest = omega (arith, rest)
+
+-- what stands for low ones is low
+low_matched : (top level : ℕ) (original ops entries : List Op) → AllZip (Matches original level) ops entries → AllLow top entries → AllLow top ops
+low_matched top level original [] entries pairs low = tt
+low_matched top level original (op ∷ ops) [] pairs low = absurd pairs
+low_matched top level original (op ∷ ops) (entry ∷ entries) pairs low = (
+  elim pairs.0 [
+    | inl same ↦ omega (arith, low.0, ap id_of same)
+    | inr move ↦ omega (arith, low.0, ap id_of move.is)
+  ],
+  low_matched top level original ops entries pairs.1 low.1,
+)
+
+low_log : (top : ℕ) (log : List Op) → cleared log ≤ top → AllLow top (rest log) → AllLow top log
+low_log top [] clear low = tt
+low_log top (op ∷ ops) clear low = by (is_clear op) clear low
+  where
+    by : (b : Bool) → cond b (id_of op) 0 ≤ top → AllLow top (cond b ops (op ∷ ops)) → AllLow top (op ∷ ops)
+    by true clear low = (clear, low)
+    by false clear low = low
 
 -- ---- the laws of a course
 
@@ -139,6 +206,14 @@ module _ (laws : BucketLaws) (course : Course) (log : ℕ → List ℕ → List 
     ];
     whole = λ n name bucket newest_low honest.
         laws.whole (course.original n name) (course.op n) (course.op n) bucket (keeps.entries n name) newest_low honest.reached honest;
+    honest_up_to = λ n c name bucket low targets honest. elim (reads_at n bucket.position c name) [
+      | nothing none no_target ↦ rw none honest
+      | front left target split ↦
+          laws.up_to (log n name) (course.original n name) (level n name) (course.op n) c c bucket _ left
+          (keeps.stands n name) (keeps.entries n name) low split (rw target at targets) honest
+    ];
+    whole_up_to = λ n c name bucket low newest_low within honest.
+        laws.whole (course.original n name) (course.op n) c bucket (keeps.entries n name) newest_low within honest;
   }
 
   -- ---- what stays
@@ -191,6 +266,38 @@ module _ (laws : BucketLaws) (course : Course) (log : ℕ → List ℕ → List 
       by (Some (Switched id)) = elim (cases_lt high id) [ inl above ↦ rw (lt-ltb high id above) refl | inr below ↦ rw (le-ltb high id below) refl ]
       by (Some Abandoned) = refl
 
+  -- ---- what is not past the greatest
+  log_low : (n : ℕ) (name : List ℕ) → AllLow greatest (log n name)
+  log_low n name =
+      let original : List Op = course.original n name in
+      let all : AllLow greatest original = rising_low 0 greatest original (keeps.entries n name).rising (keeps.newest_low n name) in
+      low_log greatest (log n name) (omega (arith, cleared_low n name, keeps.greatest_op n))
+      (low_matched greatest (level n name) original (rest (log n name)) (past (cleared (log n name)) original) (keeps.stands n name).pairs (low_filtered greatest _ original all))
+
+  ids_are_low : (n low high : ℕ) (name : List ℕ) → AllByRecursion (λ (op : Op). id_of op ≤ greatest) (course.batch n name low high).ops
+  ids_are_low n low high name = elim (reads_at n low high name) [
+    | nothing none no_target ↦ rw none tt
+    | front left target split ↦
+        low_front greatest (course.batch n name low high).ops left (subst (AllLow greatest) split (low_filtered greatest _ (past low (log n name)) (low_filtered greatest _ (log n name) (log_low n name))))
+  ]
+
+  taken_low : (n : ℕ) (bucket : TakenBucket) → bucket ≡ bucket_upto (course.op n) bucket.name (log n bucket.name) → IsLow bucket
+  taken_low n bucket is =
+      let own : List Op = log n bucket.name in
+      let few : length (upto (course.op n) own) ≤ length own = few_filtered _ own in
+      let below : 0 + length own ≤ place_after 0 own = rising_below 0 own (log_is n bucket.name).rising in
+      let last : place_after 0 own ≤ greatest = last_of_low 0 greatest own (log_low n bucket.name) (omega arith) in
+      let newest_is : newest (upto (course.op n) own) ≤ greatest = last_of_low 0 greatest (upto (course.op n) own) (low_filtered greatest _ own (log_low n bucket.name)) (omega arith) in
+      record {
+        sum_low = subst (λ (n : ℕ). n < 2 ^ 32) (sym (ap (λ (b : TakenBucket). b.sum.0) is)) (mod-lt _ (omega arith));
+        count_low = omega (arith, few, below, last, ap (λ (b : TakenBucket). b.count) is);
+        newest_low = omega (arith, newest_is, ap (λ (b : TakenBucket). b.newest.0) is);
+      }
+
+  all_low : (n : ℕ) (buckets : List TakenBucket) → AllByRecursion (λ (b : TakenBucket). b ≡ bucket_upto (course.op n) b.name (log n b.name)) buckets → AllByRecursion IsLow buckets
+  all_low n [] are = tt
+  all_low n (bucket ∷ buckets) are = (taken_low n bucket are.0, all_low n buckets are.1)
+
   -- ---- what a take tells
   sums_are : (n : ℕ) (name : List ℕ) (bucket : TakenBucket) → bucket_in name (course.take n).buckets ≡ Some bucket
       → (bucket.sum.0 ≡ (due_bucket course n name).total) × (bucket.newest.0 ≡ newest (upto (course.op n) (course.original n name)))
@@ -214,11 +321,24 @@ module _ (laws : BucketLaws) (course : Course) (log : ℕ → List ℕ → List 
       by (Some (Switched id)) past_op = rw (lt-ltb (course.op n) id past_op) (inr (λ no. cc))
       by (Some Abandoned) past_op = absurd past_op
 
-  pub lawful : KeepsTakes course → IsLawful course
+  pub lawful : KeepsTakes course log → IsLawful course
   lawful takes = record {
     later = stay_honest;
     batches = batches_keep;
-    climb = record { op = keeps.op; greatest_op = keeps.greatest_op; position = takes.position; target = target_low; passed = passed_low; rising = rises; within = fits_within; reads_on = reads_on };
+    climb = record {
+      op = keeps.op;
+      greatest_op = keeps.greatest_op;
+      position = takes.position;
+      target = target_low;
+      passed = passed_low;
+      rising = rises;
+      within = fits_within;
+      reads_on = reads_on;
+      position_low = takes.position_low;
+      head_low = takes.head_low;
+      buckets_low = λ n. all_low n (course.take n).buckets (takes.taken n);
+      ids_low = ids_are_low;
+    };
     takes = record { op = takes.op; number = takes.number; rise = takes.rise; apart = takes.apart; sums = sums_are; rows = takes.rows };
     stays = stays;
     covers = takes.covers;

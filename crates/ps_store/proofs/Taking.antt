@@ -27,10 +27,13 @@ use Rattle.ps_store.specs.declared.fixed.Fixed.{Fixed}
 use Rattle.ps_bucket_log.specs.declared.takes.TakenBucket.{TakenBucket}
 use Rattle.ps_store.specs.declared.readings.TakeFault.TheVariants.{TooManyBuckets}
 use Rattle.ps_store.specs.declared.stores.Store.{Store}
+use Rattle.ps_store.specs.IndexLaws.{GivesBuckets}
 use Rattle.ps_store.specs.Ledgers.{Ledger, ledger_of}
+use Rattle.ps_store.specs.LedgerLaws.{IsWhole}
 use Rattle.ps_store.specs.Noting.{noted}
 use Rattle.ps_store.specs.Originals.{Timed, timed_from, timed}
 use Rattle.ps_store.specs.Readings.{AreTold, names_of, bucket_upto, Takes, batch_of, covered_of}
+use Rattle.ps_store.specs.StepLaws.{transactions_upto}
 use Rattle.ps_store.specs.StoreLogs.{log_at}
 use Rattle.ps_store.specs.Stores.{StoreStandsFor}
 use Rattle.ps_store.specs.Tails.{notes_after}
@@ -108,26 +111,41 @@ module _ (fixed : Fixed) (store : Store) (history : List Event) (h : StoreStands
   abbrev definitions : List Definition
   definitions = l.force.rules.definitions
 
-  -- at the checkpoint's position rows stand by the index as by the changes of all that is fed
-  rows_same : (table id : List ℕ) → row_at store.index.notes table id l.position ≡ row_at (notes_read definitions l.fed) table id l.position
-  rows_same table id =
+  -- at a position from the checkpoint's on up to which all is written, rows stand by the index as by the changes of all that is fed
+  rows_same : (p : ℕ) → l.position ≤ p → length (timed (transactions_upto p l.fed)) ≤ l.written → (table id : List ℕ)
+      → row_at store.index.notes table id p ≡ row_at (notes_read definitions l.fed) table id p
+  rows_same p late whole table id =
       let w = counts_history fixed.rules history h.legal in
       let written : List Timed = take l.written (timed l.fed) in
-      let front : upto_timed l.position written ≡ upto_timed l.position (timed l.fed) = written_upto l.fed l.written l.position w.rises w.whole.all ∙ sym (upto-timed l.position l.fed) in
-      sym (h.stands.index.notes table id l.position (omega arith))
-      ∙ ap (λ (ns : List Note). row_at ns table id l.position) (noted_more definitions [] written)
-      ∙ unseen definitions table id l.position None written
-      ∙ ap (λ (us : List Timed). row_at (read_notes definitions us) table id l.position) front
-      ∙ sym (unseen definitions table id l.position None (timed l.fed))
-      ∙ ap (λ (ns : List Note). row_at ns table id l.position) (reads_are definitions l.fed)
+      let front : upto_timed p written ≡ upto_timed p (timed l.fed) = written_upto l.fed l.written p w.rises whole ∙ sym (upto-timed p l.fed) in
+      sym (h.stands.index.notes table id p late)
+      ∙ ap (λ (ns : List Note). row_at ns table id p) (noted_more definitions [] written)
+      ∙ unseen definitions table id p None written
+      ∙ ap (λ (us : List Timed). row_at (read_notes definitions us) table id p) front
+      ∙ sym (unseen definitions table id p None (timed l.fed))
+      ∙ ap (λ (ns : List Note). row_at ns table id p) (reads_are definitions l.fed)
 
   -- so the index stands for the source there
+  stands_whole : NotesReadAreTheSource → (p : ℕ) → l.position ≤ p → length (timed (transactions_upto p l.fed)) ≤ l.written
+      → StandsAt store.index.rules.definitions store.index.notes p (rows_in (source_at l.fed p))
+  stands_whole law p late whole =
+      let here : StandsAt definitions store.index.notes p (rows_in (source_at l.fed p)) =
+      λ r read. let e = rows_same p late whole r.table r.id in let s = law definitions l.fed p r read in (λ c. e ∙ s.0 c, λ k. s.1 (sym e ∙ k)) in
+      subst (λ (r : RuleSet). StandsAt r.definitions store.index.notes p (rows_in (source_at l.fed p))) (sym h.stands.index.rules) here
+
+  -- and at the checkpoint's
   stands_at : NotesReadAreTheSource → StandsAt store.index.rules.definitions store.index.notes store.checkpoint.position.0 (rows_in (source_at l.fed l.position))
   stands_at law =
-      let here : StandsAt definitions store.index.notes l.position (rows_in (source_at l.fed l.position)) =
-      λ r read. let e = rows_same r.table r.id in let s = law definitions l.fed l.position r read in (λ c. e ∙ s.0 c, λ k. s.1 (sym e ∙ k)) in
       subst (λ (p : ℕ). StandsAt store.index.rules.definitions store.index.notes p (rows_in (source_at l.fed l.position))) (sym h.stands.position)
-      (subst (λ (r : RuleSet). StandsAt r.definitions store.index.notes l.position (rows_in (source_at l.fed l.position))) (sym h.stands.index.rules) here)
+      (stands_whole law l.position (omega arith) (counts_history fixed.rules history h.legal).whole.all)
+
+  pub gives_buckets : NotesReadAreTheSource → (p : ℕ) → l.position ≤ p → IsWhole l p → GivesBuckets store.index l p
+  gives_buckets law p late whole = record {
+    kept = omega (arith, late, h.stands.index.forgotten);
+    names = λ asker names gives.
+        gives (rows_in (source_at l.fed p)) (stands_whole law p late whole.written)
+        ∙ ap (λ (r : RuleSet). bucket_names r.definitions asker (rows_in (source_at l.fed p))) h.stands.index.rules;
+  }
 
   pub same_rules : store.fixed.rules ≡ store.index.rules
   same_rules = sym (h.stands.index.rules ∙ h.stands.rules)

@@ -1,13 +1,15 @@
 -- What the readings of every history keep. Whoever speaks of streams needs nothing else of a store.
-use Rattle.std.specs.Prelude.{◌≡◌, ◌≢◌, ℕ, ◌+◌, ◌<◌, ◌≤◌, true, false, ◌⊎◌, List, [], ◌∷◌, ◌++◌, length, Contains, Some, None, IfSome, fold}
+use Rattle.std.specs.Prelude.{◌≡◌, ◌≢◌, ℕ, ◌+◌, ◌^◌, ◌<◌, ◌≤◌, true, false, ◌⊎◌, List, [], ◌∷◌, ◌++◌, length, Contains, Some, None, IfSome, fold}
+use Rattle.std.specs.List.{AllByRecursion}
 use Rattle.std.specs.List.Sorted.{IsStrictlySortedBy}
 use Rattle.std.specs.Cmp.Lexicographic.{slice_cmp}
 use Rattle.std.specs.Ordering.{nat_cmp}
 use Rattle.ps_bucket_log.specs.declared.ops.Key.{Key}
-use Rattle.ps_bucket_log.specs.Ops.{upto, newest}
+use Rattle.ps_bucket_log.specs.declared.ops.Op.{Op}
+use Rattle.ps_bucket_log.specs.Ops.{id_of, upto, newest}
 use Rattle.ps_bucket_log.specs.Buckets.{Bucket, after, bucket_of, fresh}
 use Rattle.ps_bucket_log.specs.Logs.{IsRising}
-use Rattle.ps_bucket_log.specs.Standing.{IsHonest}
+use Rattle.ps_bucket_log.specs.Standing.{IsHonest, IsHonestUpTo}
 use Rattle.ps_rows.specs.declared.changes.Transaction.{Transaction}
 use Rattle.ps_rows.specs.declared.shown.Shown.{Shown}
 use Rattle.ps_queries.specs.Meaning.{Asker}
@@ -47,18 +49,31 @@ pub record StayHonest (course : Course) : Type 0 where
   pub later : (n m : ℕ) (name : List ℕ) (bucket : Bucket) → n ≤ m → IsHonestAt course n name bucket → IsHonestAt course m name bucket
   pub afresh : (n : ℕ) (name : List ℕ) → IsHonestAt course n name fresh
 
--- who takes a batch stays honest, and honest up to its end where no target is past that; who has reached the newest operation holds all
+-- who takes a batch stays honest, and honest up to an id where no target is past that; who has reached the newest operation up to an id, is not
+-- past it and is honest up to it, holds all up to there
 pub record BatchesKeepHonest (course : Course) : Type 0 where
   pub honest : (n c : ℕ) (name : List ℕ) (bucket : Bucket) → c ≤ course.op n → IsHonestAt course n name bucket
       → IsHonestAt course n name (fold after bucket (course.batch n name bucket.position c).ops)
   pub up_to : (n c : ℕ) (name : List ℕ) (bucket : Bucket) → c ≤ course.op n → IfSome (course.batch n name bucket.position c).target (λ target. target.0 ≤ c)
       → IsHonest bucket (course.original n name) c
       → IsHonest (fold after bucket (course.batch n name bucket.position c).ops) (course.original n name) c
+  pub honest_up_to : (n c : ℕ) (name : List ℕ) (bucket : Bucket) → c ≤ course.op n → IfSome (course.batch n name bucket.position c).target (λ target. target.0 ≤ c)
+      → IsHonestUpTo bucket (course.original n name) (course.op n) c
+      → IsHonestUpTo (fold after bucket (course.batch n name bucket.position c).ops) (course.original n name) (course.op n) c
   pub whole : (n : ℕ) (name : List ℕ) (bucket : Bucket) → newest (upto (course.op n) (course.original n name)) ≤ bucket.position → IsHonestAt course n name bucket
       → (bucket.total ≡ (due_bucket course n name).total) × ((key : Key) → bucket.held key ≡ (due_bucket course n name).held key)
+  pub whole_up_to : (n c : ℕ) (name : List ℕ) (bucket : Bucket) → c ≤ course.op n → newest (upto c (course.original n name)) ≤ bucket.position → bucket.position ≤ c
+      → IsHonestUpTo bucket (course.original n name) (course.op n) c
+      → (bucket.total ≡ (bucket_of (upto c (course.original n name))).total) × ((key : Key) → bucket.held key ≡ (bucket_of (upto c (course.original n name))).held key)
 
--- checkpoints do not fall; a batch tells of nothing that is not committed, and of what is asked for alone; and what a take names is
--- read on, or passed by
+-- a bucket that was taken has a sum of 32 bits, and a count and an id that are not past the greatest
+pub record IsLow (bucket : TakenBucket) : Type 0 where
+  pub sum_low : bucket.sum.0 < 2 ^ 32
+  pub count_low : bucket.count ≤ greatest
+  pub newest_low : bucket.newest.0 ≤ greatest
+
+-- checkpoints do not fall; a batch tells of nothing that is not committed, and of what is asked for alone, in ids that rise from past the one
+-- that is asked after; what a take names is read on, or passed by; and nothing that is read is past the greatest
 pub record Climb (course : Course) : Type 0 where
   pub op : (n m : ℕ) → n ≤ m → course.op n ≤ course.op m
   pub greatest_op : (n : ℕ) → course.op n ≤ greatest
@@ -69,6 +84,10 @@ pub record Climb (course : Course) : Type 0 where
   pub within : (n low high : ℕ) (name : List ℕ) → upto high (course.batch n name low high).ops ≡ (course.batch n name low high).ops
   pub reads_on : (n m low : ℕ) (bucket : TakenBucket) → n ≤ m → bucket_in bucket.name (course.take n).buckets ≡ Some bucket → low < bucket.newest.0
       → ((course.batch m bucket.name low (course.op n)).ops ≢ []) ⊎ ((course.batch m bucket.name low (course.op n)).passed ≢ None)
+  pub position_low : (n : ℕ) → (course.take n).position.0 ≤ (course.take n).head.0
+  pub head_low : (n : ℕ) → (course.take n).head.0 ≤ greatest
+  pub buckets_low : (n : ℕ) → AllByRecursion IsLow (course.take n).buckets
+  pub ids_low : (n low high : ℕ) (name : List ℕ) → AllByRecursion (λ (op : Op). id_of op ≤ greatest) (course.batch n name low high).ops
 
 -- a take tells the checkpoint, and of each bucket the sum and the newest id of its original operations up to it; and who holds what
 -- these make of the taken buckets, and nothing else, shows the rows that are due, where the buckets' vectors are of integers of signed

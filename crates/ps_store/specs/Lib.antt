@@ -26,4 +26,5 @@ pub mod TotalsLaws
 pub mod LogLaws
 pub mod Courses
 pub mod CourseLaws
+pub mod IndexLaws
 pub mod Worked

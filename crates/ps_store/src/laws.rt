@@ -6,6 +6,7 @@ ghost use Rattle.ps_store.specs.Histories.{LedgersTellHistories, LedgersTellOneG
 ghost use Rattle.ps_store.specs.CourseLaws.{CoursesAreLawful, PlacesStay, EndsAreWhole, UploadsAreCovered, CoveredNumbersAreLow, UploadsAreFed};
 ghost use Rattle.ps_store.specs.LedgerLaws.{LedgersTellFeeds, CheckpointsBegin, CheckpointsAreReached, SwitchesAreReached, LedgersTellReach, LedgersTellOps, OneGenerationReads, ReadersHoldCommitted, CommittedRowsAreDue};
 ghost use Rattle.ps_store.specs.TotalsLaws.{TotalsTell, WrittenTell, BucketNamesTell, CompactionKeepsTotals, GenerationsKeepTotals};
+ghost use Rattle.ps_store.specs.IndexLaws.{IndexesGiveBuckets};
 ghost use Rattle.ps_store.specs.LogLaws.{LogsStand, ReadersComeThrough};
 ghost use Rattle.ps_store.specs.LongestRuns.{RunsAreLongest};
 ghost use Rattle.ps_store.specs.Worked.{GenerationsTakeOver};
@@ -19,6 +20,7 @@ use ps_bucket_log::{
 use ps_compact::compacted_logs_stand;
 use ps_definitions::names_are_distinct;
 use ps_granted::latest_rows_are_unique;
+use ps_params::notes_of_changes_are_the_source;
 use ps_queries::same_for_every_asker;
 use ps_write_cp::{covered_is_the_greatest, covers_all_before};
 
@@ -186,6 +188,14 @@ pub fn places_are_fronts()
     ensures stay { PlacesStay }
     ensures whole { EndsAreWhole }
 {}
+
+/// A law: at the checkpoint's position, and at that of each later transaction that is written in whole, the index of a store's parameter
+/// rows gives each asker the buckets that the asker has over the source there.
+pub fn indexes_give_buckets()
+    ensures { IndexesGiveBuckets }
+{
+    notes_of_changes_are_the_source();
+}
 
 /// A law: what was fed before a write checkpoint of a client is within the position of each checkpoint that covers its number.
 /// Covered numbers are at most 9223372036854775807.
