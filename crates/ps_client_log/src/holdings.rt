@@ -4,12 +4,13 @@ ghost use Rattle.ps_client_log.specs.Rooms.{kept_by, given, brings, pushes, HasR
 ghost use Rattle.ps_client_log.specs.Images.{room_for};
 ghost use Rattle.ps_client_log.specs.Kept.{kept_of, nothing_kept};
 ghost use Rattle.ps_client_log.specs.Logs.{IsHeld};
-ghost use Rattle.ps_client_log.specs.Soundness.{same_row};
+ghost use Rattle.ps_client_log.specs.Soundness.{same_row, IsSoundState};
 ghost use Rattle.std.specs.List.{IsDistinct};
 
 use crate::buckets::Buckets;
 use crate::queues::Queue;
 use crate::rooms::rooms_for;
+use crate::saving::state_of;
 use crate::{Edit, State, Target};
 use indexmap::IndexMap;
 use ps_data::{Items, Memory, Text, copy_all};
@@ -162,4 +163,17 @@ impl Holdings {
         self.tidy(&rooms);
         Ok(())
     }
+}
+
+/// The state after edits, which can be made one after another. Fails only for want of memory. Takes time and memory in line with the state
+/// and the edits.
+pub fn edited(alloc: Global, state: State, edits: &[Edit]) -> Result<State, Memory>
+    requires sound { IsSoundState state }
+    requires can { CanMakeAll (kept_of state) edits.now }
+    ensures kept { IfOk result (λ next. kept_of next ≡ with_edits (kept_of state) edits.now) }
+    ensures sound { IfOk result IsSoundState }
+{
+    let mut holdings = Holdings::from_state(alloc, state)?;
+    holdings.commit(alloc, edits)?;
+    state_of(alloc, &holdings)
 }

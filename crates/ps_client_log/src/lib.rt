@@ -21,6 +21,7 @@ mod volatile;
 pub use client_logs::ClientLog;
 pub use edits::Edit;
 pub use faults::KeepFault;
+pub use holdings::edited;
 pub use keepers::Keeper;
 pub use laws::edits_leave_what_is_sound;
 pub use memory::{MemoryKeeper, SureKeeper};

@@ -31,7 +31,7 @@ pub struct BucketState {
 }
 
 /// An entry that a bucket holds: the PUT that it came from.
-#[derive(Debug, Drop)]
+#[derive(Debug, Drop, PartialEq, Eq)]
 pub struct Held {
     /// Its key.
     pub key: Key,
