@@ -8,5 +8,6 @@ pub mod Flows
 pub mod LoadedFiles
 pub mod ReadingLines
 pub mod ReadingWords
+pub mod Settling
 pub mod Stepping
 pub mod Telling

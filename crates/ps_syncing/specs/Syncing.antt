@@ -189,16 +189,16 @@ Causes o named Altered = Unprinted o × IsFailed o named sync.Altered
 -- ---- how it ends
 
 -- the words are none of `sync`
-abbrev pub IsRefused : List (List ℕ) → Stop → Type 0
-IsRefused words stop = (sync_of words ≡ None) × (stop ≡ Shared Usage)
+abbrev pub RefusesWords : List (List ℕ) → Stop → Type 0
+RefusesWords words stop = (sync_of words ≡ None) × (stop ≡ Shared Usage)
 
 -- they are, and what they name ends so
 abbrev pub IsCaused : Outside → List (List ℕ) → Stop → Type 0
 IsCaused o words stop = (named : Named) × (sync_of words ≡ Some named) × Causes o named stop
 
 -- why `sync` did not do what it was asked: its words, what they name, or memory was wanting
-abbrev pub EndsBy : Outside → List (List ℕ) → Stop → Type 0
-EndsBy o words stop = (Unprinted o × IsRefused words stop) ⊎ (IsCaused o words stop ⊎ (Unprinted o × (stop ≡ Shared Memory)))
+abbrev pub StopsBy : Outside → List (List ℕ) → Stop → Type 0
+StopsBy o words stop = (Unprinted o × RefusesWords words stop) ⊎ (IsCaused o words stop ⊎ (Unprinted o × (stop ≡ Shared Memory)))
 
 -- all was done, and the output took the rows
 pub record HasDone (o : Outside) (words : List (List ℕ)) : Type 0 where
@@ -212,7 +212,7 @@ pub record HasDone (o : Outside) (words : List (List ℕ)) : Type 0 where
 abbrev pub EndsSo : Outside → List (List ℕ) → Told → ℕ → Type 0
 EndsSo o words e status =
     ((status ≡ 0) × HasDone o words × (e.new ≡ e.old))
-    ⊎ ((stop : Stop) × EndsBy o words stop × SaysStop e stop status)
+    ⊎ ((stop : Stop) × StopsBy o words stop × SaysStop e stop status)
 
 -- ---- the parts
 

@@ -1,6 +1,7 @@
-//! The law of the statuses of `sync`. It is the contract of a function that does nothing.
+//! The laws of the statuses of `sync`. Each is the contract of a function that does nothing.
 
 ghost use Rattle.ps_syncing.specs.Laws.{DoneAtZero, NoWordsAtOne, LineAtThree, TokenAtFour, LimitAtFive, UnreadAtSix, UnwrittenAtSeven, LostAtTen, UnansweredAtEleven, StatusAtTwelve, AlteredAtThirteen};
+ghost use Rattle.ps_syncing.specs.Laws.{OneForOtherWords, ThreeForALine, FourForNoToken, FiveForALength, ZeroForNoCause};
 
 /// A law: wherever `sync` ends with a status, that status's cause holds. With status 8 memory was wanting, which needs no cause.
 pub fn statuses_have_their_causes()
@@ -15,4 +16,14 @@ pub fn statuses_have_their_causes()
     ensures unanswered { UnansweredAtEleven }
     ensures status { StatusAtTwelve }
     ensures altered { AlteredAtThirteen }
+{}
+
+/// A law: where the words are none of `sync`, or a file that tells what it holds is refused, `sync` ends with that refusal's status, unless the faults of the
+/// files rose or memory was wanting. And where the words are those of `sync` and no other status has its cause, all is done, or memory was wanting.
+pub fn statuses_come_exactly_there()
+    ensures words { OneForOtherWords }
+    ensures line { ThreeForALine }
+    ensures token { FourForNoToken }
+    ensures length { FiveForALength }
+    ensures done { ZeroForNoCause }
 {}

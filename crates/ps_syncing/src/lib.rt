@@ -19,7 +19,7 @@ mod words;
 pub use exchanges::ask;
 pub use faults::SyncFault;
 pub use inputs::{Refused, read_uploads};
-pub use laws::statuses_have_their_causes;
+pub use laws::{statuses_come_exactly_there, statuses_have_their_causes};
 pub use numbers::{aim, upload_all};
 pub use runs::sync_client;
 pub use services::Service;

@@ -1,0 +1,64 @@
+//! Each line is a step of the command `sync` among peers in memory.
+//!
+//! - `# TEXT` is a heading. `words WORD ..` has the command's words, and `file NAME TEXT` a file.
+//! - `answer TEXT` adds a peer that sends the text, and `peer ROOM TEXT` one that takes so many bytes alone; `alone` drops all peers.
+//! - `sync` runs the command over a keeper of nothing, and `again` over the keeper of the run before. They print the status, what was printed and said, and of each connection that was
+//!   closed what it took, and drop all peers.
+//! - `each KIND` runs it again and again over a keeper of nothing; the first call of that kind fails, then the second, up to a run in which no call fails. It prints the status of each run,
+//!   and how many bytes it printed. The kinds are `file`, `connect`, `keep`, `out`, `err`, and `read PEER` and `write PEER`, of the peer of that number.
+//!
+//! In words and texts `~n` is a line feed, `~r` a carriage return, `~s` a space, and `~*COUNT{PART}` so many times PART. Only `#`, `sync`, `again` and `each` print.
+//!
+//! The expected answers were written from docs/FORMATS.md, "Requests of a client", "The service and its client", "Stream lines" and "Checksums".
+#![tactic(auto)]
+
+mod failing;
+mod running;
+mod settings;
+
+use case_words::{Stop, cut};
+use running::{write_each, write_run};
+use settings::{Setting, new_setting, take_word};
+use std::alloc::Global;
+use std::sync::Wait;
+
+// Does what a line says, and prints its answer where it has one.
+fn take_line<R: Wait>(
+    waits: &R,
+    alloc: Global,
+    setting: &mut Setting,
+    line: &str,
+    out: &mut String,
+) -> Result<(), Stop> {
+    let (word, rest) = cut(line);
+    match word {
+        "#" => {
+            out.push_str(line)?;
+            out.push_str("\n")?;
+            Ok(())
+        }
+        "sync" => {
+            setting.keeper = None;
+            write_run(waits, alloc, setting, out)
+        }
+        "again" => write_run(waits, alloc, setting, out),
+        "each" => write_each(waits, alloc, setting, rest, out),
+        _ => take_word(alloc, setting, word, rest),
+    }
+}
+
+fn answer_lines<R: Wait>(rt: &HostRuntime, waits: &R) -> Result<(), Stop> {
+    let alloc = rt.alloc();
+    let mut setting = new_setting(alloc);
+    'lines: for line in rt.lines(alloc) {
+        let line = line?;
+        let mut out = String::new(alloc);
+        take_line(waits, alloc, &mut setting, line.as_str(), &mut out)?;
+        print!(rt; "{}", out.as_str())?;
+    }
+    Ok(())
+}
+
+fn main(rt: HostRuntime) -> Result<(), &'static str> {
+    answer_lines(&rt, &rt).ok().ok_or("a line has no answer")
+}

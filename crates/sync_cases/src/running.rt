@@ -1,0 +1,149 @@
+//! Runs of the command, and how they are printed.
+
+use crate::failing::{Failing, Kind, kind_in};
+use crate::settings::Setting;
+use case_words::{Stop, push_escaped};
+use ps_client_log::{Keeper, MemoryKeeper};
+use ps_data::Items;
+use ps_doors::{Link, MemoryLink};
+use ps_io::{Files, MemoryFiles, MemorySink, Sink};
+use ps_syncing::run_sync;
+use std::alloc::Global;
+use std::sync::Wait;
+
+// Room for what is printed and said.
+const ROOM: usize = 65536;
+
+// More calls than any run makes.
+const MANY: u64 = 1000;
+
+// What came of a run.
+#[derive(Drop)]
+struct Ran {
+    status: u8,
+    has_failed: bool,
+    out: MemorySink,
+    err: MemorySink,
+    link: MemoryLink,
+}
+
+// The sink of a kind.
+fn sink_of(alloc: Global, failing: Failing, kind: Kind) -> Result<MemorySink, Stop> {
+    Ok(MemorySink::new(alloc, ROOM, failing.of(alloc, kind)?)?)
+}
+
+// The files and the link of a run.
+fn outside_of(
+    alloc: Global,
+    setting: &Setting,
+    failing: Failing,
+) -> Result<(MemoryFiles, MemoryLink), Stop> {
+    let held = setting.files(alloc)?;
+    let files = MemoryFiles::new(alloc, held, failing.of(alloc, Kind::File)?);
+    let peers = setting.peers(alloc, failing)?;
+    let link = MemoryLink::new(alloc, peers, failing.of(alloc, Kind::Connect)?)?;
+    Ok((files, link))
+}
+
+// Runs the command, and gives the keeper back.
+fn run<R: Wait>(
+    waits: &R,
+    alloc: Global,
+    setting: &Setting,
+    failing: Failing,
+    keeper: MemoryKeeper,
+) -> Result<(Ran, MemoryKeeper), Stop> {
+    let (mut files, mut link) = outside_of(alloc, setting, failing)?;
+    let mut out = sink_of(alloc, failing, Kind::Out)?;
+    let mut err = sink_of(alloc, failing, Kind::Err)?;
+    let (status, keeper) = run_sync(
+        waits,
+        alloc,
+        setting.words(),
+        &mut files,
+        &mut link,
+        keeper,
+        &mut out,
+        &mut err,
+    );
+    let has_failed = files.file_faults() > 0
+        || link.link_faults() > 0
+        || keeper.keep_faults() > 0
+        || out.write_faults() > 0
+        || err.write_faults() > 0;
+    let ran = Ran {
+        status,
+        has_failed,
+        out,
+        err,
+        link,
+    };
+    Ok((ran, keeper))
+}
+
+fn push_line(word: &str, bytes: &[u8], out: &mut String) -> Result<(), Stop> {
+    out.push_str(word)?;
+    push_escaped(out, str::from_utf8(bytes)?)?;
+    Ok(out.push_str("\n")?)
+}
+
+fn push_ran(ran: &Ran, out: &mut String) -> Result<(), Stop> {
+    write!(out, "{}\n", ran.status)?;
+    if !ran.out.bytes().is_empty() {
+        push_line("out ", ran.out.bytes(), out)?;
+    }
+    if !ran.err.bytes().is_empty() {
+        push_line("err ", ran.err.bytes(), out)?;
+    }
+    'closed: for ends in ran.link.closed() {
+        push_line("took ", ends.to.bytes(), out)?;
+    }
+    Ok(())
+}
+
+/// Runs the command, says what came of it, and drops all peers.
+pub fn write_run<R: Wait>(
+    waits: &R,
+    alloc: Global,
+    setting: &mut Setting,
+    out: &mut String,
+) -> Result<(), Stop> {
+    let kind = Kind::File;
+    let keeper = setting.take_keeper(alloc);
+    let (ran, keeper) = run(waits, alloc, setting, Failing { kind, call: 0 }, keeper)?;
+    setting.keeper = Some(keeper);
+    setting.leave(alloc);
+    push_ran(&ran, out)
+}
+
+// The command with one failing call, over a keeper of nothing.
+fn run_failing<R: Wait>(
+    waits: &R,
+    alloc: Global,
+    setting: &Setting,
+    failing: Failing,
+) -> Result<Ran, Stop> {
+    let keeper = MemoryKeeper::new(alloc, failing.of(alloc, Kind::Keep)?);
+    let (ran, _keeper) = run(waits, alloc, setting, failing, keeper)?;
+    Ok(ran)
+}
+
+/// Runs the command with each call of a kind failing in turn, and says what came of it.
+pub fn write_each<R: Wait>(
+    waits: &R,
+    alloc: Global,
+    setting: &Setting,
+    words: &str,
+    out: &mut String,
+) -> Result<(), Stop> {
+    let kind = kind_in(words)?;
+    write!(out, "each {words}:")?;
+    'calls: for call in 1..MANY {
+        let ran = run_failing(waits, alloc, setting, Failing { kind, call })?;
+        write!(out, " {}/{}", ran.status, ran.out.bytes().len())?;
+        if !ran.has_failed {
+            break;
+        }
+    }
+    Ok(out.push_str("\n")?)
+}
