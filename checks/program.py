@@ -16,12 +16,12 @@ def find():
     return PROGRAM
 
 
-def run(words, folder, **how):
-    """Runs words in a folder: the status, standard output and standard error. What takes too long is killed, and has the status None."""
+def run(words, folder, seconds=SECONDS, **how):
+    """Runs words in a folder: the status, standard output and standard error. What takes longer than `seconds` is killed, and has the status None."""
     how = {"stdout": subprocess.PIPE, "stderr": subprocess.PIPE, **how}
     with subprocess.Popen(words, cwd=folder, stdin=subprocess.DEVNULL, **how) as it:
         try:
-            out, err = it.communicate(timeout=SECONDS)
+            out, err = it.communicate(timeout=seconds)
         except subprocess.TimeoutExpired:
             it.kill()
             out, err = it.communicate()
