@@ -83,7 +83,7 @@ impl World {
     }
 
     // Feeds the next transactions.
-    fn feed(&mut self, count: u32) -> Result<Effect, ScriptFault>
+    fn feed(&mut self, alloc: Global, count: u32) -> Result<Effect, ScriptFault>
         requires { (fixed : FixedSeen) × (play : Play) × WorldStandsFor fixed self.old play }
         ensures { (fixed : FixedSeen) (play : Play) → WorldStandsFor fixed self.old play → Goes fixed play (events.Feed count) self.new result }
     {
@@ -91,7 +91,7 @@ impl World {
         if count < 1 || count > MOST {
             return Err(ScriptFault::BadEvent);
         }
-        match feed(&mut self.store, &mut self.left, count) {
+        match feed(alloc, &mut self.store, &mut self.left, count) {
             Ok(effect) => Ok(effect),
             Err(Memory) => Err(ScriptFault::Memory),
         }
@@ -195,7 +195,7 @@ impl World {
         ensures { (fixed : FixedSeen) (play : Play) → WorldStandsFor fixed self.old play → Goes fixed play event.now self.new result }
     {
         match event {
-            ScriptEvent::Feed { count } => self.feed(*count),
+            ScriptEvent::Feed { count } => self.feed(alloc, *count),
             ScriptEvent::Close => Ok(self.close()),
             ScriptEvent::Write { limit } => self.write(alloc, *limit),
             ScriptEvent::Commit => Ok(self.commit()),

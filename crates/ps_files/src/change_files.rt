@@ -82,20 +82,20 @@ pub fn write_transaction<'a>(
     ledgers_tell_histories();
     ledgers_tell_ops();
     let changes = transaction.changes.len();
-    feed(store, transaction)?;
+    feed(alloc, store, transaction)?;
     write_fed(alloc, store, changes)?;
     commit(store);
     Ok(())
 }
 
 // Feeds a transaction past the last one.
-fn feed(store: &mut Store, transaction: Transaction) -> Result<(), Memory>
+fn feed(alloc: Global, store: &mut Store, transaction: Transaction) -> Result<(), Memory>
     requires position { transaction.position.0 ≤ greatest }
     requires committed { (rules : RuleSet) × (done : List TransactionData) × HasCommitted rules done store.old × (last_position 0 done < transaction.position.0) }
     ensures { OnOk result ((rules : RuleSet) (done : List TransactionData) → HasCommitted rules done store.old → last_position 0 done < transaction.position.0
         → IsPending rules (done ++ transaction ∷ []) (length transaction.changes) (first_passed rules.definitions (timed done) (timed_of transaction)) store.new) }
 {
-    match store.feed(transaction) {
+    match store.feed(alloc, transaction) {
         Ok(()) => Ok(()),
         Err(FeedFault::Memory) => Err(Memory),
         Err(FeedFault::FeedClosed) => unreachable!(),

@@ -21,12 +21,12 @@ pub fn store_of(alloc: Global, rules: &str, limits: &str) -> Result<Store, Stop>
     Ok(store)
 }
 
-fn feed_next(store: &mut Store, transaction: Transaction) -> Result<(), FeedFault>
+fn feed_next(alloc: Global, store: &mut Store, transaction: Transaction) -> Result<(), FeedFault>
     requires position { transaction.position.0 ≤ greatest }
     requires stands { IsStore store.old }
     ensures { IsStore store.new }
 {
-    store.feed(transaction)
+    store.feed(alloc, transaction)
 }
 
 fn write_next(alloc: Global, store: &mut Store) -> Result<Wrote, WriteFault>
@@ -42,7 +42,7 @@ pub fn feed(alloc: Global, store: &mut Store, line: &str) -> Result<(), Stop>
     ensures { IsStore store.new }
 {
     let transaction = transaction_of(alloc, line)?;
-    Ok(feed_next(store, transaction)?)
+    Ok(feed_next(alloc, store, transaction)?)
 }
 
 // The change line at position 1 that puts rows of `t`, `r0` and so on.
