@@ -22,7 +22,7 @@ use ps_definitions::Rules;
 use ps_rows::{Change, Transaction};
 use ps_script::{ScriptEvent, ScriptFault};
 use ps_sql_eval::Asker;
-use ps_store::{Limits, Store, have_numbers, places_are_fronts};
+use ps_store::{Limits, Store, places_are_fronts};
 use std::alloc::Global;
 use std::collections::{BTreeMap, VecDeque};
 
@@ -72,7 +72,6 @@ impl World {
         requires { AreLow transactions.items }
         ensures { IfOk result (λ world. WorldStandsFor (record { rules = rules; limits = usual_limits }) world (first_play transactions.items)) }
     {
-        have_numbers(&rules);
         let store = Store::new(alloc, rules, Limits::usual())?;
         Ok(World {
             store,

@@ -17,8 +17,7 @@ use ps_definitions::Rules;
 use ps_rows::Transaction;
 use ps_script::{is_blank, split_line};
 use ps_store::{
-    FeedFault, Limits, NothingToCommit, Store, WriteFault, have_numbers, ledgers_tell_histories,
-    ledgers_tell_ops,
+    FeedFault, Limits, NothingToCommit, Store, WriteFault, ledgers_tell_histories, ledgers_tell_ops,
 };
 use std::alloc::Global;
 
@@ -33,7 +32,6 @@ pub fn write_changes<'a>(alloc: Global, rules: Rules, changes: &[u8]) -> Result<
     requires { length changes.now < 2 ^ 63 }
     ensures { Writes rules (transactions_of rules changes.now) result }
 {
-    have_numbers(&rules);
     let mut store = Store::new(alloc, rules, Limits::usual())?;
     let mut reader = LineReader::new(alloc);
     let mut number = 0u64;
@@ -199,7 +197,6 @@ pub(crate) fn write_transactions<'a>(
     requires { CanBeFed 0 made }
     ensures { Writes rules (admitted rules.definitions [] made) result }
 {
-    have_numbers(&rules);
     let mut store = Store::new(alloc, rules, Limits::usual())?;
     'made: for transaction in made.into_vec() {
         write_transaction(alloc, &mut store, transaction)?;

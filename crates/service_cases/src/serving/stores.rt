@@ -7,7 +7,7 @@ ghost use Rattle.service_cases.specs.Standing.{IsStore};
 use case_stores::{limits_of, rules_of, transaction_of};
 use case_words::Stop;
 use ps_rows::Transaction;
-use ps_store::{Checkpoint, FeedFault, NothingToCommit, Store, WriteFault, Wrote, have_numbers};
+use ps_store::{Checkpoint, FeedFault, NothingToCommit, Store, WriteFault, Wrote};
 use std::alloc::Global;
 
 /// A store for the rules of a text, under limits.
@@ -16,7 +16,6 @@ pub fn store_of(alloc: Global, rules: &str, limits: &str) -> Result<Store, Stop>
 {
     let limits = limits_of(limits)?;
     let rules = rules_of(alloc, rules)?;
-    have_numbers(&rules);
     let store = Store::new(alloc, rules, limits)?;
     Ok(store)
 }
