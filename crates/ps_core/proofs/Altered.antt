@@ -245,7 +245,7 @@ altered_so fixed play name store old new stream now it some alters session asker
       may = may_alter play name it.reader link.at link.session link.waiting it.named link.link_is done.0;
       gives = (it.reader, it.named, subst (λ (l : Link). AltersOn l name play it.reader (becomes effects.Altered name next play)) (sym link.link_is) refl);
     })
-    it.serves.stands
+    it.serves
     (record {
       asker_is = asker ∙ it.stands.asker_is;
       client_is = client ∙ it.stands.client_is;

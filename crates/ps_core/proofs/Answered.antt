@@ -216,7 +216,7 @@ module _ (fixed : Fixed) (play : Play) (name : List ℕ) (store : Store) (old : 
         may = streaming play name it.reader link.at link.session link.waiting it.named link.link_is;
         gives = (it.reader, it.named, takes_on [] (says effects.NoLine play) are refl);
       })
-      it.serves.stands
+      it.serves
       (record {
         asker_is = asker ∙ it.stands.asker_is;
         client_is = client ∙ it.stands.client_is;
@@ -249,7 +249,7 @@ module _ (fixed : Fixed) (play : Play) (name : List ℕ) (store : Store) (old : 
           may = streaming play name it.reader link.at link.session link.waiting it.named link.link_is;
           gives = (it.reader, it.named, takes_on (first.oldest ∷ first.others) (took_outcome took rows now name it.reader play) first.waiting_is (rows, mine.shows, refl));
         })
-        it.serves.stands
+        it.serves
         (record { asker_is = asker ∙ it.stands.asker_is; client_is = mine.client_is; link_is = link_stands })
 
     ends_is : (new : Reader) (answer : Answer) (over : Bool) → IsAnswered (state old.client) (state new.client) (without_targets first.oldest.line) answer → answer.over ≡ over
@@ -283,4 +283,4 @@ rows_so fixed play name store own rows it listed =
       may = known play name it.reader it.named;
       gives = (it.reader, it.named, record { rows = rows; listed = subst (λ (c : PlainClient). AreListed c.kept.shown rows) it.stands.client_is listed; is = refl });
     })
-    it.serves.stands it.stands
+    it.serves it.stands

@@ -3,6 +3,7 @@ use Rattle.std.proofs.Common.{◌≡◌, ◌≢◌, ℕ, ◌+◌, ◌<◌, ◌�
 use Rattle.std.specs.Prelude.{if◌then◌else◌, nat_le, nat_lt, ◌&&◌}
 use Rattle.std.proofs.lemmas.Bool.{cond-true, cond-false, le-leb, lt-ltb, le-ltb}
 use Rattle.std.proofs.lemmas.List.{append-nil}
+use Rattle.std.proofs.lemmas.List.Sums.{fold-append}
 use Rattle.std.proofs.Math.Seq.{take-nil}
 use Rattle.ps_data.specs.declared.ids.OpId.{OpId}
 use Rattle.ps_bucket_log.specs.declared.ops.Op.{Op}
@@ -24,7 +25,7 @@ use Rattle.ps_store.specs.declared.stores.Store.{Store}
 use Rattle.ps_store.specs.declared.stores.Wrote.{Wrote}
 use Rattle.ps_store.specs.declared.totals.Totals.{Totals}
 use Rattle.ps_store.specs.Generations.{is_of}
-use Rattle.ps_store.specs.Ledgers.{Ledger, force_ops, entries_after, next_ops, unwritten, write_next}
+use Rattle.ps_store.specs.Ledgers.{Ledger, fresh, ledger_after, force_ops, entries_after, next_ops, unwritten, write_next}
 use Rattle.ps_store.specs.Originals.{Timed, in_bucket}
 use Rattle.ps_store.specs.Runs.{refusal_of, run_from, stopped}
 use Rattle.ps_store.specs.Stores.{Commits, Compacts, StoreStandsFor, Writes, next_run}
@@ -138,11 +139,12 @@ wrote_so fixed play store limit wrote some few it =
     let l = ledger fixed play in
     let run = next_run fixed play.history limit in
     let count : 1 ≤ run.count = omega (arith, it.0, it.1) in
-    happened fixed play (scripts.Write limit) store (wrote_of run.count run.ledger.last) (effects.Wrote wrote.changes wrote.last_op)
-    (ap (λ (n : ℕ). wrote_of n run.ledger.last) (sym it.1) ∙ ap (wrote_of wrote.changes) (sym it.2)) tt (events.Write run.count)
+    let last = ap (λ (l : Ledger). l.last) (fold-append ledger_after (fresh fixed.rules) play.history (events.Write wrote.changes ∷ [])) in
+    happened fixed play (scripts.Write limit) store (wrote_of run.count (ledger_after l (events.Write run.count)).last) (effects.Wrote wrote.changes wrote.last_op)
+    (ap (λ (n : ℕ). wrote_of n (ledger_after l (events.Write n)).last) (sym it.1) ∙ ap (wrote_of wrote.changes) (sym (it.2 ∙ last))) tt (events.Write run.count)
     (record {
       may = counted limit some few;
-      gives = sym (cond-true (nat_le 1 run.count) (record { effect = wrote_of run.count run.ledger.last; play = happens (events.Write run.count) play })
+      gives = sym (cond-true (nat_le 1 run.count) (record { effect = wrote_of run.count (ledger_after l (events.Write run.count)).last; play = happens (events.Write run.count) play })
           (says (unwritten_effect fixed.limits l (unwritten l)) play) (le-leb 1 run.count count));
     })
     (subst (λ (n : ℕ). StoreStandsFor fixed store (play.history ++ events.Write n ∷ [])) it.1 it.4)
@@ -156,7 +158,7 @@ none_written fixed play store limit own some few none is printable stands =
     said fixed play (scripts.Write limit) store (unwritten_effect fixed.limits l (unwritten l)) own is printable
     (record {
       may = counted limit some few;
-      gives = sym (cond-false (nat_le 1 run.count) (record { effect = wrote_of run.count run.ledger.last; play = happens (events.Write run.count) play })
+      gives = sym (cond-false (nat_le 1 run.count) (record { effect = wrote_of run.count (ledger_after l (events.Write run.count)).last; play = happens (events.Write run.count) play })
           (says (unwritten_effect fixed.limits l (unwritten l)) play) (ap (nat_le 1) none));
     }) stands
 

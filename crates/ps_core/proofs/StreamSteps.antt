@@ -64,7 +64,7 @@ opened_so ask untaken fixed play name own said store old new stream body it said
     } in
     became fixed play (scripts.Open name) name store new (effects.Opened name) (effects.Opened said) (ap effects.Opened (sym said_is)) tt (opened requested play reader)
     (record { may = known play name reader it.named; gives = (reader, it.named, record { requested = requested; asks = asks; is = refl }) })
-    it.serves.stands
+    it.serves
     (record {
       asker_is = has.asker ∙ it.stands.asker_is;
       client_is = has.client ∙ ap asked it.stands.client_is;
@@ -97,7 +97,7 @@ cut_so fixed play name said store old new stream it some said_is asker client go
     let link = streams_so fixed play.history it.reader.asker old.stream stream it.reader.link some it.stands.link_is in
     became fixed play (scripts.Cut name) name store new (effects.Cut name) (effects.Cut said) (ap effects.Cut (sym said_is)) tt (cut it.reader)
     (record { may = streaming play name it.reader link.at link.session link.waiting it.named link.link_is; gives = (it.reader, it.named, refl) })
-    it.serves.stands (cut_stands fixed play name store old new it asker client gone)
+    it.serves (cut_stands fixed play name store old new it asker client gone)
 
 -- ---- a turn
 
@@ -137,7 +137,7 @@ module _ (fixed : Fixed) (play : Play) (name : List ℕ) (store : Store) (old : 
           }),
         );
       })
-      it.serves.stands
+      it.serves
       (record {
         asker_is = asker ∙ it.stands.asker_is;
         client_is = client ∙ it.stands.client_is;
@@ -167,4 +167,4 @@ module _ (fixed : Fixed) (play : Play) (name : List ℕ) (store : Store) (old : 
           }),
         );
       })
-      it.serves.stands (cut_stands fixed play name store old new it asker client gone)
+      it.serves (cut_stands fixed play name store old new it asker client gone)

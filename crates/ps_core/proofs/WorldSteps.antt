@@ -43,7 +43,7 @@ use Rattle.ps_core.proofs.Written.{tabled}
 -- ---- the parts of a world
 
 pub serves : (fixed : Fixed) (world : World) (play : Play) → WorldStandsFor fixed world play → Serves fixed world.store play
-serves fixed world play it = record { rules = it.rules; numbers = it.numbers; stands = it.stands }
+serves fixed world play it = it.stands
 
 pub left_of : (fixed : Fixed) (world : World) (play : Play) → WorldStandsFor fixed world play → IsLeft fixed play world.store world.left.items
 left_of fixed world play it = record { stands = it.stands; left_are = it.left; low = subst AreLow (sym it.left) it.low }
@@ -65,8 +65,6 @@ module _ (fixed : Fixed) (old new : World) (play : Play) (event : ScriptEvent) (
     printable = came.printable;
     stands = record {
       whole = failed ∙ it.whole;
-      rules = it.rules;
-      numbers = it.numbers;
       stands = came.stands;
       left = left;
       low = low;
@@ -180,9 +178,7 @@ acted stay fixed old new play event name own (Err WrongPhase) it failed left put
   refusal_is = acts.0;
   stands = record {
     whole = failed ∙ it.whole;
-    rules = it.rules;
-    numbers = it.numbers;
-    stands = acts.1.serves.stands;
+    stands = acts.1.serves;
     left = left ∙ it.left;
     low = it.low;
     readers = same;
@@ -260,7 +256,7 @@ pub gave : PlaysStayLed → (fixed : Fixed) (old new : World) (play : Play) (eve
     → Gave fixed play event new effect
 gave stay fixed old new play event effect it went = record {
   went = went;
-  led = λ led. stay fixed play event went.outcome it.rules it.numbers it.stands.legal went.stands.stands.legal went.comes led;
+  led = λ led. stay fixed play event went.outcome it.stands.rules it.stands.query_numbers it.stands.legal went.stands.stands.legal went.comes led;
 }
 
 pub still_world : (fixed : Fixed) (play : Play) (event : ScriptEvent) (new : World) (effect : Effect) → Went fixed play event new effect → IsWorld new

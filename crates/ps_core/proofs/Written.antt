@@ -81,7 +81,7 @@ wrote_locally fixed play name said store old new change own it some said_is own_
     client_is ∙ ap (λ (c : Change). keeping (written c (state old.client).kept) (state old.client)) own_is in
     became fixed play (scripts.Local name change) name store new (effects.Local name) (effects.Local said) (ap effects.Local (sym said_is)) tt (with_kept (written change it.reader.client.kept) it.reader)
     (record { may = may_write play name it.reader change it.named some; gives = (it.reader, it.named, refl) })
-    it.serves.stands (kept_stands fixed play.history old new it.reader (written change) it.stands asker stream client)
+    it.serves (kept_stands fixed play.history old new it.reader (written change) it.stands asker stream client)
 
 -- ---- uploads
 
@@ -116,7 +116,7 @@ module _ (fixed : Fixed) (play : Play) (name : List ℕ) (store : Store) (old : 
         may = known play name it.reader it.named;
         gives = (it.reader, it.named, sym (ap (λ (q : List Change). uploads_from q fixed.limits (ledger fixed play) name play it.reader) (queue_is [] none)));
       })
-      it.serves.stands it.stands
+      it.serves it.stands
 
   module _ (change : Change) (rest : List Change) (some : (state old.client).kept.queue ≡ change ∷ rest) where
     abbrev l : Ledger
@@ -226,7 +226,7 @@ module _ (fixed : Fixed) (play : Play) (name : List ℕ) (store : Store) (old : 
       own.2 it.stands
 
   pub number_low : (new : Store) (number : ℕ) → MakesNumber fixed play.history old.asker.user client new (Ok number) → number ≤ greatest
-  number_low new number makes = omega (arith, makes.0, makes.1, it.serves.stands.limits.numbers)
+  number_low new number makes = omega (arith, makes.0, makes.1, it.serves.limits.numbers)
 
   pub number_so : PlacesStay → (new : Store) (now : Reader) (number : ℕ) (head : Position) → MakesNumber fixed play.history old.asker.user client new (Ok number) → head.0 ≡ head_of (ledger fixed play).fed
       → now.asker ≡ old.asker → now.stream ≡ old.stream → state now.client ≡ keeping (numbered (state old.client).kept.queue number (state old.client).kept) (state old.client)

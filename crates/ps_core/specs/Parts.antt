@@ -8,7 +8,6 @@ use Rattle.ps_store.specs.declared.events.Event.{Event}
 use Rattle.ps_store.specs.declared.fixed.Fixed.{Fixed}
 use Rattle.ps_store.specs.declared.stores.Store.{Store}
 use Rattle.ps_store.specs.Stores.{StoreStandsFor}
-use Rattle.ps_streams.specs.Serving as serving
 use Rattle.ps_script.specs.declared.events.ScriptEvent.{ScriptEvent}
 use Rattle.ps_script.specs.declared.events.ScriptEvent.TheVariants as events
 use Rattle.ps_script.specs.declared.faults.ScriptFault.{ScriptFault}
@@ -27,9 +26,9 @@ use Rattle.ps_core.specs.declared.readers.Sent.{Sent}
 use Rattle.ps_core.specs.Worlds.{AreWaiting, ReaderStandsFor}
 use Rattle.ps_streams.specs.Runs.{Made}
 
--- the store stands for the play's history, under valid rules
+-- the store stands for the play's history
 abbrev pub Serves : Fixed → Store → Play → Type 0
-Serves fixed store play = serving.Serves fixed store play.history
+Serves fixed store play = StoreStandsFor fixed store play.history
 
 -- an event came: the history only grew by it, and the store stands for that
 pub record Came (fixed : Fixed) (play : Play) (event : ScriptEvent) (store : Store) (effect : Effect) (outcome : Outcome) : Type 0 where

@@ -8,7 +8,7 @@ use Rattle.ps_store.specs.declared.events.Event.{Event}
 use Rattle.ps_store.specs.declared.events.Event.TheVariants as events
 use Rattle.ps_store.specs.declared.fixed.Fixed.{Fixed}
 use Rattle.ps_store.specs.declared.fixed.Limits.{Limits}
-use Rattle.ps_store.specs.Ledgers.{Ledger, ledger_of, head_of, unwritten, entries_after, force_ops}
+use Rattle.ps_store.specs.Ledgers.{Ledger, ledger_of, ledger_after, head_of, unwritten, entries_after, force_ops}
 use Rattle.ps_store.specs.Originals.{Timed}
 use Rattle.ps_store.specs.Runs.{Run}
 use Rattle.ps_store.specs.Stores.{next_run}
@@ -57,7 +57,7 @@ unwritten_effect limits l (t ∷ ts) =
 abbrev pub written_run : Run → Limits → Ledger → Play → Outcome
 written_run run limits l play =
     if nat_le 1 run.count
-    then (record { effect = Wrote run.count (record { 0 = run.ledger.last }); play = happens (events.Write run.count) play })
+    then (record { effect = Wrote run.count (record { 0 = (ledger_after l (events.Write run.count)).last }); play = happens (events.Write run.count) play })
     else says (unwritten_effect limits l (unwritten l)) play
 
 abbrev pub writes : Fixed → ℕ → Play → Outcome

@@ -3,7 +3,6 @@ use Rattle.std.specs.Prelude.{◌≡◌, ℕ, ◌≤◌, ◌⊎◌, true, false,
 use Rattle.std.specs.BTreeMap.{get}
 use Rattle.std.specs.Cmp.Lexicographic.{slice_cmp}
 use Rattle.std.specs.Ordering.{nat_cmp}
-use Rattle.ps_definitions.specs.RuleSets.{AreRules}
 use Rattle.ps_lines.specs.declared.lines.Line.{Line}
 use Rattle.ps_lines.specs.Reading.{line_of}
 use Rattle.ps_lines.specs.Writing.{without_targets}
@@ -11,7 +10,6 @@ use Rattle.ps_client.specs.States.{state}
 use Rattle.ps_sql_eval.specs.declared.askers.Asker.{Asker}
 use Rattle.ps_store.specs.declared.events.Event.{Event}
 use Rattle.ps_store.specs.declared.fixed.Fixed.{Fixed}
-use Rattle.ps_store.specs.Laws.{HaveNumbers}
 use Rattle.ps_store.specs.Stores.{StoreStandsFor}
 use Rattle.ps_session.specs.Kept.{state_of}
 use Rattle.ps_streams.specs.Lives.{Link, Idle, Streaming}
@@ -68,11 +66,9 @@ OneStandsFor fixed history (Some own) (Some reader) = ReaderStandsFor fixed hist
 
 -- ---- a world
 
--- its store stands for the history, under valid rules; the transactions that are left are those of the play, and so are the clients
+-- its store stands for the history; the transactions that are left are those of the play, and so are the clients
 pub record WorldStandsFor (fixed : Fixed) (world : World) (play : Play) : Type 0 where
   pub whole : world.failed ≡ false
-  pub rules : AreRules fixed.rules
-  pub numbers : HaveNumbers fixed.rules.definitions
   pub stands : StoreStandsFor fixed world.store play.history
   pub left : world.left.items ≡ play.left
   pub low : AreLow play.left

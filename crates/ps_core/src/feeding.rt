@@ -15,6 +15,7 @@ use crate::effects::Effect;
 use ps_data::Memory;
 use ps_rows::Transaction;
 use ps_store::{FeedFault, Store};
+use std::alloc::Global;
 use std::collections::VecDeque;
 
 // Why a transaction may not be fed now, behind so many that were.
@@ -40,6 +41,7 @@ fn refusal(store: &Store, count: u64, next: &Transaction) -> Option<Effect>
 
 // Feeds the next transaction. Where there is none, or it may not be fed, gives the effect of all that were fed before.
 fn feed_next(
+    alloc: Global,
     store: &mut Store,
     left: &mut VecDeque<Transaction>,
     count: u64,
@@ -60,7 +62,7 @@ fn feed_next(
     }
     match left.pop_front() {
         None => unreachable!(),
-        Some(next) => match store.feed(next) {
+        Some(next) => match store.feed(alloc, next) {
             Ok(()) => Ok(None),
             Err(FeedFault::Memory) => Err(Memory),
             Err(
@@ -74,6 +76,7 @@ fn feed_next(
 
 // Feeds the next transactions, at most so many, up to the first that may not be fed.
 pub(crate) fn feed(
+    alloc: Global,
     store: &mut Store,
     left: &mut VecDeque<Transaction>,
     most: u32,
@@ -84,7 +87,7 @@ pub(crate) fn feed(
 {
     let mut count = 0;
     'transactions: while count < u64::from(most) {
-        match feed_next(store, left, count)? {
+        match feed_next(alloc, store, left, count)? {
             Some(effect) => return Ok(effect),
             None => count += 1,
         }

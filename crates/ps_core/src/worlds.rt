@@ -22,7 +22,7 @@ use ps_definitions::Rules;
 use ps_rows::{Change, Transaction};
 use ps_script::{ScriptEvent, ScriptFault};
 use ps_sql_eval::Asker;
-use ps_store::{Limits, Store, have_numbers, places_are_fronts};
+use ps_store::{Limits, Store, places_are_fronts};
 use std::alloc::Global;
 use std::collections::{BTreeMap, VecDeque};
 
@@ -72,7 +72,6 @@ impl World {
         requires { AreLow transactions.items }
         ensures { IfOk result (λ world. WorldStandsFor (record { rules = rules; limits = usual_limits }) world (first_play transactions.items)) }
     {
-        have_numbers(&rules);
         let store = Store::new(alloc, rules, Limits::usual())?;
         Ok(World {
             store,
@@ -83,7 +82,7 @@ impl World {
     }
 
     // Feeds the next transactions.
-    fn feed(&mut self, count: u32) -> Result<Effect, ScriptFault>
+    fn feed(&mut self, alloc: Global, count: u32) -> Result<Effect, ScriptFault>
         requires { (fixed : FixedSeen) × (play : Play) × WorldStandsFor fixed self.old play }
         ensures { (fixed : FixedSeen) (play : Play) → WorldStandsFor fixed self.old play → Goes fixed play (events.Feed count) self.new result }
     {
@@ -91,7 +90,7 @@ impl World {
         if count < 1 || count > MOST {
             return Err(ScriptFault::BadEvent);
         }
-        match feed(&mut self.store, &mut self.left, count) {
+        match feed(alloc, &mut self.store, &mut self.left, count) {
             Ok(effect) => Ok(effect),
             Err(Memory) => Err(ScriptFault::Memory),
         }
@@ -195,7 +194,7 @@ impl World {
         ensures { (fixed : FixedSeen) (play : Play) → WorldStandsFor fixed self.old play → Goes fixed play event.now self.new result }
     {
         match event {
-            ScriptEvent::Feed { count } => self.feed(*count),
+            ScriptEvent::Feed { count } => self.feed(alloc, *count),
             ScriptEvent::Close => Ok(self.close()),
             ScriptEvent::Write { limit } => self.write(alloc, *limit),
             ScriptEvent::Commit => Ok(self.commit()),

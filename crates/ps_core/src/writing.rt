@@ -85,7 +85,7 @@ pub(crate) fn upload(
         None => return Ok(Effect::QueueEmpty),
         Some(changes) => changes,
     };
-    let position = match store.upload(changes) {
+    let position = match store.upload(alloc, changes) {
         Ok(position) => position,
         Err(FeedFault::FeedClosed) => return Ok(Effect::Closed),
         Err(FeedFault::PositionFull { head }) => return Ok(Effect::PositionsFull { head }),

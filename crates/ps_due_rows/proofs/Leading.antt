@@ -17,16 +17,14 @@ use Rattle.ps_session.specs.Sessions.{SessionState, Turned}
 use Rattle.ps_streams.specs.Runs.{IsToldIn, made_by, at_after, turn}
 use Rattle.ps_streams.specs.Led.{LeadsOn}
 use Rattle.ps_streams.specs.Ties.{Leads}
-use Rattle.ps_definitions.specs.RuleSets.{AreRules}
-use Rattle.ps_store.specs.Laws.{HaveNumbers}
 use Rattle.ps_store.specs.Stores.{StoreStandsFor}
-use Rattle.ps_due_rows.specs.Turning.{Serves, IsLed, IsLedIn}
+use Rattle.ps_due_rows.specs.Turning.{IsLed, IsLedIn}
 
 -- ---- readings at the end of a history
 
-pub lawful_of : CoursesAreLawful → (fixed : Fixed) (store : Store) (history : List Event) (asker : Asker) → Serves fixed store history
+pub lawful_of : CoursesAreLawful → (fixed : Fixed) (store : Store) (history : List Event) (asker : Asker) → StoreStandsFor fixed store history
     → IsLawful (course_of fixed.rules history asker)
-lawful_of lawful fixed store history asker serves = lawful fixed.rules history asker serves.rules serves.numbers serves.stands.legal
+lawful_of lawful fixed store history asker serves = lawful fixed.rules history asker serves.rules serves.query_numbers serves.legal
 
 pub due_is : EndsAreWhole → (fixed : Fixed) (history : List Event) (asker : Asker)
     → (course_of fixed.rules history asker).due (length history)
@@ -48,9 +46,6 @@ turn_leads on course n session client turned lawful told is led =
     let step = on course n n n session client [] None lawful (omega arith) told led.leads in
     subst (λ (t : Turned). Leads course n n t.session client (made_by n t.line None [])) is
     (subst (λ (at : ℕ). Leads course at n (turn course n session).session client (made_by at (turn course n session).line None [])) (at_end session.phase n) step)
-
-pub serves_by : (fixed : Fixed) (store : Store) (history : List Event) → StoreStandsFor fixed store history → AreRules fixed.rules → HaveNumbers fixed.rules.definitions → Serves fixed store history
-serves_by fixed store history stands rules numbers = record { stands = stands; rules = rules; numbers = numbers }
 
 -- ---- askers
 

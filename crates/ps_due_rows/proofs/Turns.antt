@@ -15,6 +15,7 @@ use Rattle.ps_store.specs.declared.readings.TakeFault.TheVariants.{TooManyBucket
 use Rattle.ps_store.specs.declared.stores.Store.{Store}
 use Rattle.ps_store.specs.Courses.{Course, course_of}
 use Rattle.ps_store.specs.CourseLaws.{IsLawful, CoursesAreLawful}
+use Rattle.ps_store.specs.Stores.{StoreStandsFor}
 use Rattle.ps_session.specs.declared.actions.Action.TheVariants.{Read}
 use Rattle.ps_session.specs.declared.phases.Phase.{Phase}
 use Rattle.ps_session.specs.declared.phases.Phase.TheVariants.{Start, Download, Void, Done}
@@ -28,7 +29,7 @@ use Rattle.ps_streams.specs.Led.{EmptyAreHonest, LeadsFirst, LeadsOn}
 use Rattle.ps_streams.specs.Runs.{download, made_by, turn, turn_in}
 use Rattle.ps_streams.specs.Ties.{HasTaken, Leads}
 use Rattle.ps_streams.specs.Turning.{IsUnderWay, TurnsSo, line_in, takes_in}
-use Rattle.ps_due_rows.specs.Turning.{Begins, Serves, IsLed, IsLedIn, IsIdle, TurnsLed}
+use Rattle.ps_due_rows.specs.Turning.{Begins, IsLed, IsLedIn, IsIdle, TurnsLed}
 use Rattle.ps_due_rows.proofs.Leading.{at_end, lawful_of, turn_leads}
 
 -- ---- the beginning
@@ -64,7 +65,7 @@ module _ (fixed : Fixed) (history : List Event) (asker : Asker) (before now : Se
 
   module _ (outcome : TurnOutcome) (it : TurnsSo fixed history asker n before now (Ok outcome)) where
     -- its line leads the client on
-    pub turn_leads_on : LeadsOn → CoursesAreLawful → (store : Store) (client : PlainClient) → Serves fixed store history → IsLedIn fixed history asker before client
+    pub turn_leads_on : LeadsOn → CoursesAreLawful → (store : Store) (client : PlainClient) → StoreStandsFor fixed store history → IsLedIn fixed history asker before client
         → (line : Option Line) → line ≡ line_in outcome → Leads course n n now client (made_by n line None [])
     turn_leads_on on lawful store client serves led line line_is =
         subst (λ (s : SessionState). Leads course n n s client (made_by n line None [])) (sym it.session_is)

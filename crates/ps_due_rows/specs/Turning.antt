@@ -11,7 +11,6 @@ use Rattle.ps_store.specs.Ledgers.{ledger_of}
 use Rattle.ps_store.specs.Readings.{names_of, AreTooMany}
 use Rattle.ps_store.specs.Courses.{Course, course_of}
 use Rattle.ps_session.specs.Sessions.{SessionState}
-pub use Rattle.ps_streams.specs.Serving.{Serves}
 use Rattle.ps_streams.specs.Runs.{turn}
 use Rattle.ps_streams.specs.Ties.{Leads, HasTaken}
 use Rattle.ps_streams.specs.Turning.{takes_in}

@@ -1,18 +1,16 @@
 //! A whole checkpoint into a client.
 
 ghost use Rattle.std.specs.Prelude.{◌≡◌, List, length, IfOk};
-ghost use Rattle.ps_definitions.specs.RuleSets.{AreRules};
 ghost use Rattle.ps_sql_eval.specs.Evaluated.{asker_of};
 ghost use Rattle.ps_store.specs.declared.events.Event.{Event as EventSeen};
 ghost use Rattle.ps_store.specs.declared.fixed.Fixed.{Fixed as FixedSeen};
-ghost use Rattle.ps_store.specs.Laws.{HaveNumbers};
 ghost use Rattle.ps_store.specs.Stores.{StoreStandsFor};
 ghost use Rattle.ps_client.specs.States.{state};
 ghost use Rattle.ps_store.specs.Courses.{course_of};
 ghost use Rattle.ps_session.specs.Kept.{state_of};
 ghost use Rattle.ps_session.specs.declared.phases.Phase.TheVariants.{Start, Download};
 ghost use Rattle.ps_due_rows.specs.Syncing.{Syncs};
-ghost use Rattle.ps_due_rows.specs.Turning.{Serves, IsLedIn, IsIdle};
+ghost use Rattle.ps_due_rows.specs.Turning.{IsLedIn, IsIdle};
 
 use crate::starting::{begin_client, open_session};
 use crate::turning::{complete, download, take};
@@ -34,9 +32,9 @@ fn applied_rows(
 ) -> Result<Items<Shown>, Memory>
     requires phase { (state_of session.old).phase ≡ Download }
     requires idle { IsIdle (state client.old) }
-    requires led { (fixed : FixedSeen) × (history : List EventSeen) × Serves fixed store.now history
+    requires led { (fixed : FixedSeen) × (history : List EventSeen) × StoreStandsFor fixed store.now history
         × IsLedIn fixed history (asker_of session.old.asker) (state_of session.old) (state client.old) }
-    ensures { IfOk result (λ rows. (fixed : FixedSeen) (history : List EventSeen) → Serves fixed store.now history
+    ensures { IfOk result (λ rows. (fixed : FixedSeen) (history : List EventSeen) → StoreStandsFor fixed store.now history
         → IsLedIn fixed history (asker_of session.old.asker) (state_of session.old) (state client.old)
         → rows ≡ (course_of fixed.rules history (asker_of session.old.asker)).due (length history)) }
 {
@@ -55,9 +53,9 @@ fn rows_of(
 ) -> Result<Items<Shown>, TakeFault>
     requires phase { (state_of session.old).phase ≡ Start }
     requires idle { IsIdle (state client.old) }
-    requires led { (fixed : FixedSeen) × (history : List EventSeen) × Serves fixed store.now history
+    requires led { (fixed : FixedSeen) × (history : List EventSeen) × StoreStandsFor fixed store.now history
         × IsLedIn fixed history (asker_of session.old.asker) (state_of session.old) (state client.old) }
-    ensures { (fixed : FixedSeen) (history : List EventSeen) → Serves fixed store.now history
+    ensures { (fixed : FixedSeen) (history : List EventSeen) → StoreStandsFor fixed store.now history
         → IsLedIn fixed history (asker_of session.old.asker) (state_of session.old) (state client.old) → Syncs fixed history (asker_of session.old.asker) result }
 {
     places_are_fronts();
@@ -69,8 +67,8 @@ fn rows_of(
 /// its bytes and read from them: exactly those that are due to the asker at the checkpoint's position. `TooManyBuckets`
 /// exactly where the asker has more buckets than the limit; else there may be want of memory.
 pub fn synced_rows(alloc: Global, store: &Store, asker: Asker) -> Result<Items<Shown>, TakeFault>
-    requires { (fixed : FixedSeen) × (history : List EventSeen) × StoreStandsFor fixed store.now history × AreRules fixed.rules × HaveNumbers fixed.rules.definitions }
-    ensures { (fixed : FixedSeen) (history : List EventSeen) → StoreStandsFor fixed store.now history → AreRules fixed.rules → HaveNumbers fixed.rules.definitions
+    requires { (fixed : FixedSeen) × (history : List EventSeen) × StoreStandsFor fixed store.now history }
+    ensures { (fixed : FixedSeen) (history : List EventSeen) → StoreStandsFor fixed store.now history
         → Syncs fixed history (asker_of asker) result }
 {
     courses_are_lawful();

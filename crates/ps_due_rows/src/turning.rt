@@ -7,13 +7,14 @@ ghost use Rattle.ps_client.specs.States.{state};
 ghost use Rattle.ps_store.specs.declared.events.Event.{Event as EventSeen};
 ghost use Rattle.ps_store.specs.declared.fixed.Fixed.{Fixed as FixedSeen};
 ghost use Rattle.ps_store.specs.Courses.{course_of};
+ghost use Rattle.ps_store.specs.Stores.{StoreStandsFor};
 ghost use Rattle.ps_session.specs.declared.actions.Action.TheVariants as actions;
 ghost use Rattle.ps_session.specs.declared.phases.Phase.TheVariants.{Start, Download};
 ghost use Rattle.ps_session.specs.Kept.{state_of};
 ghost use Rattle.ps_session.specs.Sessions.{IsReading, next_action};
 ghost use Rattle.ps_streams.specs.Downloads.{left};
 ghost use Rattle.ps_streams.specs.Headline.{AreListed};
-ghost use Rattle.ps_due_rows.specs.Turning.{Serves, IsLedIn, IsIdle, Begins, TurnsLed};
+ghost use Rattle.ps_due_rows.specs.Turning.{IsLedIn, IsIdle, Begins, TurnsLed};
 
 use crate::handing::{hand, pass};
 use ps_client::Client;
@@ -31,9 +32,9 @@ fn turn(
     session: &mut Session,
     client: &mut Client<VolatileKeeper>,
 ) -> Result<(), TakeFault>
-    requires { (fixed : FixedSeen) × (history : List EventSeen) × Serves fixed store.now history
+    requires { (fixed : FixedSeen) × (history : List EventSeen) × StoreStandsFor fixed store.now history
         × IsLedIn fixed history (asker_of session.old.asker) (state_of session.old) (state client.old) }
-    ensures led { (fixed : FixedSeen) (history : List EventSeen) → Serves fixed store.now history
+    ensures led { (fixed : FixedSeen) (history : List EventSeen) → StoreStandsFor fixed store.now history
         → IsLedIn fixed history (asker_of session.old.asker) (state_of session.old) (state client.old)
         → TurnsLed fixed history (asker_of session.old.asker) (state_of session.old) (state_of session.new) (state client.new) result }
     ensures idle { OnOk result (IsIdle (state client.old) → IsIdle (state client.new)) }
@@ -56,9 +57,9 @@ pub fn take(
     client: &mut Client<VolatileKeeper>,
 ) -> Result<(), TakeFault>
     requires phase { (state_of session.old).phase ≡ Start }
-    requires led { (fixed : FixedSeen) × (history : List EventSeen) × Serves fixed store.now history
+    requires led { (fixed : FixedSeen) × (history : List EventSeen) × StoreStandsFor fixed store.now history
         × IsLedIn fixed history (asker_of session.old.asker) (state_of session.old) (state client.old) }
-    ensures begins { (fixed : FixedSeen) (history : List EventSeen) → Serves fixed store.now history
+    ensures begins { (fixed : FixedSeen) (history : List EventSeen) → StoreStandsFor fixed store.now history
         → IsLedIn fixed history (asker_of session.old.asker) (state_of session.old) (state client.old)
         → Begins fixed history (asker_of session.old.asker) (state_of session.new) (state client.new) result }
     ensures phase { OnOk result ((state_of session.new).phase ≡ Download) }
@@ -76,9 +77,9 @@ fn read_on(
     client: &mut Client<VolatileKeeper>,
 ) -> Result<(), Memory>
     requires action { IsReading (next_action (state_of session.old)) }
-    requires led { (fixed : FixedSeen) × (history : List EventSeen) × Serves fixed store.now history
+    requires led { (fixed : FixedSeen) × (history : List EventSeen) × StoreStandsFor fixed store.now history
         × IsLedIn fixed history (asker_of session.old.asker) (state_of session.old) (state client.old) }
-    ensures led { OnOk result ((fixed : FixedSeen) (history : List EventSeen) → Serves fixed store.now history
+    ensures led { OnOk result ((fixed : FixedSeen) (history : List EventSeen) → StoreStandsFor fixed store.now history
         → IsLedIn fixed history (asker_of session.old.asker) (state_of session.old) (state client.old)
         → IsLedIn fixed history (asker_of session.old.asker) (state_of session.new) (state client.new)) }
     ensures phase { OnOk result ((state_of session.new).phase ≡ Download) }
@@ -103,9 +104,9 @@ pub fn download(
     client: &mut Client<VolatileKeeper>,
 ) -> Result<(), Memory>
     requires phase { (state_of session.old).phase ≡ Download }
-    requires led { (fixed : FixedSeen) × (history : List EventSeen) × Serves fixed store.now history
+    requires led { (fixed : FixedSeen) × (history : List EventSeen) × StoreStandsFor fixed store.now history
         × IsLedIn fixed history (asker_of session.old.asker) (state_of session.old) (state client.old) }
-    ensures led { OnOk result ((fixed : FixedSeen) (history : List EventSeen) → Serves fixed store.now history
+    ensures led { OnOk result ((fixed : FixedSeen) (history : List EventSeen) → StoreStandsFor fixed store.now history
         → IsLedIn fixed history (asker_of session.old.asker) (state_of session.old) (state client.old)
         → IsLedIn fixed history (asker_of session.old.asker) (state_of session.new) (state client.new)) }
     ensures sent { OnOk result (next_action (state_of session.new) ≡ actions.Complete) }
@@ -130,9 +131,9 @@ pub fn complete(
 ) -> Result<(), Memory>
     requires action { next_action (state_of session.old) ≡ actions.Complete }
     requires idle { IsIdle (state client.old) }
-    requires led { (fixed : FixedSeen) × (history : List EventSeen) × Serves fixed store.now history
+    requires led { (fixed : FixedSeen) × (history : List EventSeen) × StoreStandsFor fixed store.now history
         × IsLedIn fixed history (asker_of session.old.asker) (state_of session.old) (state client.old) }
-    ensures { OnOk result ((fixed : FixedSeen) (history : List EventSeen) (rows : List ShownSeen) → Serves fixed store.now history
+    ensures { OnOk result ((fixed : FixedSeen) (history : List EventSeen) (rows : List ShownSeen) → StoreStandsFor fixed store.now history
         → IsLedIn fixed history (asker_of session.old.asker) (state_of session.old) (state client.old)
         → AreListed (state client.new).kept.shown rows → rows ≡ (course_of fixed.rules history (asker_of session.old.asker)).due (length history)) }
 {

@@ -28,7 +28,7 @@ use Rattle.ps_files.specs.declared.faults.Limit.TheVariants.{Entries, Operations
 use Rattle.ps_files.specs.declared.faults.LineFault.TheVariants.{NotRising}
 use Rattle.ps_script.specs.Lines.{lines_of, is_blank}
 use Rattle.ps_files.specs.ChangeFiles.{rising, passed_by, first_passed, first_of, unless_passed, within_limits, accepted, transactions_from, transactions_of, ◌>>=◌}
-use Rattle.ps_files.specs.ReadingChanges.{usual, IsPlain, IsPending, HasCommitted, HasWritten, WritesSome, WritesAll, TakesLine, Writes, ReadsRising, AreValid, lines_left, bytes_left}
+use Rattle.ps_files.specs.ReadingChanges.{usual, IsPlain, IsPending, HasCommitted, HasWritten, WritesSome, WritesAll, TakesLine, Writes, ReadsRising, lines_left, bytes_left}
 use Rattle.ps_files.specs.Committing.{writes, committing, history_of}
 use Rattle.ps_files.proofs.Committing.{writes_more, history_more}
 use Rattle.ps_files.proofs.Pending.{drop_drop, take_on, length_take, length_drop, drop_front, take_front, Knows, passes_entries, passes_ops, run_passes, run_whole, passed_later, ledger_more, could_come, Follows, written_on, known}
@@ -96,7 +96,6 @@ module _ (rules : RuleSet) (done : List Transaction) (old : Store) (h : HasCommi
       let at : now.position ≡ last_position 0 done = ap (λ (l : Ledger). l.position) next ∙ h.position in
       let front : take now.written (timed now.fed) ≡ timed done = ap (λ n. take n (timed now.fed)) written ∙ ap (λ (us : List Timed). take (length (timed done)) us) all ∙ take_front (timed done) (timed_of t) in
       record {
-        valid = h.valid;
         history = h.history ++ Feed t ∷ [];
         stands = stands;
         fed = fed;
@@ -187,7 +186,6 @@ module _ (law : LedgersTellHistories) (one : LedgersTellOneGeneration) (rules : 
         some,
         omega (arith, many, h.left_are),
         record {
-          valid = h.valid;
           history = h.history ++ Write n ∷ [];
           stands = stands;
           fed = fed ∙ h.fed;
@@ -222,7 +220,6 @@ module _ (law : LedgersTellHistories) (one : LedgersTellOneGeneration) (rules : 
   committed new none stands =
       let next : ledger_of rules (h.history ++ Commit ∷ []) ≡ ledger_after l Commit = ledger_more rules h.history Commit in
       record {
-        valid = h.valid;
         history = h.history ++ Commit ∷ [];
         stands = stands;
         fed = ap (λ (x : Ledger). x.fed) next ∙ h.fed;
@@ -328,11 +325,11 @@ pub fewer : (bytes line : List ℕ) (rest : Option (Bor (List ℕ))) → SplitsL
 fewer bytes line None h = omega arith
 fewer bytes line (Some r) h = omega (arith, h.1)
 
-pub started : (rules : RuleSet) (changes : Bor (List ℕ)) (store : Store) → AreValid rules → StoreStandsFor (usual rules) store [] → HasWritten rules changes.now 0 (Some changes) store
+pub started : (rules : RuleSet) (changes : Bor (List ℕ)) (store : Store) → StoreStandsFor (usual rules) store [] → HasWritten rules changes.now 0 (Some changes) store
 unfolding transactions_of
-started rules changes store valid stands = record {
+started rules changes store stands = record {
   done = [];
-  committed = record { valid = valid; history = []; stands = stands; fed = refl; feed_open = refl; plain = λ bucket. refl; written = refl; position = refl; events = refl };
+  committed = record { history = []; stands = stands; fed = refl; feed_open = refl; plain = λ bucket. refl; written = refl; position = refl; events = refl };
   meaning = refl;
   counted = omega arith;
 }

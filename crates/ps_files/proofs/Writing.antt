@@ -10,7 +10,7 @@ use Rattle.ps_files.specs.declared.faults.Fault.{Fault}
 use Rattle.ps_files.specs.declared.faults.Fault.TheVariants.{Usage, Rules, Change, PastLimit, TooManyBuckets, Claims, Keys, TooLong, CannotRead, CannotWrite, Script, Memory}
 use Rattle.ps_files.specs.declared.faults.Limit.{Limit}
 use Rattle.ps_files.specs.ChangeFiles.{CanBeFed, admitted, unless_passed, within_limits, ◌>>=◌}
-use Rattle.ps_files.specs.ReadingChanges.{AreValid, usual, HasCommitted, TakesLine, Writes}
+use Rattle.ps_files.specs.ReadingChanges.{usual, HasCommitted, TakesLine, Writes}
 use Rattle.ps_files.proofs.Reaching.{last_more}
 
 pub record IsWriting (rules : RuleSet) (made left : List Transaction) (store : Store) : Type 0 where
@@ -19,10 +19,10 @@ pub record IsWriting (rules : RuleSet) (made left : List Transaction) (store : S
   pub meaning : admitted rules.definitions [] made ≡ admitted rules.definitions done left
   pub can_be_fed : CanBeFed (last_position 0 done) left
 
-pub writing_starts : (rules : RuleSet) (made left : List Transaction) (store : Store) → AreValid rules → left ≡ made → CanBeFed 0 made → StoreStandsFor (usual rules) store [] → IsWriting rules made left store
-writing_starts rules made left store valid is can stands = record {
+pub writing_starts : (rules : RuleSet) (made left : List Transaction) (store : Store) → left ≡ made → CanBeFed 0 made → StoreStandsFor (usual rules) store [] → IsWriting rules made left store
+writing_starts rules made left store is can stands = record {
   done = [];
-  committed = record { valid = valid; history = []; stands = stands; fed = refl; feed_open = refl; plain = λ bucket. refl; written = refl; position = refl; events = refl };
+  committed = record { history = []; stands = stands; fed = refl; feed_open = refl; plain = λ bucket. refl; written = refl; position = refl; events = refl };
   meaning = ap (admitted rules.definitions []) (sym is);
   can_be_fed = subst (CanBeFed 0) (sym is) can;
 }

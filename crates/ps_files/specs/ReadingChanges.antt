@@ -2,12 +2,12 @@
 use Rattle.std.specs.Prelude.{◌≡◌, ℕ, ◌+◌, ◌-◌, ◌<◌, ◌≤◌, false, List, [], ◌∷◌, Option, Some, None, Result, Ok, Err, ◌++◌, length, take}
 use Rattle.std.specs.Borrow.{Bor}
 use Rattle.ps_rows.specs.declared.changes.Transaction.{Transaction}
-use Rattle.ps_definitions.specs.RuleSets.{RuleSet, AreRules}
+use Rattle.ps_definitions.specs.RuleSets.{RuleSet}
 use Rattle.ps_store.specs.declared.events.Event.{Event}
 use Rattle.ps_store.specs.declared.events.Event.TheVariants.{Commit}
 use Rattle.ps_store.specs.declared.fixed.Fixed.{Fixed}
 use Rattle.ps_store.specs.declared.stores.Store.{Store}
-use Rattle.ps_store.specs.Laws.{last_position, HaveNumbers}
+use Rattle.ps_store.specs.Laws.{last_position}
 use Rattle.ps_store.specs.Ledgers.{Ledger, unwritten, ledger_of}
 use Rattle.ps_store.specs.Limits.{usual_limits}
 use Rattle.ps_store.specs.Originals.{timed, in_bucket}
@@ -25,19 +25,13 @@ use Rattle.ps_files.specs.Committing.{writes, history_of}
 abbrev pub IsPlain : Ledger → Type 0
 IsPlain l = (bucket : List ℕ) → l.log bucket ≡ in_bucket bucket l.entered
 
--- what each rule set keeps, and that its numbers have 32 bits
-pub record AreValid (rules : RuleSet) : Type 0 where
-  pub are : AreRules rules
-  pub numbers : HaveNumbers rules.definitions
-
 -- rules under the usual limits
 abbrev pub usual : RuleSet → Fixed
 usual rules = record { rules = rules; limits = usual_limits }
 
--- under valid rules the transactions are fed, so many of their changes are not written, and the first of these that passes a limit passes this one; where none
+-- the transactions are fed, so many of their changes are not written, and the first of these that passes a limit passes this one; where none
 -- does, the writes of these and a commit are left of the transactions' history
 pub record IsPending (rules : RuleSet) (transactions : List Transaction) (left : ℕ) (passed : Option Limit) (store : Store) : Type 0 where
-  pub valid : AreValid rules
   pub history : List Event
   pub stands : StoreStandsFor (usual rules) store history
   pub fed : (ledger_of rules history).fed ≡ transactions
@@ -48,10 +42,9 @@ pub record IsPending (rules : RuleSet) (transactions : List Transaction) (left :
   pub behind : (ledger_of rules history).position < last_position 0 transactions
   pub events : passed ≡ None → history ++ (writes left ++ Commit ∷ []) ≡ history_of transactions
 
--- under valid rules each of the transactions is fed, written in batches and committed before the next: all changes are written, and the last position is the
+-- each of the transactions is fed, written in batches and committed before the next: all changes are written, and the last position is the
 -- checkpoint's
 pub record HasCommitted (rules : RuleSet) (transactions : List Transaction) (store : Store) : Type 0 where
-  pub valid : AreValid rules
   pub history : List Event
   pub stands : StoreStandsFor (usual rules) store history
   pub fed : (ledger_of rules history).fed ≡ transactions

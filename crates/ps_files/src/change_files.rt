@@ -17,8 +17,7 @@ use ps_definitions::Rules;
 use ps_rows::Transaction;
 use ps_script::{is_blank, split_line};
 use ps_store::{
-    FeedFault, Limits, NothingToCommit, Store, WriteFault, have_numbers, ledgers_tell_histories,
-    ledgers_tell_ops,
+    FeedFault, Limits, NothingToCommit, Store, WriteFault, ledgers_tell_histories, ledgers_tell_ops,
 };
 use std::alloc::Global;
 
@@ -33,7 +32,6 @@ pub fn write_changes<'a>(alloc: Global, rules: Rules, changes: &[u8]) -> Result<
     requires { length changes.now < 2 ^ 63 }
     ensures { Writes rules (transactions_of rules changes.now) result }
 {
-    have_numbers(&rules);
     let mut store = Store::new(alloc, rules, Limits::usual())?;
     let mut reader = LineReader::new(alloc);
     let mut number = 0u64;
@@ -82,20 +80,20 @@ pub fn write_transaction<'a>(
     ledgers_tell_histories();
     ledgers_tell_ops();
     let changes = transaction.changes.len();
-    feed(store, transaction)?;
+    feed(alloc, store, transaction)?;
     write_fed(alloc, store, changes)?;
     commit(store);
     Ok(())
 }
 
 // Feeds a transaction past the last one.
-fn feed(store: &mut Store, transaction: Transaction) -> Result<(), Memory>
+fn feed(alloc: Global, store: &mut Store, transaction: Transaction) -> Result<(), Memory>
     requires position { transaction.position.0 ≤ greatest }
     requires committed { (rules : RuleSet) × (done : List TransactionData) × HasCommitted rules done store.old × (last_position 0 done < transaction.position.0) }
     ensures { OnOk result ((rules : RuleSet) (done : List TransactionData) → HasCommitted rules done store.old → last_position 0 done < transaction.position.0
         → IsPending rules (done ++ transaction ∷ []) (length transaction.changes) (first_passed rules.definitions (timed done) (timed_of transaction)) store.new) }
 {
-    match store.feed(transaction) {
+    match store.feed(alloc, transaction) {
         Ok(()) => Ok(()),
         Err(FeedFault::Memory) => Err(Memory),
         Err(FeedFault::FeedClosed) => unreachable!(),
@@ -199,7 +197,6 @@ pub(crate) fn write_transactions<'a>(
     requires { CanBeFed 0 made }
     ensures { Writes rules (admitted rules.definitions [] made) result }
 {
-    have_numbers(&rules);
     let mut store = Store::new(alloc, rules, Limits::usual())?;
     'made: for transaction in made.into_vec() {
         write_transaction(alloc, &mut store, transaction)?;

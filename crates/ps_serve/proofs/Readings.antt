@@ -13,6 +13,7 @@ use Rattle.ps_store.specs.Ledgers.{Ledger, ledger_of}
 use Rattle.ps_store.specs.Readings.{AreTold, take_of, taken_names}
 use Rattle.ps_store.specs.Courses.{Course, course_of}
 use Rattle.ps_store.specs.CourseLaws.{IsLawful, CoursesAreLawful, EndsAreWhole}
+use Rattle.ps_store.specs.Stores.{StoreStandsFor}
 use Rattle.ps_session.specs.declared.actions.Action.{Action}
 use Rattle.ps_session.specs.declared.actions.Action.TheVariants.{Take, Read, Complete, Wait}
 use Rattle.ps_session.specs.declared.phases.Phase.{Phase}
@@ -23,7 +24,7 @@ use Rattle.ps_streams.specs.declared.outcomes.TurnOutcome.{TurnOutcome}
 use Rattle.ps_streams.specs.Runs.{IsToldAt, IsToldIn, turn}
 use Rattle.ps_streams.specs.Ties.{HasTaken}
 use Rattle.ps_streams.specs.Turning.{IsUnderWay, TurnsSo, line_in, takes_in}
-use Rattle.ps_serve.specs.Runs.{Serves, Takes, TurnsTo}
+use Rattle.ps_serve.specs.Runs.{Takes, TurnsTo}
 use Rattle.ps_serve.specs.Turning.{IsHere, course_for}
 
 -- ---- phases
@@ -49,9 +50,9 @@ completing_downloads session action = by session.phase refl action
 
 -- ---- turns
 
-pub lawful_of : CoursesAreLawful → (fixed : Fixed) (store : Store) (history : List Event) (asker : Asker) → Serves fixed store history
+pub lawful_of : CoursesAreLawful → (fixed : Fixed) (store : Store) (history : List Event) (asker : Asker) → StoreStandsFor fixed store history
     → IsLawful (course_of fixed.rules history asker)
-lawful_of lawful fixed store history asker serves = lawful fixed.rules history asker serves.rules serves.numbers serves.stands.legal
+lawful_of lawful fixed store history asker serves = lawful fixed.rules history asker serves.rules serves.query_numbers serves.legal
 
 pub under_way_here : (fixed : Fixed) (history : List Event) (session : Kept) → IsHere fixed history session
     → IsUnderWay (course_for fixed history session) (length history) (length history) (state_of session)

@@ -18,24 +18,20 @@ use Rattle.ps_serve.specs.declared.asked.Asked.TheVariants as asked
 use Rattle.ps_serve.specs.declared.ends.End.{End}
 use Rattle.ps_serve.specs.declared.refusals.Refusal.{Refusal}
 use Rattle.ps_serve.specs.Alone.{DoesSo}
-use Rattle.ps_serve.specs.Runs.{Serves}
 
 -- the store stands for the history and at most one event more
 abbrev pub ServesOn : Fixed → List Event → Store → Type 0
-ServesOn fixed history store = (events : List Event) × (length events ≤ 1) × Serves fixed store (history ++ events)
+ServesOn fixed history store = (events : List Event) × (length events ≤ 1) × StoreStandsFor fixed store (history ++ events)
 
-module _ (fixed : Fixed) (history : List Event) (old : Store) (serves : Serves fixed old history) where
-  on : (store : Store) (events : List Event) → StoreStandsFor fixed store (history ++ events) → Serves fixed store (history ++ events)
-  on store events stands = record { stands = stands; rules = serves.rules; numbers = serves.numbers }
-
+module _ (fixed : Fixed) (history : List Event) (old : Store) (serves : StoreStandsFor fixed old history) where
   none : (store : Store) → StoreStandsFor fixed store history → ServesOn fixed history store
-  none store stands = ([], omega arith, on store [] (subst (λ (events : List Event). StoreStandsFor fixed store events) (sym (append-nil history)) stands))
+  none store stands = ([], omega arith, subst (λ (events : List Event). StoreStandsFor fixed store events) (sym (append-nil history)) stands)
 
   one : (store : Store) (event : Event) → StoreStandsFor fixed store (history ++ event ∷ []) → ServesOn fixed history store
-  one store event stands = (event ∷ [], omega arith, on store (event ∷ []) stands)
+  one store event stands = (event ∷ [], omega arith, stands)
 
   same : (store : Store) → store ≡ old → ServesOn fixed history store
-  same store is = none store (subst (λ (s : Store). StoreStandsFor fixed s history) (sym is) serves.stands)
+  same store is = none store (subst (λ (s : Store). StoreStandsFor fixed s history) (sym is) serves)
 
   number_serves : (user client : List ℕ) (store : Store) (made : Result ℕ NumberFault) → MakesNumber fixed history user client store made → ServesOn fixed history store
   number_serves user client store (Ok number) makes = one store (WriteCheckpoint user client) makes.2

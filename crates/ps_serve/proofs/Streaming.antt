@@ -12,6 +12,7 @@ use Rattle.ps_store.specs.Courses.{Course, course_of}
 use Rattle.ps_store.specs.CourseLaws.{CoursesAreLawful, EndsAreWhole}
 use Rattle.ps_store.specs.Ledgers.{ledger_of}
 use Rattle.ps_store.specs.Readings.{AreTold, take_of, taken_names}
+use Rattle.ps_store.specs.Stores.{StoreStandsFor}
 use Rattle.ps_session.specs.declared.actions.Action.{Action}
 use Rattle.ps_session.specs.declared.phases.Phase.{Phase}
 use Rattle.ps_session.specs.declared.phases.Phase.TheVariants.{Start, Download}
@@ -23,7 +24,7 @@ use Rattle.ps_streams.specs.Runs.{IsToldIn, turn, turn_in}
 use Rattle.ps_session.specs.Sessions.{SessionState, Turned, begin, next_action, requested_in}
 use Rattle.ps_streams.specs.Ties.{HasTaken}
 use Rattle.ps_serve.specs.declared.ends.End.{End}
-use Rattle.ps_serve.specs.Runs.{Serves, IsSending, IsRun, IsStreaming, HasStreamed, HasStreamedFront, SendsSo, StreamsOn, list_of, lines_text}
+use Rattle.ps_serve.specs.Runs.{IsSending, IsRun, IsStreaming, HasStreamed, HasStreamedFront, SendsSo, StreamsOn, list_of, lines_text}
 use Rattle.ps_serve.specs.Turning.{course_for, turn_for, IsHere, IsStreamingFor}
 use Rattle.ps_serve.proofs.Falling.{GoesOn, turn_goes_on}
 use Rattle.ps_serve.proofs.Readings.{lawful_of, told_at_end, untaken}
@@ -31,7 +32,7 @@ use Rattle.ps_serve.proofs.Running.{run_begins, run_on, taken_on, streamed_on, e
 
 -- ---- one turn more
 
-pub goes_on : ReadsSendOn → CoursesAreLawful → (fixed : Fixed) (store : Store) (history : List Event) (session now : Kept) → Serves fixed store history → IsHere fixed history session
+pub goes_on : ReadsSendOn → CoursesAreLawful → (fixed : Fixed) (store : Store) (history : List Event) (session now : Kept) → StoreStandsFor fixed store history → IsHere fixed history session
     → (state_of session).phase ≡ Download → state_of now ≡ (turn_for fixed history session).session → GoesOn (state_of session) (state_of now)
 goes_on falls lawful fixed store history session now serves here phase now_is =
     subst (λ (s : SessionState). GoesOn (state_of session) s) (sym now_is)
@@ -63,7 +64,7 @@ module _ (fixed : Fixed) (history : List Event) (session : Kept) (own : Asker) (
 
   pub ends_next : RunsGoOn → RunsClimbOn → ReadsSendOn → CoursesAreLawful → (may_give : ℕ → Type 0) (exp : ℕ) (positions : List Known) (done : List Line) (old between new : Option (List ℕ)) (first before now : ℕ)
       (store : Store) (action : Action) (end : End)
-      → first ≤ before → Serves fixed store history → HasTaken own_course (length history) (state_of session)
+      → first ≤ before → StoreStandsFor fixed store history → HasTaken own_course (length history) (state_of session)
       → (state_of session).phase ≡ Download → next_action (state_of session) ≡ action → HasStreamed own_course (length history) positions [] done old between (state_of session)
       → SendsSo action may_give exp fixed history (asker_of session.asker) (turn_for fixed history session).line between new before now (Err end)
       → StreamsOn may_give exp fixed history (asker_of own) positions [] done old new first now end

@@ -19,7 +19,6 @@ use Rattle.ps_session.specs.declared.actions.Action.TheVariants.{Take}
 use Rattle.ps_session.specs.declared.phases.Phase.{Phase}
 use Rattle.ps_session.specs.declared.phases.Phase.TheVariants.{Start, Download, Void, Done}
 use Rattle.ps_session.specs.Sessions.{SessionState, Turned, IsDrained, begin, requested_in}
-pub use Rattle.ps_streams.specs.Serving.{Serves}
 use Rattle.ps_streams.specs.Runs.{Made, Turn, IsToldIn, all_made, reached, turn, AreToldIn, Climbs}
 use Rattle.ps_streams.specs.Ties.{HasTaken}
 use Rattle.ps_streams.specs.Turning.{takes_in}

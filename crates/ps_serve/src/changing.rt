@@ -78,7 +78,7 @@ pub fn answer_upload<K: Sink>(
     ensures faults { K.faults to.old ≤ K.faults to.new }
     ensures number { K.number to.new ≡ K.number to.old }
 {
-    match store.upload(changes) {
+    match store.upload(alloc, changes) {
         Ok(position) => tell_position(alloc, position, to),
         Err(FeedFault::FeedClosed) => refuse(alloc, Refusal::Conflict, to),
         Err(FeedFault::NotRising { .. }) => unreachable!(),

@@ -28,18 +28,18 @@ pub(crate) fn write(
         → Writes fixed (fed ++ transaction ∷ []) store.new result }
 {
     let changes = transaction.changes.len();
-    feed(store, transaction)?;
+    feed(alloc, store, transaction)?;
     write_fed(alloc, store, changes)
 }
 
 // Feeds a transaction whose position is past the head.
-fn feed(store: &mut Store, transaction: Transaction) -> Result<(), Memory>
+fn feed(alloc: Global, store: &mut Store, transaction: Transaction) -> Result<(), Memory>
     requires position { transaction.position.0 ≤ greatest }
     requires written { (fixed : Fixed) × (fed : List TransactionSeen) × IsPending fixed fed 0 store.old × (head_of fed < transaction.position.0) }
     ensures { OnOk result ((fixed : Fixed) (fed : List TransactionSeen) → IsPending fixed fed 0 store.old → head_of fed < transaction.position.0
         → IsPending fixed (fed ++ transaction ∷ []) (length transaction.changes) store.new) }
 {
-    match store.feed(transaction) {
+    match store.feed(alloc, transaction) {
         Ok(()) => Ok(()),
         Err(FeedFault::Memory) => Err(Memory),
         Err(FeedFault::FeedClosed) => unreachable!(),

@@ -143,13 +143,15 @@ module _ (fixed : Fixed) (old : Store) (history : List Event) (h : StoreStandsFo
         subst (λ (n : ℕ). (fold write_next l (take n (unwritten l))).last ≤ greatest) (sym count)
         (omega (arith, within_limit old l h.stands entries_low limit planned is_run mid same new filled, (usual fixed old history h).ops)) in
         let there_are : wrote.changes ≤ length (unwritten l) = omega (arith, count, count_there old l h.stands entries_low limit planned is_run mid same new filled) in
-        let some_there : 1 ≤ wrote.changes = not_none wrote.changes (λ e. some (sym changes ∙ e)) in (
+        let some_there : 1 ≤ wrote.changes = not_none wrote.changes (λ e. some (sym changes ∙ e)) in
+        let stands_new : StoreStandsFor fixed new (history ++ Write wrote.changes ∷ []) =
+        stands_event fixed old new history (Write wrote.changes) h refl (filled.fixed ∙ same.fixed) (some_there, there_are, within)
+        (subst (λ (n : ℕ). Stands new (fold write_next l (take n (unwritten l)))) (sym count) (stands_written old l h.stands entries_low limit planned is_run mid same new filled)) in (
           some_there,
           count ∙ ap (λ (r : Run). r.count) (sym next),
-          last_is ∙ ap (λ (r : Run). r.ledger.last) (sym next),
+          ap (λ id. id.0) (last ∙ sym filled.last) ∙ stands_new.stands.last,
           ap (λ (n : ℕ). l.last + n) ops ∙ ops_count old l h.stands entries_low limit planned is_run ∙ sym last_is,
-          stands_event fixed old new history (Write wrote.changes) h refl (filled.fixed ∙ same.fixed) (some_there, there_are, within)
-              (subst (λ (n : ℕ). Stands new (fold write_next l (take n (unwritten l)))) (sym count) (stands_written old l h.stands entries_low limit planned is_run mid same new filled)),
+          stands_new,
         )
       where
         not_none : (n : ℕ) → (n ≡ 0 → ⊥) → 1 ≤ n

@@ -201,7 +201,7 @@ next_run fixed history limit = run_from fixed.limits (ledger_of fixed.rules hist
 abbrev pub Writes : Fixed → List Event → ℕ → Store → Result Wrote WriteFault → Type 0
 Writes fixed history limit new (Ok wrote) =
     (1 ≤ wrote.changes) × (wrote.changes ≡ (next_run fixed history limit).count)
-    × (wrote.last_op.0 ≡ (next_run fixed history limit).ledger.last) × ((ledger_of fixed.rules history).last + wrote.ops ≡ wrote.last_op.0)
+    × (wrote.last_op.0 ≡ (ledger_of fixed.rules (history ++ Write wrote.changes ∷ [])).last) × ((ledger_of fixed.rules history).last + wrote.ops ≡ wrote.last_op.0)
     × StoreStandsFor fixed new (history ++ Write wrote.changes ∷ [])
 Writes fixed history limit new (Err fault) = IsRefused fixed.limits (ledger_of fixed.rules history) fault × StoreStandsFor fixed new history
 

@@ -125,7 +125,7 @@ impl Store {
 
     /// Feeds a transaction, whose position is at most 9223372036854775807. The first that applies of `FeedClosed`, and
     /// `NotRising` where its position is not past that of the last fed one. A refused transaction is dropped.
-    pub fn feed(&mut self, transaction: Transaction) -> Result<(), FeedFault>
+    pub fn feed(&mut self, _alloc: Global, transaction: Transaction) -> Result<(), FeedFault>
         requires position { transaction.position.0 ≤ greatest }
         requires stands { (fixed : FixedSeen) × (history : List EventSeen) × StoreStandsFor fixed self.old history }
         ensures { (fixed : FixedSeen) (history : List EventSeen) → StoreStandsFor fixed self.old history → Feeds fixed history transaction self.new result }
@@ -148,7 +148,7 @@ impl Store {
 
     /// Feeds changes as a transaction at the position after the head, and gives that position. The first that applies of `FeedClosed`, and
     /// `PositionFull` where the head is at the limit of positions or past it. No table is empty. Refused changes are dropped.
-    pub fn upload(&mut self, changes: Items<Change>) -> Result<Position, FeedFault>
+    pub fn upload(&mut self, alloc: Global, changes: Items<Change>) -> Result<Position, FeedFault>
         requires tables { All (λ (change : ChangeSeen). 0 < length change.table) changes }
         requires stands { (fixed : FixedSeen) × (history : List EventSeen) × StoreStandsFor fixed self.old history }
         ensures { (fixed : FixedSeen) (history : List EventSeen) → StoreStandsFor fixed self.old history → Uploads fixed history changes self.new result }
@@ -160,7 +160,7 @@ impl Store {
             return Err(FeedFault::PositionFull { head: self.head });
         }
         let position = Position(self.head.0 + 1);
-        self.feed(Transaction { position, changes })?;
+        self.feed(alloc, Transaction { position, changes })?;
         Ok(position)
     }
 

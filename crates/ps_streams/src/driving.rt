@@ -5,10 +5,11 @@ ghost use Rattle.ps_sql_eval.specs.Evaluated.{asker_of};
 ghost use Rattle.ps_store.specs.declared.events.Event.{Event as EventSeen};
 ghost use Rattle.ps_store.specs.declared.fixed.Fixed.{Fixed as FixedSeen};
 ghost use Rattle.ps_store.specs.Courses.{course_of};
+ghost use Rattle.ps_store.specs.Stores.{StoreStandsFor};
 ghost use Rattle.ps_session.specs.declared.actions.Action.TheVariants as actions;
 ghost use Rattle.ps_session.specs.Kept.{state_of};
 ghost use Rattle.ps_session.specs.Sessions.{IsTaking, next_action};
-ghost use Rattle.ps_streams.specs.Serving.{IsValid, Serves};
+ghost use Rattle.ps_streams.specs.Serving.{IsValid};
 ghost use Rattle.ps_streams.specs.Turning.{HasTurned, IsTurn, IsUnderWay, IsWritableOutcome, TurnsSo};
 
 use crate::outcomes::{TurnOutcome, outcome_of};
@@ -115,9 +116,9 @@ pub fn take_turn_of(
     store: &Store,
     session: &mut Session,
 ) -> Result<TurnOutcome, TakeFault>
-    requires { (fixed : FixedSeen) × (history : List EventSeen) × (at : ℕ) × Serves fixed store.now history
+    requires { (fixed : FixedSeen) × (history : List EventSeen) × (at : ℕ) × StoreStandsFor fixed store.now history
         × IsUnderWay (course_of fixed.rules history (asker_of session.old.asker)) (length history) at (state_of session.old) }
-    ensures turns { (fixed : FixedSeen) (history : List EventSeen) (at : ℕ) → Serves fixed store.now history
+    ensures turns { (fixed : FixedSeen) (history : List EventSeen) (at : ℕ) → StoreStandsFor fixed store.now history
         → IsUnderWay (course_of fixed.rules history (asker_of session.old.asker)) (length history) at (state_of session.old)
         → TurnsSo fixed history (asker_of session.old.asker) at (state_of session.old) (state_of session.new) result }
     ensures writable { IfOk result IsWritableOutcome }

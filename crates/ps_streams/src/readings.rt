@@ -54,9 +54,9 @@ pub trait Readings {
 /// A store that stands still: nothing comes to its history.
 impl Readings for &Store {
     ghost use Rattle.std.specs.Prelude.{◌≡◌, [], refl};
-    ghost use Rattle.ps_streams.specs.Serving.{Serves};
+    ghost use Rattle.ps_store.specs.Stores.{StoreStandsFor};
 
-    ghost stands = { λ store fixed history. Serves fixed store.now history };
+    ghost stands = { λ store fixed history. StoreStandsFor fixed store.now history };
 
     ghost may_come = { λ _ more. more ≡ [] };
 
@@ -74,7 +74,7 @@ impl Readings for &Store {
         Store::read_batch(*self, alloc, bucket, after, upto)
     }
 
-    ghost valid = { λ store fixed history serves. record { rules = serves.rules; numbers = serves.numbers; legal = serves.stands.legal } };
+    ghost valid = { λ store fixed history stands. record { rules = stands.rules; numbers = stands.query_numbers; legal = stands.legal } };
 
     ghost may_stay = { λ _. refl };
 }

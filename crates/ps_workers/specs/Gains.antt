@@ -50,7 +50,7 @@ module _ {d : Ghosts Store Event Fixed} (fixed : Fixed) (history : List Event) w
   abbrev pub WritesIn : ℕ → Seat Store Event Fixed d → Seat Store Event Fixed d → Result Wrote WriteFault → Type 0
   WritesIn limit before after (Ok wrote) =
       AddsTo history (Write wrote.changes) before after × (1 ≤ wrote.changes) × (wrote.changes ≡ (next_run fixed history limit).count)
-      × (wrote.last_op.0 ≡ (next_run fixed history limit).ledger.last) × ((ledger_of fixed.rules history).last + wrote.ops ≡ wrote.last_op.0)
+      × (wrote.last_op.0 ≡ (ledger_of fixed.rules (history ++ Write wrote.changes ∷ [])).last) × ((ledger_of fixed.rules history).last + wrote.ops ≡ wrote.last_op.0)
   WritesIn limit before after (Err fault) = LooksAt history before after × IsRefused fixed.limits (ledger_of fixed.rules history) fault
 
   -- what was reached is the checkpoint, or was before

@@ -36,7 +36,7 @@ pub fn upload_in_turn<R: Wait>(
         Err(_) => return (seat, Err(FeedFault::Memory)),
     };
     let mut turn = lock.turn(rt, seat);
-    match turn.value().upload(changes) {
+    match turn.value().upload(alloc, changes) {
         Ok(position) => (
             turn.leave_with(Event::Feed {
                 transaction: Transaction {

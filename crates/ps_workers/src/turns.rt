@@ -34,7 +34,7 @@ pub fn feed_in_turn<R: Wait>(
         Err(_) => return (seat, Err(FeedFault::Memory)),
     };
     let mut turn = lock.turn(rt, seat);
-    match turn.value().feed(transaction) {
+    match turn.value().feed(alloc, transaction) {
         Ok(()) => (turn.leave_with(Event::Feed { transaction: copy }), Ok(())),
         Err(fault) => (turn.leave(), Err(fault)),
     }

@@ -13,12 +13,11 @@ use Rattle.ps_store.specs.declared.stores.Checkpoint.{Checkpoint}
 use Rattle.ps_store.specs.declared.stores.Store.{Store}
 use Rattle.ps_store.specs.declared.stores.Wrote.{Wrote}
 use Rattle.ps_store.specs.Stores.{StoreStandsFor, Feeds, Writes, Commits}
-use Rattle.ps_serve.specs.Runs.{Serves}
 use Rattle.service_cases.specs.Standing.{IsStore}
 
-module _ (fixed : Fixed) (history : List Event) (old : Store) (serves : Serves fixed old history) where
+module _ (fixed : Fixed) (history : List Event) (old : Store) (serves : StoreStandsFor fixed old history) where
   pub stays : (store : Store) (after : List Event) → StoreStandsFor fixed store after → IsStore store
-  stays store after stands = (fixed, after, record { stands = stands; rules = serves.rules; numbers = serves.numbers })
+  stays store after stands = (fixed, after, stands)
 
   pub feeds_stay : (t : Transaction) (store : Store) (result : Result (Unit {0}) FeedFault) → Feeds fixed history t store result → IsStore store
   feeds_stay t store (Ok done) feeds = stays store (history ++ Feed t ∷ []) feeds

@@ -6,16 +6,16 @@ use Rattle.ps_store.specs.declared.fixed.Fixed.{Fixed}
 use Rattle.ps_store.specs.declared.stores.Store.{Store}
 use Rattle.ps_store.specs.Courses.{course_of}
 use Rattle.ps_session.specs.Sessions.{SessionState}
-pub use Rattle.ps_streams.specs.Serving.{Serves}
+use Rattle.ps_store.specs.Stores.{StoreStandsFor}
 use Rattle.ps_streams.specs.Ties.{HasTaken}
 
 -- for some history
 abbrev pub IsServing : Store → Type 0
-IsServing store = (fixed : Fixed) × (history : List Event) × Serves fixed store history
+IsServing store = (fixed : Fixed) × (history : List Event) × StoreStandsFor fixed store history
 
 -- what the session took last, it took of the store as it stands
 pub record IsOver (store : Store) (asker : Asker) (session : SessionState) : Type 0 where
   pub fixed : Fixed
   pub history : List Event
-  pub serves : Serves fixed store history
+  pub serves : StoreStandsFor fixed store history
   pub taken : HasTaken (course_of fixed.rules history asker) (length history) session

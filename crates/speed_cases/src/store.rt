@@ -113,7 +113,7 @@ fn feed_one(alloc: Global, store: &mut Store, work: Work, position: u64) -> Opti
     ensures { HasHistory store.new }
 {
     let line = line_of(alloc, work, position).ok()?;
-    feed(store, transaction_of(alloc, line.as_str())?)
+    feed(alloc, store, transaction_of(alloc, line.as_str())?)
 }
 
 // Takes the checkpoint, where the work has that.

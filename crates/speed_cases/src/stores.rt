@@ -32,12 +32,12 @@ pub(crate) fn store_of(alloc: Global, rules: &str) -> Option<Store>
 }
 
 /// Feeds a transaction.
-pub(crate) fn feed(store: &mut Store, transaction: Transaction) -> Option<()>
+pub(crate) fn feed(alloc: Global, store: &mut Store, transaction: Transaction) -> Option<()>
     requires position { transaction.position.0 ≤ greatest }
     requires stands { HasHistory store.old }
     ensures { HasHistory store.new }
 {
-    store.feed(transaction).ok()
+    store.feed(alloc, transaction).ok()
 }
 
 /// Writes what is fed, as one batch.

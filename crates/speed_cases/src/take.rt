@@ -47,7 +47,7 @@ fn add_room(alloc: Global, store: &mut Store, job: Job, room: u64) -> Option<()>
     ensures { HasHistory store.new }
 {
     let line = room_line(alloc, room, member_of(job, room)).ok()?;
-    feed(store, transaction_of(alloc, line.as_str())?)?;
+    feed(alloc, store, transaction_of(alloc, line.as_str())?)?;
     write(alloc, store, 1000)
 }
 

@@ -22,12 +22,12 @@ pub fn store_of(alloc: Global, rules: &str, limits: &str) -> Result<Store, Stop>
 }
 
 // Feeds a transaction.
-fn feed_next(store: &mut Store, transaction: Transaction) -> Result<(), FeedFault>
+fn feed_next(alloc: Global, store: &mut Store, transaction: Transaction) -> Result<(), FeedFault>
     requires position { transaction.position.0 ≤ greatest }
     requires stands { HasHistory store.old }
     ensures { HasHistory store.new }
 {
-    store.feed(transaction)
+    store.feed(alloc, transaction)
 }
 
 // Writes a batch.
@@ -68,7 +68,7 @@ pub fn feed(alloc: Global, store: &mut Store, line: &str, out: &mut String) -> R
     ensures { HasHistory store.new }
 {
     let transaction = transaction_of(alloc, line)?;
-    match feed_next(store, transaction) {
+    match feed_next(alloc, store, transaction) {
         Ok(()) => Ok(out.push_str("fed")?),
         Err(fault) => push_feed_fault(out, &fault),
     }
@@ -80,7 +80,7 @@ fn feed_surely(alloc: Global, store: &mut Store, line: &str) -> Result<(), Stop>
     ensures { HasHistory store.new }
 {
     let transaction = transaction_of(alloc, line)?;
-    Ok(feed_next(store, transaction)?)
+    Ok(feed_next(alloc, store, transaction)?)
 }
 
 /// Feeds the transactions of all lines of a text, none of which is refused.

@@ -22,12 +22,16 @@ fn changes_of(alloc: Global, body: &str) -> Result<Items<Change>, ChangeFault>
 }
 
 // Uploads changes.
-fn upload_next(store: &mut Store, changes: Items<Change>) -> Result<Position, FeedFault>
+fn upload_next(
+    alloc: Global,
+    store: &mut Store,
+    changes: Items<Change>,
+) -> Result<Position, FeedFault>
     requires tables { All (λ (change : ChangeSeen). 0 < length change.table) changes }
     requires stands { HasHistory store.old }
     ensures { HasHistory store.new }
 {
-    store.upload(changes)
+    store.upload(alloc, changes)
 }
 
 /// Uploads the changes of a body.
@@ -36,7 +40,7 @@ pub fn upload(alloc: Global, store: &mut Store, body: &str, out: &mut String) ->
     ensures { HasHistory store.new }
 {
     let changes = changes_of(alloc, body)?;
-    match upload_next(store, changes) {
+    match upload_next(alloc, store, changes) {
         Ok(position) => Ok(write!(out, "uploaded {}", position.0)?),
         Err(fault) => push_feed_fault(out, &fault),
     }

@@ -7,7 +7,7 @@ ghost use Rattle.service_cases.specs.Standing.{IsStore};
 use case_stores::{limits_of, rules_of, transaction_of};
 use case_words::Stop;
 use ps_rows::Transaction;
-use ps_store::{Checkpoint, FeedFault, NothingToCommit, Store, WriteFault, Wrote, have_numbers};
+use ps_store::{Checkpoint, FeedFault, NothingToCommit, Store, WriteFault, Wrote};
 use std::alloc::Global;
 
 /// A store for the rules of a text, under limits.
@@ -16,17 +16,16 @@ pub fn store_of(alloc: Global, rules: &str, limits: &str) -> Result<Store, Stop>
 {
     let limits = limits_of(limits)?;
     let rules = rules_of(alloc, rules)?;
-    have_numbers(&rules);
     let store = Store::new(alloc, rules, limits)?;
     Ok(store)
 }
 
-fn feed_next(store: &mut Store, transaction: Transaction) -> Result<(), FeedFault>
+fn feed_next(alloc: Global, store: &mut Store, transaction: Transaction) -> Result<(), FeedFault>
     requires position { transaction.position.0 ≤ greatest }
     requires stands { IsStore store.old }
     ensures { IsStore store.new }
 {
-    store.feed(transaction)
+    store.feed(alloc, transaction)
 }
 
 fn write_next(alloc: Global, store: &mut Store) -> Result<Wrote, WriteFault>
@@ -42,7 +41,7 @@ pub fn feed(alloc: Global, store: &mut Store, line: &str) -> Result<(), Stop>
     ensures { IsStore store.new }
 {
     let transaction = transaction_of(alloc, line)?;
-    Ok(feed_next(store, transaction)?)
+    Ok(feed_next(alloc, store, transaction)?)
 }
 
 // The change line at position 1 that puts rows of `t`, `r0` and so on.

@@ -8,10 +8,10 @@ use Rattle.ps_commands.proofs.Summaries.{counted}
 use Rattle.ps_commands.proofs.generating.count_rows.Goals as goal
 
 pub synced_rows-requires : goal.synced_rows-requires
-synced_rows-requires c = let h = c.requires.1 in (usual made_rule_set, h.history, h.stands, h.valid.are, h.valid.numbers)
+synced_rows-requires c = let h = c.requires.1 in (usual made_rule_set, h.history, h.stands)
 
 pub returns-in-Ok : goal.returns-in-Ok
 returns-in-Ok c = λ ts h.
-    let synced : AreSynced (usual made_rule_set) h.history (asker_of c.in_ok-asker.asker) c.in-Ok.rows = rw c.in-Ok.is at (c.synced_rows.ensures (usual made_rule_set) h.history h.stands h.valid.are h.valid.numbers) in
+    let synced : AreSynced (usual made_rule_set) h.history (asker_of c.in_ok-asker.asker) c.in-Ok.rows = rw c.in-Ok.is at (c.synced_rows.ensures (usual made_rule_set) h.history h.stands) in
     counted ts c.args.store.now h c.ledgers_tell_ops.ensures.one c.in-Ok.rows c.len.result
     (subst (λ (asker : Asker). AreSynced (usual made_rule_set) h.history asker c.in-Ok.rows) c.in_ok-asker.ensures synced) c.len.ensures

@@ -24,7 +24,7 @@ returns-in-Err-FeedClosed c = λ fixed play name it.
     let n = next_of (state c.args.reader.now.client).kept.queue c.in-Some.changes (subst (NextIs (state c.args.reader.now.client).kept.queue) c.in-Some.is c.in_ok-next_upload.ensures) in
     upload_closed fixed play name c.args.store.now c.args.reader.now it n.change n.rest n.queue_is c.upload.new.self
     (subst (λ (cs : List Change). Uploads fixed play.history cs c.upload.new.self (Err feeding.FeedClosed)) n.changes_are
-    (rw (c.in-Err-FeedClosed.is ∙ ap Err c.in-Err-FeedClosed.field-0-is) at (c.upload.ensures fixed play.history it.serves.stands)))
+    (rw (c.in-Err-FeedClosed.is ∙ ap Err c.in-Err-FeedClosed.field-0-is) at (c.upload.ensures fixed play.history it.serves)))
 
 pub returns-in-Err-PositionFull : goal.returns-in-Err-PositionFull
 returns-in-Err-PositionFull c = λ fixed play name it.
@@ -32,7 +32,7 @@ returns-in-Err-PositionFull c = λ fixed play name it.
     subst (λ (p : Position). CameTo fixed play (events.Upload name) name c.upload.new.self c.args.reader.now (effects.PositionsFull p)) (sym c.in-Err-PositionFull.head-is)
     (upload_full fixed play name c.args.store.now c.args.reader.now it n.change n.rest n.queue_is c.upload.new.self c.in-Err-PositionFull.head
     (subst (λ (cs : List Change). Uploads fixed play.history cs c.upload.new.self (Err (feeding.PositionFull c.in-Err-PositionFull.head))) n.changes_are
-    (rw (c.in-Err-PositionFull.is ∙ ap Err c.in-Err-PositionFull.field-0-is) at (c.upload.ensures fixed play.history it.serves.stands))))
+    (rw (c.in-Err-PositionFull.is ∙ ap Err c.in-Err-PositionFull.field-0-is) at (c.upload.ensures fixed play.history it.serves))))
 
 pub want-requires : goal.want-requires
 want-requires c =
@@ -43,5 +43,5 @@ pub returns-in-Ok-uploaded : goal.returns-in-Ok-uploaded
 returns-in-Ok-uploaded c = λ fixed play name it.
     let n = next_of (state c.args.reader.now.client).kept.queue c.in-Some.changes (subst (NextIs (state c.args.reader.now.client).kept.queue) c.in-Some.is c.in_ok-next_upload.ensures) in
     uploaded_so fixed play name c.args.store.now c.args.reader.now it n.change n.rest n.queue_is c.places_are_fronts.ensures.stay c.upload.new.self _ c.in-Ok.position
-    (subst (λ (cs : List Change). Uploads fixed play.history cs c.upload.new.self (Ok c.in-Ok.position)) n.changes_are (c.in-Ok.ensures fixed play.history it.serves.stands))
+    (subst (λ (cs : List Change). Uploads fixed play.history cs c.upload.new.self (Ok c.in-Ok.position)) n.changes_are (c.in-Ok.ensures fixed play.history it.serves))
     refl refl c.in-Ok-uploaded.ensures.ok

@@ -6,7 +6,7 @@ use Rattle.ps_files.proofs.change_files.write_changes.Goals as goal
 
 pub lines-init : goal.lines-init
 lines-init c =
-    started c.args.rules c.args.changes c.in_ok-store.store (record { are = c.have_numbers.ensures.rules; numbers = c.have_numbers.ensures.numbers })
+    started c.args.rules c.args.changes c.in_ok-store.store
     (subst (λ limits. StoreStandsFor (record { rules = c.args.rules; limits = limits }) c.in_ok-store.store []) c.usual.ensures.value c.in_ok-store.ensures)
 
 pub lines-preserved : goal.lines-preserved

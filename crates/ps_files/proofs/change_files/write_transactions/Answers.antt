@@ -10,7 +10,7 @@ pub made-init : goal.made-init
 made-init c =
     let start : c.into_iter-transaction-iterator.result.rest.items ≡ c.args.made = search rules in
     writing_starts c.args.rules c.args.made c.into_iter-transaction-iterator.result.rest.items c.in_ok-store.store
-    (record { are = c.have_numbers.ensures.rules; numbers = c.have_numbers.ensures.numbers }) start c.requires
+    start c.requires
     (subst (λ limits. StoreStandsFor (record { rules = c.args.rules; limits = limits }) c.in_ok-store.store []) c.usual.ensures.value c.in_ok-store.ensures)
 
 pub write_transaction-requires-clause-position : goal.write_transaction-requires-clause-position

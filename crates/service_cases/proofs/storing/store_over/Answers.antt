@@ -4,4 +4,4 @@ use Rattle.service_cases.proofs.storing.store_over.Goals as goal
 pub returns-in-Ok : goal.returns-in-Ok
 returns-in-Ok c =
     let committed = c.in-Ok.ensures.2 in
-    (usual c.args.rules, committed.history, record { stands = committed.stands; rules = committed.valid.are; numbers = committed.valid.numbers })
+    (usual c.args.rules, committed.history, committed.stands)

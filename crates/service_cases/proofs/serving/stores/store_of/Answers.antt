@@ -5,5 +5,5 @@ pub returns : goal.returns
 returns c = (
   record { rules = c.in_ok-rules.rules; limits = c.in_ok-limits.limits },
   [],
-  record { stands = c.in_ok-store.ensures; rules = c.have_numbers.ensures.rules; numbers = c.have_numbers.ensures.numbers },
+  c.in_ok-store.ensures,
 )
