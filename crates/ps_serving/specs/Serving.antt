@@ -1,23 +1,27 @@
 -- What `serve` answers, and the cause of each answer.
-use Rattle.std.specs.Prelude.{◌≡◌, ◌⊎◌, ℕ, ◌-◌, ◌^◌, true, false, List, ◌++◌, length, Option, unwrap_or, Result, Ok, Err}
+use Rattle.std.specs.Prelude.{◌≡◌, ◌⊎◌, ℕ, ◌-◌, ◌^◌, true, false, List, ◌∷◌, ◌++◌, length, Option, Some, unwrap_or, Result, Ok, Err}
 use mathlib.Core.List.{IsPrefix}
 use Rattle.ps_data.specs.declared.ids.OpId.{OpId}
-use Rattle.ps_io.specs.Contents.{Contents, Gains}
+use Rattle.ps_io.specs.Contents.{Contents, Gains, GainsFront}
 use Rattle.ps_io.specs.Counts.{Rose}
 use Rattle.ps_connections.specs.declared.ended.Ended.{Ended}
 use Rattle.ps_connections.specs.Taken.{HasTaken}
 use Rattle.ps_doors.specs.Connections.{Connection}
+use Rattle.ps_rows.specs.declared.changes.Transaction.{Transaction}
+use Rattle.ps_definitions.specs.RuleSets.{RuleSet}
 use Rattle.ps_serve.specs.declared.sites.Site.{Site}
 use Rattle.ps_store.specs.declared.events.Event.{Event}
 use Rattle.ps_store.specs.declared.faults.WriteFault.TheVariants as writing
 use Rattle.ps_store.specs.declared.fixed.Fixed.{Fixed}
 use Rattle.ps_store.specs.Ledgers.{Ledger, ledger_of}
+use Rattle.ps_store.specs.Originals.{Timed, timed}
 use Rattle.ps_store.specs.Stores.{IsRefused}
 use Rattle.ps_store.specs.Totals.{totals_of}
 use Rattle.ps_files.specs.declared.faults.Fault.{Fault}
 use Rattle.ps_files.specs.declared.faults.Fault.TheVariants.{Usage, Rules, Change, PastLimit, TooManyBuckets, Claims, Keys, TooLong, CannotRead, CannotWrite, Script, Memory}
 use Rattle.ps_files.specs.declared.faults.Limit.{Limit}
 use Rattle.ps_files.specs.declared.faults.Limit.TheVariants.{LineBytes, Entries, Operations}
+use Rattle.ps_files.specs.ChangeFiles.{passed_by}
 use Rattle.ps_files.specs.ReadingChanges.{usual}
 use Rattle.ps_serve_words.specs.declared.words.ServeWords.{ServeWords}
 use Rattle.ps_serve_inputs.specs.declared.faults.ServeFault.{ServeFault}
@@ -74,6 +78,11 @@ pub record RefusesChange (fixed : Fixed) (start : List Event) (limit : Limit) : 
   pub run : HasRun fixed start
   pub past : IsPast fixed (ledger_of fixed.rules run.seen) limit
 
+-- the writer drained the store
+pub record HasDrained (fixed : Fixed) (start : List Event) : Type 0 where
+  pub run : HasRun fixed start
+  pub drained : IsStoreDrained (ledger_of fixed.rules run.seen)
+
 -- all connections were served, at most so many; the writer drained the store, and the totals of the last history were printed
 pub record ServesAll (fixed : Fixed) (site : Site) (may_give : ℕ → Type 0) (start : List Event) (most : ℕ) (doors doors' : DoorsAt) (out out' : SinkAt) : Type 0 where
   pub run : HasRun fixed start
@@ -88,7 +97,7 @@ pub record ServesAll (fixed : Fixed) (site : Site) (may_give : ℕ → Type 0) (
 -- serving a store that was fed
 abbrev pub ServesFed : Fixed → Site → (ℕ → Type 0) → List Event → ℕ → DoorsAt → DoorsAt → SinkAt → SinkAt → Result (Unit {0}) ServeFault → Type 0
 ServesFed fixed site may_give start most doors doors' out out' (Ok done) = ServesAll fixed site may_give start most doors doors' out out'
-ServesFed fixed site may_give start most doors doors' out out' (Err ConnectionFailed) = Rose doors.faults doors'.faults
+ServesFed fixed site may_give start most doors doors' out out' (Err ConnectionFailed) = Rose doors.faults doors'.faults × HasDrained fixed start
 ServesFed fixed site may_give start most doors doors' out out' (Err (Plain Usage)) = ⊥
 ServesFed fixed site may_give start most doors doors' out out' (Err (Plain (Rules line column why))) = ⊥
 ServesFed fixed site may_give start most doors doors' out out' (Err (Plain (Change line why))) = ⊥
@@ -98,7 +107,7 @@ ServesFed fixed site may_give start most doors doors' out out' (Err (Plain Claim
 ServesFed fixed site may_give start most doors doors' out out' (Err (Plain Keys)) = ⊥
 ServesFed fixed site may_give start most doors doors' out out' (Err (Plain (TooLong seen))) = ⊥
 ServesFed fixed site may_give start most doors doors' out out' (Err (Plain (CannotRead name))) = ⊥
-ServesFed fixed site may_give start most doors doors' out out' (Err (Plain CannotWrite)) = Rose out.faults out'.faults
+ServesFed fixed site may_give start most doors doors' out out' (Err (Plain CannotWrite)) = Rose out.faults out'.faults × HasDrained fixed start
 ServesFed fixed site may_give start most doors doors' out out' (Err (Plain (Script line why))) = ⊥
 ServesFed fixed site may_give start most doors doors' out out' (Err (Plain Memory)) = Unit {0}
 
@@ -107,7 +116,7 @@ ServesFed fixed site may_give start most doors doors' out out' (Err (Plain Memor
 -- it listens, and where was printed; or why not
 abbrev pub Listens : List ℕ → SinkAt → SinkAt → ℕ → ℕ → Result (Unit {0}) ServeFault → Type 0
 Listens address out out' before now (Ok done) = Gains out.taken out'.taken (listening_line address) × (now ≡ before)
-Listens address out out' before now (Err ConnectionFailed) = Rose before now
+Listens address out out' before now (Err ConnectionFailed) = Rose before now × (out'.taken ≡ out.taken)
 Listens address out out' before now (Err (Plain Usage)) = ⊥
 Listens address out out' before now (Err (Plain (Rules line column why))) = ⊥
 Listens address out out' before now (Err (Plain (Change line why))) = ⊥
@@ -117,7 +126,7 @@ Listens address out out' before now (Err (Plain Claims)) = ⊥
 Listens address out out' before now (Err (Plain Keys)) = ⊥
 Listens address out out' before now (Err (Plain (TooLong seen))) = ⊥
 Listens address out out' before now (Err (Plain (CannotRead name))) = ⊥
-Listens address out out' before now (Err (Plain CannotWrite)) = Rose out.faults out'.faults
+Listens address out out' before now (Err (Plain CannotWrite)) = GainsFront out.taken out'.taken (listening_line address) × Rose out.faults out'.faults
 Listens address out out' before now (Err (Plain (Script line why))) = ⊥
 Listens address out out' before now (Err (Plain Memory)) = Unit {0}
 
@@ -132,6 +141,14 @@ site_by words inputs = record { keys = inputs.keys; until_drained = words.until_
 
 abbrev pub opening_by : ServeWords → Inputs → List Event
 opening_by words inputs = opening words.until_drained inputs.transactions.items
+
+-- some change of transactions passes a limit, where each change is written in its turn
+pub record PassesLimit (rules : RuleSet) (transactions : List Transaction) (limit : Limit) : Type 0 where
+  pub front : List Timed
+  pub change : Timed
+  pub back : List Timed
+  pub whole : timed transactions ≡ front ++ change ∷ back
+  pub passes : passed_by rules.definitions front change ≡ Some limit
 
 module _ (may_give : ℕ → Type 0) (said : ServeWords) (files files' : FilesAt) (doors doors' : DoorsAt) (out out' : SinkAt) where
   -- there is one history, of the rules of the rules file under the usual limits, which the store stood for at the end. It begins with the Feeds of the change
@@ -152,11 +169,26 @@ module _ (may_give : ℕ → Type 0) (said : ServeWords) (files files' : FilesAt
     pub printed : Gains out.taken out'.taken (listening_line said.listen ++ totals_line (totals_of (ledger_of inputs.rules history)))
     pub whole : said.until_drained ≡ true → totals_of (ledger_of inputs.rules history) ≡ whole_totals inputs.rules inputs.transactions.items
 
-  -- a change of the change file, or of an upload, was refused so
+  -- a change of the change file, or of an upload, was refused so; in drained mode it is one of the change file, which passes that limit in its turn
   pub record IsRefusedLate (limit : Limit) : Type 0 where
     pub inputs : Inputs
     pub read : AreInputs files.held said inputs
     pub refuses : RefusesChange (fixed_by inputs) (opening_by said inputs) limit
+    pub passes : said.until_drained ≡ true → PassesLimit inputs.rules inputs.transactions.items limit
+
+  -- it failed before the threads ran: no connection was handed out, and of the line with the address a front was printed
+  pub record FailsFirst : Type 0 where
+    pub opened : doors'.opened ≡ doors.opened
+    pub printed : GainsFront out.taken out'.taken (listening_line said.listen)
+
+  -- it failed once the writer had drained the store, so that no change was refused
+  pub record FailsLater : Type 0 where
+    pub inputs : Inputs
+    pub read : AreInputs files.held said inputs
+    pub drained : HasDrained (fixed_by inputs) (opening_by said inputs)
+
+  abbrev pub Fails : Type 0
+  Fails = FailsFirst ⊎ FailsLater
 
   abbrev pub IsStopped : Fault → Type 0
   IsStopped fault = StopsInputs files.held said files.faults files'.faults fault
@@ -164,7 +196,7 @@ module _ (may_give : ℕ → Type 0) (said : ServeWords) (files files' : FilesAt
   -- the command was served, or this is why not
   abbrev pub ServesSo : Result (Unit {0}) ServeFault → Type 0
   ServesSo (Ok done) = IsServed
-  ServesSo (Err ConnectionFailed) = Rose doors.faults doors'.faults
+  ServesSo (Err ConnectionFailed) = Rose doors.faults doors'.faults × Fails
   ServesSo (Err (Plain Usage)) = ⊥
   ServesSo (Err (Plain (Rules line column why))) = IsStopped (Rules line column why)
   ServesSo (Err (Plain (Change line why))) = IsStopped (Change line why)
@@ -174,6 +206,6 @@ module _ (may_give : ℕ → Type 0) (said : ServeWords) (files files' : FilesAt
   ServesSo (Err (Plain Keys)) = IsStopped Keys
   ServesSo (Err (Plain (TooLong seen))) = IsStopped (TooLong seen)
   ServesSo (Err (Plain (CannotRead name))) = IsStopped (CannotRead name)
-  ServesSo (Err (Plain CannotWrite)) = Rose out.faults out'.faults
+  ServesSo (Err (Plain CannotWrite)) = Rose out.faults out'.faults × Fails
   ServesSo (Err (Plain (Script line why))) = ⊥
   ServesSo (Err (Plain Memory)) = Unit {0}
