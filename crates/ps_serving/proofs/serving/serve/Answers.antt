@@ -45,5 +45,5 @@ returns-clause-serves g c =
     c.in_ok-listen.ensures.closed c.in_ok-listen.ensures.listens.1 in
     let fed = moved may_give (fixed_of c.in_ok-lock.lock) (fixed_by inputs) site (site_by said inputs) start (opening_by said inputs) c.pace_of.result.most (most_of said) mid doors doors' out1 out'
     c.serve_fed.result fixed_is site_is start_is c.pace_of.ensures.most doors_are given in
-    serves_so c.ledgers_tell_histories.ensures c.ledgers_tell_events.ensures.feeds c.totals_are_one.ensures may_give said files files' doors doors' out out1 out' inputs
+    serves_so c.ledgers_tell_histories.ensures c.ledgers_tell_ops.ensures.one c.ledgers_tell_events.ensures.feeds c.totals_are_one.ensures may_give said files files' doors doors' out out1 out' inputs
     c.in_ok-rules.ensures.loads c.in_ok-listen.ensures.listens.0 c.in_ok-listen.ensures.faults c.serve_fed.result fed
