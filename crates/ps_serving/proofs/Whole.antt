@@ -1,5 +1,5 @@
 -- From a store that was fed and served to the whole command.
-use Rattle.std.proofs.Common.{◌≡◌, ◌∙◌, ℕ, ◌≤◌, Bool, true, List, ◌++◌, Option, Some, None, Result, Ok, Err, ap, subst, arith, inl, inr, append_assoc}
+use Rattle.std.proofs.Common.{◌≡◌, ◌∙◌, ℕ, ◌≤◌, Bool, true, List, [], ◌++◌, Option, Some, None, Result, Ok, Err, refl, sym, ap, subst, arith, inl, inr, append_assoc, append-nil}
 use mathlib.Core.List.{IsPrefix}
 use Rattle.ps_io.specs.Contents.{Gains}
 use Rattle.ps_doors.specs.Connections.{Connection}
@@ -19,7 +19,7 @@ use Rattle.ps_serve_inputs.specs.declared.inputs.Inputs.{Inputs}
 use Rattle.ps_serve_inputs.specs.Inputs.{AreInputs}
 use Rattle.ps_serving.specs.Openings.{opening}
 use Rattle.ps_serving.specs.Printing.{listening_line}
-use Rattle.ps_serving.specs.Serving.{FilesAt, DoorsAt, SinkAt, HasRun, HasDrained, IsPast, Fails, ServesFed, ServesSo, fixed_by, site_by, opening_by, most_of, limit_passed_by}
+use Rattle.ps_serving.specs.Serving.{FilesAt, DoorsAt, SinkAt, HasRun, HasDrained, IsPast, Fails, Listens, ServesFed, ServesSo, fixed_by, site_by, opening_by, most_of, limit_passed_by}
 use Rattle.ps_serving.specs.Totals.{TotalsAreOne}
 use Rattle.ps_serving.proofs.Closing.{fed_whole, written_whole}
 use Rattle.ps_serving.proofs.Passing.{none_passed, limit_passed}
@@ -27,6 +27,28 @@ use Rattle.ps_serving.proofs.Passing.{none_passed, limit_passed}
 gains_both : (old mid new : Option (List ℕ)) (one two : List ℕ) → Gains old mid one → Gains mid new two → Gains old new (one ++ two)
 gains_both None mid new one two first second = let e = first in rw first at second
 gains_both (Some taken) mid new one two first second = let e = rw first at second in e ∙ ap Some (append_assoc taken one two)
+
+gains_nothing : (old new : Option (List ℕ)) → new ≡ old → Gains old new []
+gains_nothing None new same = same
+gains_nothing (Some taken) new same = same ∙ ap Some (sym (append-nil taken))
+
+-- doors that do not listen, and an address that cannot be printed, fail before the threads run
+module _ (may_give : ℕ → Type 0) (said : ServeWords) (files files' : FilesAt) (doors doors' : DoorsAt) (out out' : SinkAt) where
+  pub listen_failed : (fault : ServeFault) → Listens said.listen out out' doors.faults doors'.faults (Err fault) → doors'.opened ≡ doors.opened
+      → ServesSo may_give said files files' doors doors' out out' (Err fault)
+  listen_failed ConnectionFailed h opened = (h.0, inl (record { opened = opened; printed = ([], listening_line said.listen, refl, gains_nothing out.taken out'.taken h.1) }))
+  listen_failed (Plain Usage) h opened = absurd h
+  listen_failed (Plain (Rules line column why)) h opened = absurd h
+  listen_failed (Plain (Change line why)) h opened = absurd h
+  listen_failed (Plain (PastLimit limit)) h opened = absurd h
+  listen_failed (Plain (TooManyBuckets count)) h opened = absurd h
+  listen_failed (Plain Claims) h opened = absurd h
+  listen_failed (Plain Keys) h opened = absurd h
+  listen_failed (Plain (TooLong seen)) h opened = absurd h
+  listen_failed (Plain (CannotRead name)) h opened = absurd h
+  listen_failed (Plain CannotWrite) h opened = (h.1, inl (record { opened = opened; printed = h.0 }))
+  listen_failed (Plain (Script line why)) h opened = absurd h
+  listen_failed (Plain Memory) h opened = tt
 
 module _ (tells : LedgersTellHistories) (generation : LedgersTellOneGeneration) (feeds : LedgersTellFeeds) (one : TotalsAreOne) (may_give : ℕ → Type 0) (said : ServeWords) (files files' : FilesAt) (doors doors' : DoorsAt)
     (out mid out' : SinkAt) (inputs : Inputs) (read : AreInputs files.held said inputs) (listened : Gains out.taken mid.taken (listening_line said.listen)) (up : out.faults ≤ mid.faults) where
