@@ -7,3 +7,8 @@ pub mod Cells
 pub mod Stated
 pub mod Standing
 pub mod Ranks
+pub mod Notings
+pub mod Makings
+pub mod Bounds
+pub mod Lines
+pub mod Waiting
