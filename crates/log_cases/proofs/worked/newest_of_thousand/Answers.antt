@@ -1,0 +1,6 @@
+use Rattle.std.proofs.Common.{length, arith}
+use Rattle.log_cases.proofs.Thousand.{depth_of_thousand}
+use Rattle.log_cases.proofs.worked.newest_of_thousand.Goals as goal
+
+pub returns-clause-cost : goal.returns-clause-cost
+returns-clause-cost g c = omega (arith, c.newest_upto.ensures.cost 10 (depth_of_thousand (length c.args.log.now.ops) c.requires))
