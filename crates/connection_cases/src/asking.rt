@@ -1,14 +1,16 @@
 //! Connections, over sources, sinks and clocks in memory.
 
+ghost use Rattle.std.specs.Prelude.{◌<◌, length};
 ghost use Rattle.ps_lock.specs.Words.{IsSeatOf};
 
 use crate::requests::Service;
+use crate::sinks::BusySink;
 use case_words::{Stop, cut, number_in, push_shown};
 use ps_data::Items;
 use ps_doors::QuietBell;
 use ps_io::{MemoryClock, MemorySink, MemorySource};
 use ps_lock::{Seat, StoreLock};
-use ps_serve::{End, Outcome, answer_connection};
+use ps_serve::{End, Outcome, Site, answer_connection};
 use ps_store::Store;
 use std::alloc::Global;
 use std::sync::Wait;
@@ -71,13 +73,40 @@ fn push_outcome(outcome: &Outcome, out: &mut String) -> Result<(), Stop> {
     Ok(out.push_str(" ")?)
 }
 
-fn push_answer(outcome: &Outcome, to: &MemorySink, out: &mut String) -> Result<(), Stop> {
+/// What is said of the bytes that were written.
+#[derive(Clone, Copy)]
+pub enum Shown {
+    /// All of them.
+    Bytes,
+    /// How many line feeds they have.
+    Lines,
+}
+
+fn line_feeds(bytes: &[u8]) -> u64 {
+    let mut count = 0u64;
+    'bytes: for byte in bytes {
+        if *byte == b'\n' {
+            count = count.saturating_add(1);
+        }
+    }
+    count
+}
+
+fn push_answer(
+    outcome: &Outcome,
+    bytes: &[u8],
+    shown: Shown,
+    out: &mut String,
+) -> Result<(), Stop> {
     push_outcome(outcome, out)?;
-    push_shown(to.bytes(), out)?;
+    match shown {
+        Shown::Bytes => push_shown(bytes, out)?,
+        Shown::Lines => write!(out, "{}", line_feeds(bytes))?,
+    }
     Ok(out.push_str("\n")?)
 }
 
-/// Answers a request, and says what came of it.
+/// Answers a request, and says what came of it. Behind the writes of the answer another seat changes the store.
 pub fn ask<R: Wait>(
     rt: &R,
     alloc: Global,
@@ -85,15 +114,21 @@ pub fn ask<R: Wait>(
     seat: Seat<Store>,
     service: &Service,
     rest: &str,
+    shown: Shown,
     out: &mut String,
 ) -> (Seat<Store>, Result<(), Stop>)
     requires { IsSeatOf lock.now seat }
     ensures { IsSeatOf lock.now result.0 }
 {
-    let (mut from, mut to, clock) = match ends_of(alloc, service.request.as_slice(), rest) {
+    let mut seat = seat;
+    let Ok(own) = lock.split(&mut seat) else {
+        return (seat, Err(Stop));
+    };
+    let (mut from, to, clock) = match ends_of(alloc, service.request.as_slice(), rest) {
         Ok(ends) => ends,
         Err(stop) => return (seat, Err(stop)),
     };
+    let mut to = BusySink::new(rt, alloc, lock, own, service.deeds.as_slice(), to);
     let mut bell = QuietBell::new();
     let (seat, outcome) = answer_connection(
         rt,
@@ -106,6 +141,130 @@ pub fn ask<R: Wait>(
         &clock,
         &mut bell,
     );
-    let said = push_answer(&outcome, &to, out);
-    (seat, said)
+    match to.sink() {
+        Ok(to) => (seat, push_answer(&outcome, to.bytes(), shown, out)),
+        Err(stop) => (seat, Err(stop)),
+    }
+}
+
+/// How a request is broken off.
+#[derive(Clone, Copy)]
+pub enum Break {
+    /// The input ends within it.
+    Cut,
+    /// A read of it fails.
+    Fault,
+}
+
+// The ends of a connection whose request breaks off so at a place.
+fn broken_ends(
+    alloc: Global,
+    request: &[u8],
+    place: usize,
+    way: Break,
+    moment: u64,
+) -> Result<(MemorySource, MemorySink, MemoryClock), Stop>
+    requires { place < length request.now }
+{
+    let (content, reads) = match way {
+        Break::Cut => (&request[..place], Items::new(alloc)),
+        Break::Fault => (request, Items::from_vec(vec![in alloc; place as u64 + 1]?)),
+    };
+    let content = Items::from_vec(Vec::from_slice(alloc, content)?);
+    let from = MemorySource::new(content, reads);
+    let to = MemorySink::new(alloc, ROOM, Items::new(alloc))?;
+    Ok((from, to, MemoryClock::new(moment, 0)))
+}
+
+// Whether a request that breaks off at a place is cut, with nothing written.
+fn is_cut<R: Wait>(
+    rt: &R,
+    alloc: Global,
+    lock: &StoreLock<Store>,
+    seat: Seat<Store>,
+    site: &Site,
+    request: &[u8],
+    place: usize,
+    way: Break,
+    moment: u64,
+) -> (Seat<Store>, Result<bool, Stop>)
+    requires seat { IsSeatOf lock.now seat }
+    requires place { place < length request.now }
+    ensures { IsSeatOf lock.now result.0 }
+{
+    let (mut from, mut to, clock) = match broken_ends(alloc, request, place, way, moment) {
+        Ok(ends) => ends,
+        Err(stop) => return (seat, Err(stop)),
+    };
+    let mut bell = QuietBell::new();
+    let (seat, outcome) = answer_connection(
+        rt, alloc, lock, seat, site, &mut from, &mut to, &clock, &mut bell,
+    );
+    let is_cut = outcome.status == 0 && outcome.end == End::CutRequest && to.bytes().is_empty();
+    (seat, Ok(is_cut))
+}
+
+fn push_cuts(cuts: u64, others: u64, out: &mut String) -> Result<(), Stop> {
+    write!(out, "{cuts} cut, {others} not")?;
+    Ok(out.push_str("\n")?)
+}
+
+// The request, broken off at each of its places: how often it is cut, and how often not.
+fn ask_each<R: Wait>(
+    rt: &R,
+    alloc: Global,
+    lock: &StoreLock<Store>,
+    seat: Seat<Store>,
+    service: &Service,
+    way: Break,
+    moment: u64,
+    out: &mut String,
+) -> (Seat<Store>, Result<(), Stop>)
+    requires { IsSeatOf lock.now seat }
+    ensures { IsSeatOf lock.now result.0 }
+{
+    let request = service.request.as_slice();
+    let mut here = seat;
+    let mut cuts = 0u64;
+    let mut others = 0u64;
+    'places: for place in 0..request.len() {
+        let (next, cut) = is_cut(
+            rt,
+            alloc,
+            lock,
+            here,
+            &service.site,
+            request,
+            place,
+            way,
+            moment,
+        );
+        here = next;
+        match cut {
+            Ok(true) => cuts = cuts.saturating_add(1),
+            Ok(false) => others = others.saturating_add(1),
+            Err(stop) => return (here, Err(stop)),
+        }
+    }
+    (here, push_cuts(cuts, others, out))
+}
+
+/// Breaks the request off at each of its places, and says how often it is cut with nothing written, and how often not.
+pub fn ask_broken<R: Wait>(
+    rt: &R,
+    alloc: Global,
+    lock: &StoreLock<Store>,
+    seat: Seat<Store>,
+    service: &Service,
+    way: Break,
+    moment: &str,
+    out: &mut String,
+) -> (Seat<Store>, Result<(), Stop>)
+    requires { IsSeatOf lock.now seat }
+    ensures { IsSeatOf lock.now result.0 }
+{
+    match number_in(moment) {
+        Ok(moment) => ask_each(rt, alloc, lock, seat, service, way, moment, out),
+        Err(stop) => (seat, Err(stop)),
+    }
 }
