@@ -1,5 +1,6 @@
 use Rattle.std.proofs.Common.{sym, ap, ◌∙◌, arith}
 use Rattle.ps_rows.specs.declared.changes.Transaction.{Transaction}
+use Rattle.ps_rows.specs.Source.{after_changes}
 use Rattle.ps_audit.specs.Places.{case_of}
 use Rattle.ps_audit.proofs.Placing.{position_next, source_next}
 use Rattle.ps_audit.proofs.cursors.Cursor.advance.Goals as goal

@@ -1,4 +1,4 @@
-use Rattle.std.proofs.Common.{◌≡◌, ◌+◌, length, sym, ap, ◌∙◌, arith}
+use Rattle.std.proofs.Common.{◌≡◌, ◌+◌, true, length, sym, ap, ◌∙◌, arith}
 use Rattle.ps_audit.specs.Places.{case_of}
 use Rattle.ps_audit.specs.Positions.{due_over}
 use Rattle.ps_audit.proofs.Placing.{counts_length, count_at, due_behind}
@@ -26,5 +26,6 @@ returns-clause-yes c =
 pub returns-clause-no : goal.returns-clause-no
 returns-clause-no c =
     let s = c.args.subject.now in
-    λ e fits. c.are_same.ensures.1 (c.as_slice.ensures ∙ c.in_ok-due.ensures ∙ ap (due_over (case_of s)) c.requires.stands.source
-    ∙ sym (due_behind (case_of s) c.args.self.now.place c.requires.counted.rises) ∙ fits.due) e
+    λ e fits.
+    let same : c.are_same.result ≡ true = c.are_same.ensures.1 (c.as_slice.ensures ∙ c.in_ok-due.ensures ∙ ap (due_over (case_of s)) c.requires.stands.source
+    ∙ sym (due_behind (case_of s) c.args.self.now.place c.requires.counted.rises) ∙ fits.due) in absurd (cc)
