@@ -3,7 +3,8 @@ pub mod Readers
 pub mod Histories
 pub mod Fronts
 pub mod Found
-pub mod Steps
+pub mod Halving
+pub mod Loops
 pub mod Entries
 pub mod Examples
 pub mod Prefixes

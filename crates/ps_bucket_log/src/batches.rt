@@ -4,8 +4,10 @@ ghost use Rattle.ps_bucket_log.specs.Batches.{batch_of, batch_from, front_of, ta
 
 use crate::Op;
 use crate::places::{back_past, clear_id, front_upto, last_target};
-use ps_data::{Items, Memory, OpId, copy_all};
+use crate::steps::Steps;
+use ps_data::{Items, Memory, OpId};
 use std::alloc::Global;
+use std::sync::ledger::Ledger;
 
 /// What one read of a log gives.
 #[derive(Debug, Drop)]
@@ -27,11 +29,17 @@ const MOST_OPS: usize = 1000;
 const MOST_BYTES: usize = 1048576;
 
 // The operations of a log past one id and up to another, as many as one batch may have.
-pub fn read_batch(alloc: Global, log: &[Op], after: OpId, upto: OpId) -> Result<Batch, Memory>
+pub fn read_batch<L: Ledger>(
+    alloc: Global,
+    log: &[Op],
+    after: OpId,
+    upto: OpId,
+    steps: &mut Steps<L>,
+) -> Result<Batch, Memory>
     requires { IsRising 0 log.now }
     ensures { IfOk result (λ batch. batch ≡ batch_of after.0 upto.0 log.now) }
 {
-    let clear = clear_id(log);
+    let clear = clear_id(log, steps);
     if upto.0 < clear.0 {
         return Ok(Batch {
             ops: Items::new(alloc),
@@ -40,31 +48,51 @@ pub fn read_batch(alloc: Global, log: &[Op], after: OpId, upto: OpId) -> Result<
             passed: Some(clear),
         });
     }
-    front_batch(alloc, front_upto(back_past(log, after), upto))
+    let asked = front_upto(back_past(log, after, steps), upto, steps);
+    front_batch(alloc, asked, steps)
 }
 
 // As many of the operations that were asked for as one batch may have.
-fn front_batch(alloc: Global, asked: &[Op]) -> Result<Batch, Memory>
+fn front_batch<L: Ledger>(
+    alloc: Global,
+    asked: &[Op],
+    steps: &mut Steps<L>,
+) -> Result<Batch, Memory>
     ensures { IfOk result (λ batch. batch ≡ batch_from asked.now (front_of 0 0 asked.now)) }
 {
-    let count = front_len(asked);
-    let taken = &asked[..count];
+    let count = front_len(asked, steps);
+    let ops = copy_ops(alloc, &asked[..count], steps)?;
+    let target = last_target(ops.as_slice());
     Ok(Batch {
-        ops: copy_all(alloc, taken)?,
-        has_more: taken.len() < asked.len(),
-        target: last_target(taken),
+        ops,
+        has_more: count < asked.len(),
+        target,
         passed: None,
     })
 }
 
+// Equal operations, each of which is looked at.
+#[tactic(auto, using(crate::proofs::Loops::copied_more))]
+fn copy_ops<L: Ledger>(alloc: Global, ops: &[Op], steps: &mut Steps<L>) -> Result<Items<Op>, Memory>
+    ensures { IfOk result (λ copy. copy ≡ ops.now) }
+{
+    let mut copy = Items::from_vec(Vec::with_capacity(alloc, ops.len())?);
+    'ops: for op in ops {
+        steps.tick();
+        copy.push(op.copy(alloc)?)?;
+    }
+    Ok(copy)
+}
+
 // How many of the operations that were asked for one batch may have.
-#[tactic(auto, using(crate::proofs::Steps::front_more, crate::proofs::Steps::front_full, crate::proofs::Steps::takes_next_fits))]
-fn front_len(asked: &[Op]) -> usize
+#[tactic(auto, using(crate::proofs::Loops::front_more, crate::proofs::Loops::front_full, crate::proofs::Loops::takes_next_fits))]
+fn front_len<L: Ledger>(asked: &[Op], steps: &mut Steps<L>) -> usize
     ensures within { result ≤ length asked.now }
     ensures front { take result asked.now ≡ front_of 0 0 asked.now }
 {
     let mut bytes = 0;
     'asked: for (count, op) in asked.iter().enumerate() {
+        steps.tick();
         let size = op.size();
         if !has_room(count, bytes, size) {
             return count;

@@ -7,7 +7,10 @@ mod logs;
 mod ops;
 mod places;
 mod plain_logs;
+mod searches;
+mod steps;
 mod takes;
+pub mod uncounted;
 
 pub use batches::Batch;
 pub use laws::{
@@ -20,4 +23,6 @@ pub use laws::{
 pub use logs::Log;
 pub use ops::{Key, Op};
 pub use plain_logs::BucketLog;
+pub use searches::{Placed, place_past};
+pub use steps::Steps;
 pub use takes::{Taken, TakenBucket};

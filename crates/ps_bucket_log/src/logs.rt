@@ -1,11 +1,13 @@
 ghost use Rattle.std.specs.Prelude.{◌≡◌, ◌+◌, ◌<◌, ◌≤◌, false, ◌∷◌, [], ◌++◌, length, IfOk, OnOk, OnErr};
 
-use crate::{Batch, Op};
+use crate::{Batch, Op, Steps};
 use ps_checksum::Sum;
 use ps_data::{Items, Memory, OpId};
 use std::alloc::Global;
+use std::sync::ledger::Ledger;
 
-/// A bucket's log: operations with rising ids, of which only the first may be a CLEAR, and room for more.
+/// A bucket's log: operations with rising ids, of which only the first may be a CLEAR, and room for more. What is asked up to an id
+/// counts each look at an operation as a step.
 pub trait Log: Drop {
     ghost use Rattle.std.specs.Prelude.{ℕ, List};
     ghost use Rattle.ps_bucket_log.specs.Types.{Op};
@@ -39,20 +41,26 @@ pub trait Log: Drop {
     /// The next operations with ids past `after` and up to `upto`, as many as one batch may have: at most
     /// 1,000, with at most 1,048,576 bytes of data, but the first one whatever its size. Where a CLEAR
     /// stands past `upto`, its id as `passed`, and no operations.
-    fn read(&self, alloc: Global, after: OpId, upto: OpId) -> Result<Batch, Memory>
-        ensures { IfOk result (λ batch. batch ≡ batch_of after.0 upto.0 (ops self.now)) };
+    fn read<L: Ledger>(
+        &self,
+        alloc: Global,
+        after: OpId,
+        upto: OpId,
+        steps: &mut Steps<L>,
+    ) -> Result<Batch, Memory>
+        ensures value { IfOk result (λ batch. batch ≡ batch_of after.0 upto.0 (ops self.now)) };
 
     /// The sum of the operations with ids up to `upto`, modulo 2^32.
-    fn sum_upto(&self, upto: OpId) -> Sum
-        ensures { result.0 ≡ sum_of (up_to upto.0 (ops self.now)) };
+    fn sum_upto<L: Ledger>(&self, upto: OpId, steps: &mut Steps<L>) -> Sum
+        ensures value { result.0 ≡ sum_of (up_to upto.0 (ops self.now)) };
 
     /// The number of the operations with ids up to `upto`.
-    fn count_upto(&self, upto: OpId) -> u64
-        ensures { result ≡ length (up_to upto.0 (ops self.now)) };
+    fn count_upto<L: Ledger>(&self, upto: OpId, steps: &mut Steps<L>) -> u64
+        ensures value { result ≡ length (up_to upto.0 (ops self.now)) };
 
     /// The newest id up to `upto`, 0 where there is none.
-    fn newest_upto(&self, upto: OpId) -> OpId
-        ensures { result.0 ≡ newest (up_to upto.0 (ops self.now)) };
+    fn newest_upto<L: Ledger>(&self, upto: OpId, steps: &mut Steps<L>) -> OpId
+        ensures value { result.0 ≡ newest (up_to upto.0 (ops self.now)) };
 
     /// A copy of the operations.
     fn ops(&self, alloc: Global) -> Result<Items<Op>, Memory>

@@ -4,11 +4,13 @@ ghost use Rattle.ps_bucket_log.specs.Logs.{IsLog};
 use crate::batches::{Batch, read_batch};
 use crate::logs::Log;
 use crate::ops::Op;
-use crate::places::{front_upto, newest_id, place_past, total};
+use crate::places::{front_upto, len_upto, newest_id, total};
+use crate::steps::Steps;
 use ps_checksum::Sum;
 use ps_data::{Items, Memory, OpId, copy_all};
 use std::alloc::Global;
 use std::marker::Model;
+use std::sync::ledger::Ledger;
 
 /// The plain log: the list of its operations. A search by id takes a logarithm of their number.
 #[derive(Debug, Drop)]
@@ -61,20 +63,28 @@ impl Log for BucketLog {
         self.ops.len()
     }
 
-    fn read(&self, alloc: Global, after: OpId, upto: OpId) -> Result<Batch, Memory> {
-        read_batch(alloc, self.ops.as_slice(), after, upto)
+    fn read<L: Ledger>(
+        &self,
+        alloc: Global,
+        after: OpId,
+        upto: OpId,
+        steps: &mut Steps<L>,
+    ) -> Result<Batch, Memory> {
+        read_batch(alloc, self.ops.as_slice(), after, upto, steps)
     }
 
-    fn sum_upto(&self, upto: OpId) -> Sum {
-        total(front_upto(self.ops.as_slice(), upto))
+    fn sum_upto<L: Ledger>(&self, upto: OpId, steps: &mut Steps<L>) -> Sum {
+        let front = front_upto(self.ops.as_slice(), upto, steps);
+        total(front, steps)
     }
 
-    fn count_upto(&self, upto: OpId) -> u64 {
-        place_past(self.ops.as_slice(), upto) as u64
+    fn count_upto<L: Ledger>(&self, upto: OpId, steps: &mut Steps<L>) -> u64 {
+        len_upto(self.ops.as_slice(), upto, steps) as u64
     }
 
-    fn newest_upto(&self, upto: OpId) -> OpId {
-        newest_id(front_upto(self.ops.as_slice(), upto))
+    fn newest_upto<L: Ledger>(&self, upto: OpId, steps: &mut Steps<L>) -> OpId {
+        let front = front_upto(self.ops.as_slice(), upto, steps);
+        newest_id(front, steps)
     }
 
     fn ops(&self, alloc: Global) -> Result<Items<Op>, Memory> {

@@ -4,6 +4,7 @@ ghost use Rattle.ps_compact.specs.Compaction.{moved as moved_of, with_clear as w
 use crate::Report;
 use crate::fronts::{cleared_len, with_clear};
 use crate::targets::{moved_ops, moves, targets};
+use ps_bucket_log::uncounted::count_upto;
 use ps_bucket_log::{Log, Op};
 use ps_data::{Items, Memory, OpId};
 use std::alloc::Global;
@@ -43,7 +44,7 @@ pub fn compact<G: Log>(alloc: Global, log: &mut G, level: OpId) -> Result<Report
 {
     let mut front = log.ops(alloc)?.into_vec();
     let before = front.len();
-    let count = log.count_upto(level) as usize;
+    let count = count_upto(log, level) as usize;
     let mut back = front.split_off(count)?;
     let Front {
         mut ops,

@@ -1,10 +1,11 @@
 //! The entries of a log, which are looked at by counted looks.
 
 ghost use Rattle.std.specs.Prelude.{◌≡◌, ◌+◌};
+ghost use Rattle.ps_bucket_log.specs.Ops.{id_of};
 
-use crate::steps::Steps;
-use ps_bucket_log::Op;
+use ps_bucket_log::{Op, Placed, Steps};
 use ps_checksum::Sum;
+use ps_data::OpId;
 use std::marker::Model;
 use std::sync::ledger::Ledger;
 
@@ -55,5 +56,13 @@ impl Noted {
         ensures { result.now ≡ self.now.op }
     {
         &self.entry.op
+    }
+}
+
+impl Placed for Noted {
+    ghost id = { λ entry. id_of entry.op };
+
+    fn look_id<L: Ledger>(&self, steps: &mut Steps<L>) -> OpId {
+        self.look(steps).op.id()
     }
 }

@@ -3,11 +3,8 @@
 
 mod entries;
 mod runs;
-mod searches;
 mod segment_logs;
 mod segments;
-mod steps;
 mod walks;
 
 pub use segment_logs::SegmentLog;
-pub use steps::Steps;

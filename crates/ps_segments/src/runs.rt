@@ -9,11 +9,9 @@ ghost use Rattle.ps_segments.specs.Depths.{IsDepth};
 ghost use Rattle.ps_segments.specs.Segmented.{ops_of, entries_of, run_of, head_id, IsSegmented, IsRunUpto, IsCut, IsLastOf};
 
 use crate::entries::{Entry, Noted};
-use crate::searches::place_past;
 use crate::segments::Segment;
-use crate::steps::Steps;
 use crate::walks::read_from;
-use ps_bucket_log::{Batch, Op};
+use ps_bucket_log::{Batch, Op, Steps, place_past};
 use ps_data::{Items, Memory, OpId};
 use std::alloc::Global;
 use std::sync::ledger::Ledger;

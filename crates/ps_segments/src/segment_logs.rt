@@ -10,14 +10,13 @@ ghost use Rattle.ps_segments.specs.Segmented.{IsLastOf};
 use crate::entries::{Entry, Noted};
 use crate::runs::{copy_runs, last_upto, read_runs};
 use crate::segments::Segment;
-use crate::steps::Steps;
-use ps_bucket_log::{Batch, Log, Op};
+use ps_bucket_log::{Batch, Log, Op, Steps};
 use ps_checksum::{Sum, add};
 use ps_data::{Items, Memory, OpId};
 use std::alloc::Global;
-use std::marker::{Brand, Model};
+use std::marker::Model;
 use std::mem;
-use std::sync::ledger::{Blank, Ledger};
+use std::sync::ledger::Ledger;
 
 // From how many operations on the growing segment is sealed.
 const SEGMENT: usize = 256;
@@ -110,93 +109,6 @@ impl SegmentLog {
     {
         last_upto(self.sealed.as_slice(), self.growing.as_slice(), upto, steps)
     }
-
-    // The same, with the looks counted in a ledger of their own, which is let go.
-    fn last_of<L: Ledger>(&self, upto: OpId, blank: Blank) -> Option<&Entry>
-        requires name { blank.name ≡ L.name }
-        requires parts { blank.parts ≡ L.parts }
-        requires some { 0 < blank.parts }
-        ensures none { IfNone result (up_to upto.0 self.now.ops ≡ []) }
-        ensures some { IfSome result (λ last. IsLastOf (up_to upto.0 self.now.ops) last.now) }
-    {
-        let mut steps = Steps::<L>::new(blank);
-        self.last(upto, &mut steps)
-    }
-
-    fn read_of<L: Ledger>(
-        &self,
-        alloc: Global,
-        after: OpId,
-        upto: OpId,
-        blank: Blank,
-    ) -> Result<Batch, Memory>
-        requires name { blank.name ≡ L.name }
-        requires parts { blank.parts ≡ L.parts }
-        requires some { 0 < blank.parts }
-        ensures { IfOk result (λ batch. batch ≡ batch_of after.0 upto.0 self.now.ops) }
-    {
-        let mut steps = Steps::<L>::new(blank);
-        self.read(alloc, after, upto, &mut steps)
-    }
-
-    /// The next operations with ids past `after` and up to `upto`, as `Log::read` gives them. Where it gives n of them from a log of N,
-    /// it takes at most n + 2d + 4 steps, with d the greatest number for which 2^d is at most 2N + 1.
-    pub fn read<L: Ledger>(
-        &self,
-        alloc: Global,
-        after: OpId,
-        upto: OpId,
-        steps: &mut Steps<L>,
-    ) -> Result<Batch, Memory>
-        ensures value { IfOk result (λ batch. batch ≡ batch_of after.0 upto.0 self.now.ops) }
-        ensures cost { (d : ℕ) → IsDepth (length self.now.ops) d
-            → IfOk result (λ batch. steps.new ≤ steps.old + length batch.ops + 2 * d + 4) }
-    {
-        read_runs(
-            alloc,
-            self.sealed.as_slice(),
-            self.growing.as_slice(),
-            after,
-            upto,
-            steps,
-        )
-    }
-
-    /// The sum of the operations with ids up to `upto`, modulo 2^32, in at most 2d + 4 steps, with d as at `read`.
-    pub fn sum_upto<L: Ledger>(&self, upto: OpId, steps: &mut Steps<L>) -> Sum
-        ensures value { result.0 ≡ sum_of (up_to upto.0 self.now.ops) }
-        ensures cost { (d : ℕ) → IsDepth (length self.now.ops) d
-            → steps.new ≤ steps.old + 2 * d + 4 }
-    {
-        match self.last(upto, steps) {
-            None => Sum(0),
-            Some(last) => last.sum,
-        }
-    }
-
-    /// The number of the operations with ids up to `upto`, in at most 2d + 4 steps, with d as at `read`.
-    pub fn count_upto<L: Ledger>(&self, upto: OpId, steps: &mut Steps<L>) -> u64
-        ensures value { result ≡ length (up_to upto.0 self.now.ops) }
-        ensures cost { (d : ℕ) → IsDepth (length self.now.ops) d
-            → steps.new ≤ steps.old + 2 * d + 4 }
-    {
-        match self.last(upto, steps) {
-            None => 0,
-            Some(last) => last.count,
-        }
-    }
-
-    /// The newest id up to `upto`, 0 where there is none, in at most 2d + 4 steps, with d as at `read`.
-    pub fn newest_upto<L: Ledger>(&self, upto: OpId, steps: &mut Steps<L>) -> OpId
-        ensures value { result.0 ≡ newest (up_to upto.0 self.now.ops) }
-        ensures cost { (d : ℕ) → IsDepth (length self.now.ops) d
-            → steps.new ≤ steps.old + 2 * d + 4 }
-    {
-        match self.last(upto, steps) {
-            None => OpId(0),
-            Some(last) => last.op.id(),
-        }
-    }
 }
 
 // A log of these operations, in segments of 256 and the rest.
@@ -239,26 +151,58 @@ impl Log for SegmentLog {
         self.count as usize
     }
 
-    fn read(&self, alloc: Global, after: OpId, upto: OpId) -> Result<Batch, Memory> {
-        self.read_of::<Brand>(alloc, after, upto, Blank::new(1))
+    // Where it gives n operations from a log of N, it takes at most n + 2d + 4 steps, with d the greatest number for which 2^d is at
+    // most 2N + 1.
+    fn read<L: Ledger>(
+        &self,
+        alloc: Global,
+        after: OpId,
+        upto: OpId,
+        steps: &mut Steps<L>,
+    ) -> Result<Batch, Memory>
+        ensures value { IfOk result (λ batch. batch ≡ batch_of after.0 upto.0 self.now.ops) }
+        ensures cost { (d : ℕ) → IsDepth (length self.now.ops) d
+            → IfOk result (λ batch. steps.new ≤ steps.old + length batch.ops + 2 * d + 4) }
+    {
+        read_runs(
+            alloc,
+            self.sealed.as_slice(),
+            self.growing.as_slice(),
+            after,
+            upto,
+            steps,
+        )
     }
 
-    fn sum_upto(&self, upto: OpId) -> Sum {
-        match self.last_of::<Brand>(upto, Blank::new(1)) {
+    // At most 2d + 4 steps, with d as at `read`.
+    fn sum_upto<L: Ledger>(&self, upto: OpId, steps: &mut Steps<L>) -> Sum
+        ensures value { result.0 ≡ sum_of (up_to upto.0 self.now.ops) }
+        ensures cost { (d : ℕ) → IsDepth (length self.now.ops) d
+            → steps.new ≤ steps.old + 2 * d + 4 }
+    {
+        match self.last(upto, steps) {
             None => Sum(0),
             Some(last) => last.sum,
         }
     }
 
-    fn count_upto(&self, upto: OpId) -> u64 {
-        match self.last_of::<Brand>(upto, Blank::new(1)) {
+    fn count_upto<L: Ledger>(&self, upto: OpId, steps: &mut Steps<L>) -> u64
+        ensures value { result ≡ length (up_to upto.0 self.now.ops) }
+        ensures cost { (d : ℕ) → IsDepth (length self.now.ops) d
+            → steps.new ≤ steps.old + 2 * d + 4 }
+    {
+        match self.last(upto, steps) {
             None => 0,
             Some(last) => last.count,
         }
     }
 
-    fn newest_upto(&self, upto: OpId) -> OpId {
-        match self.last_of::<Brand>(upto, Blank::new(1)) {
+    fn newest_upto<L: Ledger>(&self, upto: OpId, steps: &mut Steps<L>) -> OpId
+        ensures value { result.0 ≡ newest (up_to upto.0 self.now.ops) }
+        ensures cost { (d : ℕ) → IsDepth (length self.now.ops) d
+            → steps.new ≤ steps.old + 2 * d + 4 }
+    {
+        match self.last(upto, steps) {
             None => OpId(0),
             Some(last) => last.op.id(),
         }

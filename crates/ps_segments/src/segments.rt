@@ -1,11 +1,15 @@
 //! Sealed segments of a log: entries that do not change, and are shared.
 
 ghost use Rattle.std.specs.Prelude.{◌≡◌, ◌<◌, length, IfOk, IfErr};
+ghost use Rattle.ps_segments.specs.Segmented.{head_id};
 
 use crate::entries::Noted;
+use ps_bucket_log::{Placed, Steps};
+use ps_data::OpId;
 use std::alloc::Global;
 use std::marker::Model;
 use std::sync::Arc;
+use std::sync::ledger::Ledger;
 
 /// Entries that do not change, of which there is one at least.
 #[derive(Debug, Drop)]
@@ -43,5 +47,14 @@ impl Segment {
         ensures filled { 0 < length result.now }
     {
         self.shared.as_slice()
+    }
+}
+
+// A segment stands by the id of its head.
+impl Placed for Segment {
+    ghost id = { head_id };
+
+    fn look_id<L: Ledger>(&self, steps: &mut Steps<L>) -> OpId {
+        self.entries()[0].look(steps).op.id()
     }
 }

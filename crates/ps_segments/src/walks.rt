@@ -10,8 +10,7 @@ ghost use Rattle.ps_segments.specs.Reading.{completed, led_to, looks_beside, is_
 
 use crate::entries::Noted;
 use crate::segments::Segment;
-use crate::steps::Steps;
-use ps_bucket_log::{Batch, Op};
+use ps_bucket_log::{Batch, Op, Steps};
 use ps_data::{Items, Memory, OpId};
 use std::alloc::Global;
 use std::sync::ledger::Ledger;

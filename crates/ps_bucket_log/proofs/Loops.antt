@@ -38,6 +38,10 @@ pub greatest_target_more : (ops : List Op) (i : ℕ) (op : Op) → i < length op
 greatest_target_more ops i op within is =
     ap greatest_target (take_more ops i op within ∙ ap (λ x. take i ops ++ x ∷ []) (sym is)) ∙ greatest_target-push (take i ops) op
 
+-- one more operation is copied
+pub copied_more : (ops : List Op) (i : ℕ) (op : Op) → i < length ops → op ≡ get_or ops i op → take (i + 1) ops ≡ take i ops ++ op ∷ []
+copied_more ops i op within is = take_more ops i op within ∙ ap (λ x. take i ops ++ x ∷ []) (sym is)
+
 pub sum_of_more : (ops : List Op) (i : ℕ) (op : Op) → i < length ops → op ≡ get_or ops i op
     → sum_of (take (i + 1) ops) ≡ (sum_of (take i ops) + checksum op) % 2 ^ 32
 sum_of_more ops i op within is =

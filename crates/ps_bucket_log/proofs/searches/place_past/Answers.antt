@@ -1,6 +1,6 @@
 use Rattle.std.proofs.Common.{◌≡◌, ℕ, suc, ◌+◌, ◌-◌, ◌*◌, ◌/◌, ◌<◌, ◌≤◌, length, arith}
-use Rattle.ps_segments.proofs.Halving.{gap-halves, looks-within, found-low, found-high}
-use Rattle.ps_segments.proofs.searches.place_past.Goals as goal
+use Rattle.ps_bucket_log.proofs.Halving.{gap-halves, looks-within, found-low, found-high}
+use Rattle.ps_bucket_log.proofs.searches.place_past.Goals as goal
 
 pub halves-preserved-then-look_id-id : goal.halves-preserved-then-look_id-id
 halves-preserved-then-look_id-id g c =

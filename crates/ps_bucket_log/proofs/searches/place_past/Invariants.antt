@@ -1,5 +1,5 @@
 use Rattle.std.proofs.Common.{◌≡◌, ℕ, ◌+◌, ◌-◌, ◌*◌, ◌^◌, ◌<◌, ◌≤◌, length, get_or}
-use Rattle.ps_segments.proofs.searches.place_past.Given as goal
+use Rattle.ps_bucket_log.proofs.searches.place_past.Given as goal
 
 -- the place is from low to high, and what is left halves with each look
 abbrev pub invariant-halves : goal.invariant-halves

@@ -2,10 +2,8 @@
 
 ghost use Rattle.std.specs.Prelude.{ℕ, ◌≡◌, ◌+◌, ◌-◌, ◌*◌, ◌^◌, ◌<◌, ◌≤◌, length, slice_index_or};
 ghost use Rattle.ps_bucket_log.specs.Ops.{id_of};
-ghost use Rattle.ps_segments.specs.Segmented.{head_id};
 
-use crate::entries::Noted;
-use crate::segments::Segment;
+use crate::Op;
 use crate::steps::Steps;
 use ps_data::OpId;
 use std::sync::ledger::Ledger;
@@ -23,20 +21,12 @@ pub trait Placed {
         ensures counted { steps.new ≡ steps.old + 1 };
 }
 
-impl Placed for Noted {
-    ghost id = { λ entry. id_of entry.op };
+impl Placed for Op {
+    ghost id = { id_of };
 
     fn look_id<L: Ledger>(&self, steps: &mut Steps<L>) -> OpId {
-        self.look(steps).op.id()
-    }
-}
-
-// A segment stands by the id of its head.
-impl Placed for Segment {
-    ghost id = { head_id };
-
-    fn look_id<L: Ledger>(&self, steps: &mut Steps<L>) -> OpId {
-        self.entries()[0].look(steps).op.id()
+        steps.tick();
+        self.id()
     }
 }
 
