@@ -3,6 +3,7 @@
 use crate::calling::Logs;
 use crate::chance::Chance;
 use case_words::Stop;
+use ps_bucket_log::uncounted::{count_upto, newest_upto, read, sum_upto};
 use ps_bucket_log::{Batch, Log};
 use ps_data::OpId;
 use std::alloc::Global;
@@ -39,8 +40,8 @@ fn ask_read(
     upto: OpId,
     asked: &mut Asked,
 ) -> Result<(), Stop> {
-    let plain = Log::read(&logs.plain, alloc, after, upto)?;
-    let segments = Log::read(&logs.segments, alloc, after, upto)?;
+    let plain = read(alloc, &logs.plain, after, upto)?;
+    let segments = read(alloc, &logs.segments, after, upto)?;
     asked.note(is_same_batch(&plain, &segments));
     Ok(())
 }
@@ -54,9 +55,9 @@ fn ask_at(
     asked: &mut Asked,
 ) -> Result<(), Stop> {
     let (plain, segments) = (&logs.plain, &logs.segments);
-    asked.note(Log::sum_upto(plain, place).0 == Log::sum_upto(segments, place).0);
-    asked.note(Log::count_upto(plain, place) == Log::count_upto(segments, place));
-    asked.note(Log::newest_upto(plain, place) == Log::newest_upto(segments, place));
+    asked.note(sum_upto(plain, place).0 == sum_upto(segments, place).0);
+    asked.note(count_upto(plain, place) == count_upto(segments, place));
+    asked.note(newest_upto(plain, place) == newest_upto(segments, place));
     ask_read(alloc, logs, place, other, asked)?;
     ask_read(alloc, logs, other, place, asked)
 }

@@ -4,6 +4,7 @@ ghost use Rattle.std.specs.Prelude.{◌≡◌, false, IfOk};
 ghost use Rattle.ps_bucket_log.specs.Ops.{id_of, is_clear, newest};
 
 use case_words::{Stop, cut, number_in};
+use ps_bucket_log::uncounted::{read, sum_upto};
 use ps_bucket_log::{BucketLog, Key, Log, Op};
 use ps_checksum::Sum;
 use ps_data::{Memory, OpId, Text};
@@ -50,10 +51,10 @@ fn fill<G: Log>(alloc: Global, log: &mut G, count: u64) -> Result<(), Memory>
 // What one answer comes to.
 fn ask<G: Log>(alloc: Global, log: &G, call: Call, place: u64) -> Result<u64, Memory> {
     match call {
-        Call::Sum => Ok(u64::from(log.sum_upto(OpId(place)).0)),
+        Call::Sum => Ok(u64::from(sum_upto(log, OpId(place)).0)),
         Call::Read => {
             let upto = OpId(place.saturating_add(10));
-            Ok(log.read(alloc, OpId(place), upto)?.ops.len() as u64)
+            Ok(read(alloc, log, OpId(place), upto)?.ops.len() as u64)
         }
     }
 }

@@ -48,6 +48,7 @@ pub mod Stepping
 pub mod StoreStands
 pub mod TakenPlaces
 pub mod Taking
+pub mod Looking
 pub mod Telling
 pub mod Through
 pub mod Ties

@@ -1,5 +1,5 @@
 -- What is taken of a store and read of it.
-use Rattle.std.proofs.Common.{◌≡◌, ℕ, suc, ◌+◌, ◌≤◌, ◌<◌, Bool, true, false, cond, Option, None, List, [], ◌∷◌, ◌++◌, refl, sym, ap, ◌∙◌, subst, length, map, filter, flat_map, take, arith, append_assoc, append-nil}
+use Rattle.std.proofs.Common.{◌≡◌, ℕ, suc, ◌+◌, ◌*◌, ◌≤◌, ◌<◌, Bool, true, false, cond, Option, None, List, [], ◌∷◌, ◌++◌, refl, sym, ap, ◌∙◌, subst, length, map, filter, flat_map, take, arith, append_assoc, append-nil}
 use Rattle.std.specs.Prelude.{nat_le, bytes_eq, ◌&&◌, if◌then◌else◌, Result, Ok, Err, IfOk}
 use Rattle.std.specs.Cmp.Lexicographic.{slice_cmp}
 use Rattle.std.specs.List.Sorted.{IsStrictlySortedBy}
@@ -28,6 +28,8 @@ use Rattle.ps_bucket_log.specs.declared.takes.TakenBucket.{TakenBucket}
 use Rattle.ps_store.specs.declared.readings.TakeFault.TheVariants.{TooManyBuckets}
 use Rattle.ps_store.specs.declared.stores.Store.{Store}
 use Rattle.ps_store.specs.IndexLaws.{GivesBuckets}
+use Rattle.ps_segments.specs.Depths.{IsDepth}
+use Rattle.ps_store.specs.Costs.{AreNoLonger, TakesFew}
 use Rattle.ps_store.specs.Ledgers.{Ledger, ledger_of}
 use Rattle.ps_store.specs.LedgerLaws.{IsWhole}
 use Rattle.ps_store.specs.Noting.{noted}
@@ -37,6 +39,7 @@ use Rattle.ps_store.specs.StepLaws.{transactions_upto}
 use Rattle.ps_store.specs.StoreLogs.{log_at}
 use Rattle.ps_store.specs.Stores.{StoreStandsFor}
 use Rattle.ps_store.specs.Tails.{notes_after}
+use Rattle.ps_store.proofs.Looking.{same_lengths}
 use Rattle.ps_store.proofs.Telling.{counts_history}
 use Rattle.ps_store.proofs.Fronts.{upto_timed, upto-timed, written_upto}
 use Rattle.ps_store.proofs.Marks.{all_told}
@@ -203,6 +206,13 @@ module _ (fixed : Fixed) (store : Store) (history : List Event) (h : StoreStands
               (names_sorted (bucket_names fixed.rules.definitions asker rows) (in_order_rise (flat_map (definition_names asker rows) fixed.rules.definitions)));
           told = subst AreTold (sym plain_are ∙ named) (all_told fixed.rules asker rows h.rules (subst ArePlainTold plain_are told));
         }
+
+    -- and the looks are counted by the names
+    pub take_few : (before after : ℕ) → ((n d : ℕ) → IsDepth n d → AreNoLonger (log_at store.logs) n names → after ≤ before + length names * (3 * (2 * d + 4)))
+        → TakesFew l asker before after
+    take_few before after cost n d depth low =
+        let shorter : AreNoLonger (log_at store.logs) n names = same_lengths (log_at store.logs) l.log n names h.stands.logs (subst (AreNoLonger l.log n) (sym names_are) low) in
+        subst (λ (ns : List (List ℕ)). after ≤ before + length ns * (3 * (2 * d + 4))) names_are (cost n d depth shorter)
 
   -- ---- a batch
 

@@ -20,6 +20,7 @@ pub mod Totals
 pub mod Plans
 pub mod Stores
 pub mod Readings
+pub mod Costs
 pub mod Histories
 pub mod LedgerLaws
 pub mod TotalsLaws

@@ -18,6 +18,7 @@ mod rows;
 mod stores;
 mod tails;
 mod totals;
+mod uncounted;
 mod waiting;
 
 pub use entered::Entered;

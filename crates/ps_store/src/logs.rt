@@ -1,6 +1,6 @@
 //! The logs of all buckets. A bucket without a log has no operations, and so has one with an empty log.
 
-ghost use Rattle.std.specs.Prelude.{◌≡◌, ℕ, ◌+◌, ◌≤◌, ◌<◌, List, [], ◌∷◌, ◌++◌, false, not, OnOk, OnErr, IfOk, bytes_eq, length, map, if◌then◌else◌};
+ghost use Rattle.std.specs.Prelude.{◌≡◌, ℕ, ◌+◌, ◌*◌, ◌≤◌, ◌<◌, List, [], ◌∷◌, ◌++◌, false, not, OnOk, OnErr, IfOk, bytes_eq, length, map, if◌then◌else◌};
 ghost use Rattle.ps_bucket_log.specs.Ops.{id_of, is_clear, newest, upto as up_to};
 ghost use Rattle.ps_bucket_log.specs.Batches.{batch_of};
 ghost use Rattle.ps_store.specs.Originals.{in_bucket};
@@ -10,18 +10,22 @@ ghost use Rattle.std.specs.List.{list_any};
 ghost use Rattle.std.specs.List.Sorted.{IsStrictlySortedBy};
 ghost use Rattle.std.specs.Ordering.{nat_cmp};
 ghost use Rattle.ps_compact.specs.Compaction.{report_of};
+ghost use Rattle.ps_segments.specs.Depths.{IsDepth};
+ghost use Rattle.ps_store.specs.Costs.{AreNoLonger};
 ghost use Rattle.ps_store.specs.Ledgers.{compacted_in};
 ghost use Rattle.ps_store.specs.Readings.{bucket_upto};
 ghost use Rattle.ps_store.specs.StoreLogs.{wanted, log_at, room_at, HasRoom, has_ops, first_ops, AreRising, Continue};
 
 use crate::entered::Entered;
-use ps_bucket_log::{Batch, Log, Op, TakenBucket};
+use ps_bucket_log::uncounted::count_upto;
+use ps_bucket_log::{Batch, Log, Op, Steps, TakenBucket};
 use ps_checksum::Sum;
 use ps_compact::{Report, compact};
 use ps_data::{Items, Memory, OpId, Text};
 use ps_segments::SegmentLog;
 use std::alloc::Global;
 use std::collections::BTreeMap;
+use std::sync::ledger::Ledger;
 
 /// The log that the store uses.
 pub(crate) type StoredLog = SegmentLog;
@@ -47,20 +51,21 @@ impl Logs {
         ensures { result ≡ length (up_to upto.0 (log_at self.now name.now)) }
     {
         match self.logs.get(name) {
-            Some(log) => Log::count_upto(log, upto),
+            Some(log) => count_upto(log, upto),
             None => 0,
         }
     }
 
-    // What a bucket's log has up to an id.
-    fn bucket(&self, name: Text, upto: OpId) -> TakenBucket
-        ensures { result ≡ bucket_upto upto.0 name (log_at self.now name) }
+    // What a bucket's log has up to an id. It is looked for three times.
+    fn bucket<L: Ledger>(&self, name: Text, upto: OpId, steps: &mut Steps<L>) -> TakenBucket
+        ensures cost { (n d : ℕ) → IsDepth n d → length (log_at self.now name) ≤ n → steps.new ≤ steps.old + 3 * (2 * d + 4) }
+        ensures value { result ≡ bucket_upto upto.0 name (log_at self.now name) }
     {
         match self.logs.get(&name) {
             Some(log) => TakenBucket {
-                sum: Log::sum_upto(log, upto),
-                count: Log::count_upto(log, upto),
-                newest: Log::newest_upto(log, upto),
+                sum: log.sum_upto(upto, steps),
+                count: log.count_upto(upto, steps),
+                newest: log.newest_upto(upto, steps),
                 name,
             },
             None => TakenBucket {
@@ -73,33 +78,37 @@ impl Logs {
     }
 
     /// What the logs of buckets have up to an id, for each of these names in its turn.
-    pub(crate) fn buckets(
+    pub(crate) fn buckets<L: Ledger>(
         &self,
         alloc: Global,
         names: Items<Text>,
         upto: OpId,
+        steps: &mut Steps<L>,
     ) -> Result<Items<TakenBucket>, Memory>
-        ensures { IfOk result (λ buckets. buckets ≡ map (λ (name : List ℕ). bucket_upto upto.0 name (log_at self.now name)) names) }
+        ensures cost { (n d : ℕ) → IsDepth n d → AreNoLonger (log_at self.now) n names → steps.new ≤ steps.old + length names * (3 * (2 * d + 4)) }
+        ensures value { IfOk result (λ buckets. buckets ≡ map (λ (name : List ℕ). bucket_upto upto.0 name (log_at self.now name)) names) }
     {
         let mut buckets = Items::new(alloc);
         'names: for name in names.into_vec() {
-            buckets.push(self.bucket(name, upto))?;
+            buckets.push(self.bucket(name, upto, steps))?;
         }
         Ok(buckets)
     }
 
     /// The next operations of a bucket past one id and up to another, as many as one batch may have.
-    pub(crate) fn read(
+    pub(crate) fn read<L: Ledger>(
         &self,
         alloc: Global,
         name: &Text,
         after: OpId,
         upto: OpId,
+        steps: &mut Steps<L>,
     ) -> Result<Batch, Memory>
-        ensures { IfOk result (λ batch. batch ≡ batch_of after.0 upto.0 (log_at self.now name.now)) }
+        ensures cost { (d : ℕ) → IsDepth (length (log_at self.now name.now)) d → IfOk result (λ batch. steps.new ≤ steps.old + length batch.ops + 2 * d + 4) }
+        ensures value { IfOk result (λ batch. batch ≡ batch_of after.0 upto.0 (log_at self.now name.now)) }
     {
         match self.logs.get(name) {
-            Some(log) => Log::read(log, alloc, after, upto),
+            Some(log) => log.read(alloc, after, upto, steps),
             None => Ok(Batch {
                 ops: Items::new(alloc),
                 has_more: false,
@@ -163,7 +172,7 @@ impl Logs {
         ensures rooms { (other : List ℕ) → room_at self.old other ≤ room_at self.new other + (if bytes_eq other name.now then 1 else 0) }
     {
         if let Some(log) = self.logs.get_mut(name) {
-            let first = Log::count_upto(log, op.id()) == 0;
+            let first = count_upto(log, op.id()) == 0;
             log.append(op);
             return first;
         }
@@ -221,7 +230,7 @@ fn add_name(
 ) -> Result<(), Memory>
     ensures { OnOk result (names.new ≡ (if has_ops (up_to upto.0 log.now.ops) then names.old ++ name.now ∷ [] else names.old)) }
 {
-    if Log::count_upto(log, upto) == 0 {
+    if count_upto(log, upto) == 0 {
         return Ok(());
     }
     names.push(name.copy(alloc)?)

@@ -7,6 +7,7 @@ ghost use Rattle.ps_sql_eval.specs.Evaluated.{asker_of};
 ghost use Rattle.ps_store.specs.declared.events.Event.{Event as EventSeen};
 ghost use Rattle.ps_store.specs.declared.events.Event.TheVariants.{Close};
 ghost use Rattle.ps_store.specs.declared.fixed.Fixed.{Fixed as FixedSeen};
+ghost use Rattle.ps_store.specs.Costs.{TakesFew, ReadsFew};
 ghost use Rattle.ps_store.specs.Ledgers.{ledger_of, head_of};
 ghost use Rattle.ps_store.specs.Limits.{greatest, AreWithin};
 ghost use Rattle.ps_store.specs.Readings.{Takes, batch_of, covered_of, log_length_of};
@@ -30,7 +31,8 @@ use crate::tails::{Tail, advance};
 use crate::totals::{Totals, sum_of};
 use crate::waiting::Waiting;
 use ps_bucket_log::{
-    Batch, Taken, standing_logs_have_the_sums_of_their_originals, standing_logs_stay_standing,
+    Batch, Steps, Taken, standing_logs_have_the_sums_of_their_originals,
+    standing_logs_stay_standing,
 };
 use ps_compact::Report;
 use ps_data::{Items, Memory, OpId, Position, Text};
@@ -41,6 +43,7 @@ use ps_sql_eval::Asker;
 use ps_write_cp::{NumberFault, WriteCheckpoints};
 use std::alloc::Global;
 use std::collections::VecDeque;
+use std::sync::ledger::Ledger;
 
 /// What clients are shown: the source at a position, and the operations up to an id.
 #[derive(Clone, Copy, Debug)]
@@ -337,10 +340,18 @@ impl Store {
     /// The checkpoint as it is for an asker: of each bucket that the asker has at its position what the log has up to its op.
     /// What is written and not committed is not seen. It carries the number of the client's last write checkpoint that its
     /// position covers, none where there is none. `TooManyBuckets` exactly where the asker has more buckets than the
-    /// limit. It takes time in the logs of the asker's buckets alone.
-    pub fn take(&self, alloc: Global, asker: &Asker) -> Result<Taken, TakeFault>
+    /// limit. It takes at most 3(2d + 4) steps for each of the asker's buckets, with d the greatest number for which 2^d is at most 2N + 1,
+    /// where the longest of their logs has N operations.
+    pub fn take<L: Ledger>(
+        &self,
+        alloc: Global,
+        asker: &Asker,
+        steps: &mut Steps<L>,
+    ) -> Result<Taken, TakeFault>
         requires { (fixed : FixedSeen) × (history : List EventSeen) × StoreStandsFor fixed self.now history }
-        ensures { (fixed : FixedSeen) (history : List EventSeen) → StoreStandsFor fixed self.now history → Takes fixed history (asker_of asker.now) result }
+        ensures takes { (fixed : FixedSeen) (history : List EventSeen) → StoreStandsFor fixed self.now history → Takes fixed history (asker_of asker.now) result }
+        ensures cost { (fixed : FixedSeen) (history : List EventSeen) → StoreStandsFor fixed self.now history
+            → TakesFew (ledger_of fixed.rules history) (asker_of asker.now) steps.old steps.new }
     {
         notes_of_changes_are_the_source();
         let names = self
@@ -353,7 +364,7 @@ impl Store {
             });
         }
         let number = self.covered(asker);
-        let buckets = self.logs.buckets(alloc, names, self.checkpoint.op)?;
+        let buckets = self.logs.buckets(alloc, names, self.checkpoint.op, steps)?;
         Ok(Taken {
             position: self.checkpoint.position,
             head: self.head,
@@ -365,18 +376,21 @@ impl Store {
     }
 
     /// The next operations of a bucket with ids past `after` and up to `upto`, as many as one batch may have; an empty batch
-    /// for a bucket that is not there.
-    pub fn read_batch(
+    /// for a bucket that is not there. Where it gives n operations of a log of N, it takes at most n + 2d + 4 steps, with d as at `take`.
+    pub fn read_batch<L: Ledger>(
         &self,
         alloc: Global,
         bucket: &Text,
         after: OpId,
         upto: OpId,
+        steps: &mut Steps<L>,
     ) -> Result<Batch, Memory>
-        ensures { (fixed : FixedSeen) (history : List EventSeen) → StoreStandsFor fixed self.now history
+        ensures value { (fixed : FixedSeen) (history : List EventSeen) → StoreStandsFor fixed self.now history
             → IfOk result (λ batch. batch ≡ batch_of (ledger_of fixed.rules history) bucket.now after.0 upto.0) }
+        ensures cost { (fixed : FixedSeen) (history : List EventSeen) → StoreStandsFor fixed self.now history
+            → ReadsFew (ledger_of fixed.rules history) bucket.now result steps.old steps.new }
     {
-        self.logs.read(alloc, bucket, after, upto)
+        self.logs.read(alloc, bucket, after, upto, steps)
     }
 
     /// Makes a write checkpoint of a user's client at the position of the last fed transaction, 0 where none, and gives its number: one more

@@ -61,7 +61,7 @@ impl Readings for &Store {
     ghost may_come = { λ _ more. more ≡ [] };
 
     fn take(&mut self, alloc: Global, asker: &Asker) -> Result<Taken, TakeFault> {
-        Store::take(*self, alloc, asker)
+        Store::take_uncounted(*self, alloc, asker)
     }
 
     fn read_batch(
@@ -71,7 +71,7 @@ impl Readings for &Store {
         after: OpId,
         upto: OpId,
     ) -> Result<Batch, Memory> {
-        Store::read_batch(*self, alloc, bucket, after, upto)
+        Store::read_uncounted(*self, alloc, bucket, after, upto)
     }
 
     ghost valid = { λ store fixed history stands. record { rules = stands.rules; numbers = stands.query_numbers; legal = stands.legal } };

@@ -79,7 +79,7 @@ pub fn take_in_turn<R: Wait>(
 {
     let mut turn = lock.turn(rt, seat);
     let look = look_at(turn.value());
-    let taken = turn.value().take(alloc, asker);
+    let taken = turn.value().take_uncounted(alloc, asker);
     (turn.leave(), look, taken)
 }
 
@@ -99,7 +99,7 @@ pub fn read_in_turn<R: Wait>(
 {
     let mut turn = lock.turn(rt, seat);
     let look = look_at(turn.value());
-    let batch = turn.value().read_batch(alloc, bucket, after, upto);
+    let batch = turn.value().read_uncounted(alloc, bucket, after, upto);
     (turn.leave(), look, batch)
 }
 

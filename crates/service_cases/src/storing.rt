@@ -53,7 +53,7 @@ fn write_log(alloc: Global, store: &Store, name: &str, out: &mut String) -> Resu
     let upto = store.checkpoint().op;
     let mut after = OpId(0);
     'batches: for _ in 0..store.log_length(&name) {
-        let batch = store.read_batch(alloc, &name, after, upto)?;
+        let batch = store.read_uncounted(alloc, &name, after, upto)?;
         after = write_ops(out, after, batch.ops.as_slice())?;
         if !batch.has_more {
             break;

@@ -123,7 +123,7 @@ fn take(alloc: Global, store: &Store, work: Work, asker: &Asker) -> Option<()>
     match work {
         Work::Again | Work::Different | Work::Parameter => Some(()),
         Work::Takes | Work::LongTakes => {
-            let _taken = store.take(alloc, asker).ok()?;
+            let _taken = store.take_uncounted(alloc, asker).ok()?;
             Some(())
         }
     }

@@ -1,7 +1,7 @@
-//! Takes the checkpoint of one user again and again, for `bench/take` to time: `take BUCKETS OWN TAKES` feeds, writes and
-//! commits BUCKETS notes, each in a room of its own, so that each is the one operation of its bucket. Each room has one
-//! member. OWN rooms, far apart, are the user's, who then takes TAKES times. Prints the last id, and how many buckets all takes
-//! had together.
+//! Takes the checkpoint of one user again and again, for `bench/take` to time: `take BUCKETS OWN LENGTH TAKES` feeds, writes and
+//! commits BUCKETS notes, each in a room of its own, and changes the note of each room of the user until it has LENGTH operations
+//! in its bucket. Each room has one member. OWN rooms, far apart, are the user's, who then takes TAKES times. Prints the last id, and
+//! how many buckets all takes had together.
 
 ghost use Rattle.case_stores.specs.Histories.{HasHistory};
 
@@ -17,11 +17,12 @@ use std::io;
 const RULES: &str =
     "bucket_definitions:\n  room:\n    parameters: SELECT room FROM members WHERE user = request.user_id()\n    data:\n      - SELECT * FROM notes WHERE room = bucket.room\n";
 
-/// How many buckets there are, how many of them are the user's, and how often the user takes.
+/// How many buckets there are, how many of them are the user's, how many operations each of these has, and how often the user takes.
 #[derive(Clone, Copy)]
 struct Job {
     buckets: u64,
     own: u64,
+    length: u64,
     takes: u64,
 }
 
@@ -51,6 +52,48 @@ fn add_room(alloc: Global, store: &mut Store, job: Job, room: u64) -> Option<()>
     write(alloc, store, 1000)
 }
 
+// The line that changes a room's note.
+fn note_line(alloc: Global, room: u64, position: u64) -> Result<String, Memory> {
+    Ok(format!(in alloc;
+        "{{\"pos\":\"{position}\",\"changes\":[{{\"op\":\"PUT\",\"table\":\"notes\",\"id\":\"n{room}\",\"row\":{{\"room\":\"r{room}\",\"text\":\"note {position}\"}}}}]}}"
+    )?)
+}
+
+// Changes the note of a room of the user, so that its log grows.
+fn change_note(alloc: Global, store: &mut Store, room: u64, position: u64) -> Option<()>
+    requires { HasHistory store.old }
+    ensures { HasHistory store.new }
+{
+    let line = note_line(alloc, room, position).ok()?;
+    feed(alloc, store, transaction_of(alloc, line.as_str())?)?;
+    write(alloc, store, 1000)
+}
+
+// Changes each note of the user once.
+fn change_notes(alloc: Global, store: &mut Store, job: Job, round: u64) -> Option<()>
+    requires { HasHistory store.old }
+    ensures { HasHistory store.new }
+{
+    let apart = job.buckets.checked_div(job.own).unwrap_or(0);
+    let begin = job.buckets.wrapping_add(round.wrapping_mul(job.own));
+    'own: for number in 0..job.own {
+        let position = begin.wrapping_add(number).wrapping_add(1);
+        change_note(alloc, store, number.wrapping_mul(apart), position)?;
+    }
+    Some(())
+}
+
+// Changes the notes of the user until their logs are long.
+fn grow_logs(alloc: Global, store: &mut Store, job: Job) -> Option<()>
+    requires { HasHistory store.old }
+    ensures { HasHistory store.new }
+{
+    'rounds: for round in 1..job.length {
+        change_notes(alloc, store, job, round.wrapping_sub(1))?;
+    }
+    Some(())
+}
+
 // Makes all rooms, and the checkpoint.
 fn add_rooms(alloc: Global, store: &mut Store, job: Job) -> Option<()>
     requires { HasHistory store.old }
@@ -59,6 +102,7 @@ fn add_rooms(alloc: Global, store: &mut Store, job: Job) -> Option<()>
     'rooms: for room in 0..job.buckets {
         add_room(alloc, store, job, room)?;
     }
+    grow_logs(alloc, store, job)?;
     commit(store)
 }
 
@@ -66,7 +110,7 @@ fn add_rooms(alloc: Global, store: &mut Store, job: Job) -> Option<()>
 fn take(alloc: Global, store: &Store, asker: &Asker) -> Option<u64>
     requires { HasHistory store.now }
 {
-    let taken = store.take(alloc, asker).ok()?;
+    let taken = store.take_uncounted(alloc, asker).ok()?;
     Some(taken.buckets.len() as u64)
 }
 
@@ -90,20 +134,21 @@ fn figures_of(alloc: Global, job: Job) -> Option<(u64, u64)> {
     Some((store.checkpoint().op.0, buckets))
 }
 
-fn job_of(buckets: &str, own: &str, takes: &str) -> Option<Job> {
+fn job_of(buckets: &str, own: &str, length: &str, takes: &str) -> Option<Job> {
     Some(Job {
         buckets: number_in(buckets).ok()?,
         own: number_in(own).ok()?,
+        length: number_in(length).ok()?,
         takes: number_in(takes).ok()?,
     })
 }
 
 /// Prints the last id, and how many buckets all takes had together.
 pub(crate) fn answer(rt: HostRuntime, words: &[&str]) -> io::Result<()> {
-    let [buckets, own, takes] = words else {
-        return println!(rt; "usage: take BUCKETS OWN TAKES");
+    let [buckets, own, length, takes] = words else {
+        return println!(rt; "usage: take BUCKETS OWN LENGTH TAKES");
     };
-    let figures = match job_of(buckets, own, takes) {
+    let figures = match job_of(buckets, own, length, takes) {
         Some(job) => figures_of(rt.alloc(), job),
         None => None,
     };

@@ -49,7 +49,7 @@ fn push_taken(out: &mut String, taken: &Taken) -> Result<(), Stop> {
 fn show_taken(alloc: Global, store: &Store, asker: &Asker, out: &mut String) -> Result<(), Stop>
     requires { HasHistory store.now }
 {
-    match store.take(alloc, asker) {
+    match store.take_uncounted(alloc, asker) {
         Ok(taken) => push_taken(out, &taken),
         Err(TakeFault::TooManyBuckets { count }) => Ok(write!(out, "too many buckets {count}")?),
         Err(TakeFault::Memory) => Ok(out.push_str("memory")?),
@@ -106,7 +106,7 @@ pub fn show_read(alloc: Global, store: &Store, words: &str, out: &mut String) ->
     let (upto, bucket) = cut(words);
     let (after, upto) = (number_in(after)?, number_in(upto)?);
     let bucket = Text::from_str(alloc, bucket)?;
-    match store.read_batch(alloc, &bucket, OpId(after), OpId(upto)) {
+    match store.read_uncounted(alloc, &bucket, OpId(after), OpId(upto)) {
         Ok(batch) => push_batch(out, &batch),
         Err(Memory) => Ok(out.push_str("memory")?),
     }

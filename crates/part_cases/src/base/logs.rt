@@ -5,6 +5,7 @@ ghost use Rattle.ps_bucket_log.specs.Ops.{id_of, is_clear, newest};
 ghost use Rattle.ps_bucket_log.specs.Logs.{IsLog};
 
 use case_words::{Stop, cut, number_in, size_in};
+use ps_bucket_log::uncounted::{count_upto, newest_upto, read, sum_upto};
 use ps_bucket_log::{
     Batch, BucketLog, Key, Log, Op, batches_are_the_log, batches_keep_readers_honest,
     honest_readers_stay_honest, readers_are_whole_at_the_newest, readers_need_no_targets,
@@ -121,7 +122,7 @@ fn write_ops(out: &mut String, ops: &[Op]) -> Result<(), Stop> {
 
 fn write_read<L: Log>(alloc: Global, log: &L, words: &str, out: &mut String) -> Result<(), Stop> {
     let (after, upto) = cut(words);
-    let batch = log.read(alloc, OpId(number_in(after)?), OpId(number_in(upto)?))?;
+    let batch = read(alloc, log, OpId(number_in(after)?), OpId(number_in(upto)?))?;
     write_batch(out, &batch)
 }
 
@@ -130,9 +131,9 @@ fn write_answer<L: Log>(alloc: Global, log: &L, words: &str, out: &mut String) -
     let (question, words) = cut(words);
     match question {
         "read" => write_read(alloc, log, words, out),
-        "count" => Ok(write!(out, "{}", log.count_upto(OpId(number_in(words)?)))?),
-        "newest" => Ok(write!(out, "{}", log.newest_upto(OpId(number_in(words)?)).0)?),
-        "sum" => Ok(write!(out, "{}", log.sum_upto(OpId(number_in(words)?)).0)?),
+        "count" => Ok(write!(out, "{}", count_upto(log, OpId(number_in(words)?)))?),
+        "newest" => Ok(write!(out, "{}", newest_upto(log, OpId(number_in(words)?)).0)?),
+        "sum" => Ok(write!(out, "{}", sum_upto(log, OpId(number_in(words)?)).0)?),
         "ops" => write_ops(out, log.ops(alloc)?.as_slice()),
         _ => Err("no question".into()),
     }

@@ -3,6 +3,7 @@
 use crate::compaction::logs::{log_of, put, remove};
 use crate::compaction::plain::{compacted, is_told};
 use case_words::{Stop, cut, number_in};
+use ps_bucket_log::uncounted::newest_upto;
 use ps_bucket_log::{BucketLog, Log, Op};
 use ps_compact::compact;
 use ps_data::OpId;
@@ -48,7 +49,7 @@ impl Chance {
 // Puts up to twelve operations behind those of a log.
 fn grown(alloc: Global, chance: &mut Chance, log: &BucketLog) -> Result<BucketLog, Stop> {
     let mut ops = log.ops(alloc)?;
-    let mut id = log.newest_upto(OpId(u64::MAX)).0;
+    let mut id = newest_upto(log, OpId(u64::MAX)).0;
     let count = chance.below(13);
     'ops: for _ in 0..count {
         id = id.wrapping_add(1).wrapping_add(chance.below(2));
@@ -70,7 +71,7 @@ fn agrees(alloc: Global, log: &BucketLog, level: u64) -> Result<bool, Stop> {
 
 // At how many levels a log, compacted, is not what the rule says; and how many were tried.
 fn differences(alloc: Global, log: &BucketLog) -> Result<(u64, u64), Stop> {
-    let newest = log.newest_upto(OpId(u64::MAX)).0;
+    let newest = newest_upto(log, OpId(u64::MAX)).0;
     let mut wrong: u64 = 0;
     let mut tried: u64 = 0;
     'levels: for level in 0..=newest {

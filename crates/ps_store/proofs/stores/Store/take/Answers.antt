@@ -1,20 +1,30 @@
 use Rattle.std.proofs.Common.{arith}
 use Rattle.ps_sql_eval.specs.Evaluated.{asker_of}
-use Rattle.ps_store.proofs.Taking.{same_rules, not_forgotten, too_many, take_done}
+use Rattle.ps_store.proofs.Taking.{same_rules, not_forgotten, too_many, take_done, take_few}
 use Rattle.ps_store.proofs.stores.Store.take.Goals as goal
 
 pub rows_for-requires-clause-rules : goal.rows_for-requires-clause-rules
-rows_for-requires-clause-rules c = same_rules c.requires.0 c.args.self.now c.requires.1 c.requires.2
+rows_for-requires-clause-rules g c = same_rules c.requires.0 c.args.self.now c.requires.1 c.requires.2
 
 pub rows_for-requires-clause-kept : goal.rows_for-requires-clause-kept
-rows_for-requires-clause-kept c = not_forgotten c.requires.0 c.args.self.now c.requires.1 c.requires.2
+rows_for-requires-clause-kept g c = not_forgotten c.requires.0 c.args.self.now c.requires.1 c.requires.2
 
-pub returns-then-count-self : goal.returns-then-count-self
-returns-then-count-self c = λ fixed history h.
+pub returns-then-count-self-clause-takes : goal.returns-then-count-self-clause-takes
+returns-then-count-self-clause-takes g c = λ fixed history h.
     too_many fixed c.args.self.now history h (asker_of c.args.asker.now) c.in_ok-names.names c.notes_of_changes_are_the_source.ensures.read c.in_ok-names.ensures.names
     c.len-count.result c.len-count.ensures (omega (arith, c.len-count.ensures))
 
-pub returns : goal.returns
-returns c = λ fixed history h.
+pub returns-clause-takes : goal.returns-clause-takes
+returns-clause-takes g c = λ fixed history h.
     take_done fixed c.args.self.now history h (asker_of c.args.asker.now) c.in_ok-names.names c.notes_of_changes_are_the_source.ensures.read c.in_ok-names.ensures.names
-    c.in_ok-buckets.buckets c.covered-number.result (c.covered-number.ensures fixed history h) c.in_ok-names.ensures.told (omega (arith, c.len-count.ensures)) c.in_ok-buckets.ensures
+    c.in_ok-buckets.buckets c.covered-number.result (c.covered-number.ensures fixed history h) c.in_ok-names.ensures.told (omega (arith, c.len-count.ensures)) c.in_ok-buckets.ensures.value
+
+pub returns-clause-cost : goal.returns-clause-cost
+returns-clause-cost g c = λ fixed history h.
+    take_few fixed c.args.self.now history h (asker_of c.args.asker.now) c.in_ok-names.names c.notes_of_changes_are_the_source.ensures.read c.in_ok-names.ensures.names
+    c.args.steps.now c.buckets.new.steps c.buckets.ensures.cost
+
+pub returns-in_err-buckets-clause-cost : goal.returns-in_err-buckets-clause-cost
+returns-in_err-buckets-clause-cost g c = λ fixed history h.
+    take_few fixed c.args.self.now history h (asker_of c.args.asker.now) c.in_ok-names.names c.notes_of_changes_are_the_source.ensures.read c.in_ok-names.ensures.names
+    c.args.steps.now c.buckets.new.steps c.buckets.ensures.cost

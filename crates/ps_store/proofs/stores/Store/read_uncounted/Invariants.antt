@@ -1,0 +1,4 @@
+use Rattle.ps_store.proofs.stores.Store.read_uncounted.Given as goal
+
+abbrev pub ghosts-read_in : goal.ghosts-read_in
+ghosts-read_in a = record { name = a.blank.name; parts = a.blank.parts }
