@@ -1,4 +1,4 @@
-use Rattle.std.proofs.Common.{ℕ, [], length, sym, subst}
+use Rattle.std.proofs.Common.{[], length, sym, subst}
 use Rattle.std.specs.Option.{option_map_or}
 use Rattle.ps_segments.specs.Depths.{IsDepth}
 use Rattle.ps_store.specs.StoreLogs.{ops_of}
