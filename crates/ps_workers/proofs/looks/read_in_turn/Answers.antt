@@ -17,4 +17,4 @@ returns-clause-turn g c =
       stood = (value_of turn, stands);
       found = c.look_at-look.ensures (fixed_of c.args.lock.now) (history_of turn) (lent c.args.lock.now turn c.value.result.now c.value.ensures.value stands);
     } in
-    (history_of turn, record { looks = looked; reads = c.read_batch-batch.ensures (fixed_of c.args.lock.now) (history_of turn) again })
+    (history_of turn, record { looks = looked; reads = c.read_uncounted-batch.ensures (fixed_of c.args.lock.now) (history_of turn) again })

@@ -7,5 +7,5 @@ returns c = λ fixed history serves. (
   [],
   refl,
   serves_still fixed c.args.self.now.now history serves,
-  reads_still fixed history c.args.bucket.now c.args.after c.args.upto c.read_batch.result (c.read_batch.ensures fixed history serves),
+  reads_still fixed history c.args.bucket.now c.args.after c.args.upto c.read_uncounted.result (c.read_uncounted.ensures fixed history serves),
 )

@@ -8,5 +8,5 @@ returns c = λ fixed history serves. (
   [],
   refl,
   serves_still fixed c.args.self.now.now history serves,
-  takes_still fixed history (asker_of c.args.asker.now) c.take.result (c.take.ensures fixed history serves),
+  takes_still fixed history (asker_of c.args.asker.now) c.take_uncounted.result (c.take_uncounted.ensures fixed history serves),
 )
