@@ -54,3 +54,4 @@ pub mod Ties
 pub mod Totalling
 pub mod Upto
 pub mod Worked
+pub mod Sums
