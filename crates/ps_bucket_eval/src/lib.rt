@@ -1,6 +1,7 @@
 //! The buckets that a row lies in: the entries of a row, from the branches of data queries.
 #![tactic(auto)]
 
+mod changes;
 mod evaluating;
 mod faults;
 mod laws;
@@ -10,6 +11,7 @@ mod placing;
 mod solving;
 mod source_rows;
 
+pub use changes::{ChangeEntries, entries_of_change};
 pub use faults::PlaceFault;
 pub use laws::entries_stand_where_conditions_hold;
 pub use placed::Placed;

@@ -1,4 +1,4 @@
-ghost use Rattle.std.specs.Prelude.{◌≡◌, ◌≤◌, ◌++◌, drop, [], ◌∷◌, true, false, IfOk, OnOk, length, map, flat_map, bytes_eq};
+ghost use Rattle.std.specs.Prelude.{◌≡◌, ◌≤◌, ◌<◌, ◌++◌, drop, [], ◌∷◌, true, false, IfOk, OnOk, length, map, flat_map, bytes_eq};
 ghost use Rattle.std.specs.List.{list_any};
 ghost use Rattle.ps_definitions.specs.declared.branches.Branch.{Branch as BranchData};
 ghost use Rattle.ps_definitions.specs.Names.{has_repeated};
@@ -26,8 +26,8 @@ use std::slice;
 /// The entries of a row: for each data query of its table that shows an object for it, and for each vector of parameter
 /// values for which the query's condition holds, the bucket of that vector and the object. They stand in the order of the
 /// queries' numbers, and of the buckets' names in the order of their bytes; no two have one number and one bucket.
-/// Fails with `TooWide` exactly where there are more than `top`, and counts no further than one past it. No vector is
-/// tried: those that can hold are solved from the branches of the condition.
+/// Fails with `TooWide` exactly where there are more than `top`, and counts no further than one past it; `top` is below
+/// 4294967295. No vector is tried: those that can hold are solved from the branches of the condition.
 pub fn entries_of_row(
     alloc: Global,
     rules: &Rules,
@@ -36,7 +36,7 @@ pub fn entries_of_row(
     row: &Row,
     top: u32,
 ) -> Result<Items<Placed>, PlaceFault>
-    requires { top ≤ 1000000 }
+    requires { top < 4294967295 }
     ensures placed { IsPlaced (entries_of rules.now.definitions (row_of table.now id.now row.now)) top result }
     ensures every_vector { IfOk result (PlacedWhereItHolds rules.now (row_of table.now id.now row.now)) }
     ensures order { IfOk result EntriesRise }
@@ -67,7 +67,7 @@ fn place_query(
     requires differ { has_repeated definition.now.names ≡ false }
     requires sound { IsSoundQuery definition.now.names planned.now }
     requires within { length placed.old ≤ top }
-    requires top { top ≤ 1000000 }
+    requires top { top < 4294967295 }
     ensures { AddsEntries top placed.old placed.new (query_entries definition.now (row_at source.now) planned.now) result }
 {
     let Some(object) = shown_id(alloc, &planned.query, source)? else {

@@ -17,7 +17,6 @@ use Rattle.ps_store.specs.Limits.{greatest, AreWithin}
 use Rattle.ps_store.specs.Originals.{Timed, timed}
 use Rattle.ps_store.specs.Plans.{IsStart, IsRun}
 use Rattle.ps_store.specs.Reach.{Reached, reached}
-use Rattle.ps_store.specs.Rows.{AreNarrow}
 use Rattle.ps_store.specs.Runs.{Run, run_from}
 use Rattle.ps_store.specs.StoreLogs.{log_at, AreRising, Continue}
 use Rattle.ps_store.specs.Stores.{Stands, StoreStandsFor, IsSame, IsFilled, IsNamed, IsRefused, next_run, Writes}
@@ -28,17 +27,14 @@ use Rattle.ps_store.proofs.Advancing.{not_falling}
 use Rattle.ps_store.proofs.Coming.{stands_event, stands_still}
 use Rattle.ps_store.proofs.OneGeneration.{tells_one}
 use Rattle.ps_store.proofs.Refusing.{refused_is, refusal_there}
-use Rattle.ps_store.proofs.StoreStands.{stands_same, is_start, narrow_rows, newer, counted, rows_are_there, stands_written, last_of_run, within_limit, count_there, ops_count, low_of_run, ops_low, count_low}
+use Rattle.ps_store.proofs.StoreStands.{stands_same, is_start, newer, counted, rows_are_there, stands_written, last_of_run, within_limit, count_there, ops_count, low_of_run, ops_low, count_low}
 
 pub usual : (fixed : Fixed) (store : Store) (history : List Event) → StoreStandsFor fixed store history → AreWithin store.fixed.limits
 usual fixed store history h = subst (λ (f : Fixed). AreWithin f.limits) (sym h.fixed_is) h.limits
 
-pub narrow : (fixed : Fixed) (store : Store) (history : List Event) → StoreStandsFor fixed store history → AreNarrow store.fixed.rules.definitions store.fixed.limits.entries store.rows
-narrow fixed store history h = narrow_rows store (ledger_of fixed.rules history) h.stands
-
 module _ (fixed : Fixed) (old : Store) (history : List Event) (h : StoreStandsFor fixed old history) (limit : ℕ) (planned : Planned)
     (said : (base : Ledger) → IsStart old.fixed.rules old.rows old.last.0 base
-    → IsRun old.fixed.rules old.rows base planned (take limit old.tail.changes.items) (run_from old.fixed.limits base 0 (take limit old.tail.changes.items))) where
+    → IsRun old.fixed.rules old.rows old.tail.changes.items base planned (take limit old.tail.changes.items) (run_from old.fixed.limits base 0 (take limit old.tail.changes.items))) where
   abbrev l : Ledger
   l = ledger_of fixed.rules history
 
@@ -51,8 +47,8 @@ module _ (fixed : Fixed) (old : Store) (history : List Event) (h : StoreStandsFo
   entries_low : old.fixed.limits.entries ≤ 1000
   entries_low = (usual fixed old history h).entries
 
-  is_run : IsRun old.fixed.rules old.rows l planned (take limit (unwritten l)) run
-  is_run = subst (λ (us : List Timed). IsRun old.fixed.rules old.rows l planned (take limit us) (run_from old.fixed.limits l 0 (take limit us))) h.stands.changes (said l (is_start old l one.number one.wrote h.stands))
+  is_run : IsRun old.fixed.rules old.rows old.tail.changes.items l planned (take limit (unwritten l)) run
+  is_run = subst (λ (us : List Timed). IsRun old.fixed.rules old.rows old.tail.changes.items l planned (take limit us) (run_from old.fixed.limits l 0 (take limit us))) h.stands.changes (said l (is_start old l one.number one.wrote h.stands))
 
   next_is : next_run fixed history limit ≡ run
   next_is = ap (λ (f : Fixed). run_from f.limits l 0 (take limit (unwritten l))) (sym h.fixed_is)

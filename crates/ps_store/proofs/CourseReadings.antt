@@ -375,6 +375,7 @@ module _ (laws : StoreLaws) (rules : RuleSet) (history : List Event) (asker : As
     batch = λ n low high name. refl;
     within = within_op;
     newest_low = λ n name. omega (arith, (sound n).newest_low name, last_low n);
+    sums = λ n name. (sound n).sums name;
     takes = λ n name bucket is.
         let told_is = told_by (place n).op (place n).log (names_of (place n) asker) name bucket is in
         record {

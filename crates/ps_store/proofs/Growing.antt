@@ -35,6 +35,7 @@ use Rattle.ps_store.proofs.Filling.{in_bucket_cons, in_bucket_append}
 use Rattle.ps_store.proofs.Lawful.{Grown, EndsWithin}
 use Rattle.ps_store.proofs.Members.{Has, has_cases}
 use Rattle.ps_store.proofs.Reaching.{head_fed, rises_push}
+use Rattle.ps_store.proofs.Sums.{every_append, AreSummed, AreEnteredSummed, lane_summed, summed_in}
 
 -- ---- what is entered
 
@@ -186,6 +187,7 @@ head_up l t later = omega (arith, later, head_fed l.fed t 0)
 pub record IsSound (l : Ledger) : Type 0 where
   pub entries : (bucket : List ℕ) → AreEntries 0 (in_bucket bucket l.entered)
   pub newest_low : (bucket : List ℕ) → newest (in_bucket bucket l.entered) ≤ l.last
+  pub sums : (bucket : List ℕ) → AreSummed (in_bucket bucket l.entered)
   pub op_low : l.op ≤ l.last
   pub reach_low : l.reach.op ≤ l.wrote
   pub wrote_low : l.wrote ≤ l.last
@@ -225,6 +227,7 @@ module _ (grows_later : GrowsLater) (stands_later : StandsLater) (for_itself : S
   sound_fresh rules = record {
     entries = λ bucket. record { rising = tt; entries = refl };
     newest_low = λ bucket. omega arith;
+    sums = λ bucket. tt;
     op_low = omega arith;
     reach_low = omega arith;
     wrote_low = omega arith;
@@ -249,6 +252,10 @@ module _ (grows_later : GrowsLater) (stands_later : StandsLater) (for_itself : S
   newest_entered l es next h bucket = subst (λ (ops : List Op). newest ops ≤ l.last + length es) (sym (entered_in l es bucket))
       (newest_within bucket (in_bucket bucket l.entered) es l.last (l.last + length es) (h.newest_low bucket) next)
 
+  sums_entered : (l : Ledger) (es : List Entered) → AreEnteredSummed es → IsSound l → (bucket : List ℕ) → AreSummed (in_bucket bucket (l.entered ++ es))
+  sums_entered l es summed h bucket = subst AreSummed (sym (entered_in l es bucket))
+      (every_append _ (in_bucket bucket l.entered) (in_bucket bucket es) (h.sums bucket) (summed_in bucket es summed))
+
   stands_entered : (l : Ledger) (es : List Entered) → AreNext l.last es (l.last + length es) → IsSound l → (bucket : List ℕ)
       → StandsFor (l.log bucket ++ in_bucket bucket es) (in_bucket bucket (l.entered ++ es)) (l.level bucket)
   stands_entered l es next h bucket =
@@ -265,6 +272,7 @@ module _ (grows_later : GrowsLater) (stands_later : StandsLater) (for_itself : S
       record {
         entries = entries_entered l es next h;
         newest_low = newest_entered l es next h;
+        sums = sums_entered l es (lane_summed l.force l.last t) h;
         op_low = omega (arith, h.op_low);
         reach_low = settled_within l.reach.left (wrote_next l t) l.reach.position l.reach.op (l.reach.over + 1) (omega (arith, h.reach_low));
         wrote_low = omega (arith, h.wrote_low, low);
@@ -282,6 +290,7 @@ module _ (grows_later : GrowsLater) (stands_later : StandsLater) (for_itself : S
       record {
         entries = entries_entered l es next h;
         newest_low = newest_entered l es next h;
+        sums = sums_entered l es (lane_summed c.lane l.last t) h;
         op_low = omega (arith, h.op_low);
         reach_low = h.reach_low;
         wrote_low = omega (arith, h.wrote_low);
@@ -315,6 +324,7 @@ module _ (grows_later : GrowsLater) (stands_later : StandsLater) (for_itself : S
   sound_switched (Some c) l h = record {
     entries = h.entries;
     newest_low = λ bucket. omega (arith, h.newest_low bucket);
+    sums = h.sums;
     op_low = omega arith;
     reach_low = h.reach_low;
     wrote_low = omega (arith, h.wrote_low);
@@ -330,6 +340,7 @@ module _ (grows_later : GrowsLater) (stands_later : StandsLater) (for_itself : S
   sound_abandoned (Some c) l h = record {
     entries = h.entries;
     newest_low = h.newest_low;
+    sums = h.sums;
     op_low = h.op_low;
     reach_low = h.reach_low;
     wrote_low = h.wrote_low;
@@ -344,6 +355,7 @@ module _ (grows_later : GrowsLater) (stands_later : StandsLater) (for_itself : S
   sound_after l (Feed t) can h = record {
     entries = h.entries;
     newest_low = h.newest_low;
+    sums = h.sums;
     op_low = h.op_low;
     reach_low = settled_within (l.reach.left ++ end_of t ∷ []) l.wrote l.reach.position l.reach.op l.reach.over h.reach_low;
     wrote_low = h.wrote_low;
@@ -356,6 +368,7 @@ module _ (grows_later : GrowsLater) (stands_later : StandsLater) (for_itself : S
   sound_after l Close can h = record {
     entries = h.entries;
     newest_low = h.newest_low;
+    sums = h.sums;
     op_low = h.op_low;
     reach_low = h.reach_low;
     wrote_low = h.wrote_low;
@@ -369,6 +382,7 @@ module _ (grows_later : GrowsLater) (stands_later : StandsLater) (for_itself : S
   sound_after l Commit can h = record {
     entries = h.entries;
     newest_low = h.newest_low;
+    sums = h.sums;
     op_low = omega (arith, h.op_low, h.reach_low, h.wrote_low);
     reach_low = h.reach_low;
     wrote_low = h.wrote_low;
@@ -381,6 +395,7 @@ module _ (grows_later : GrowsLater) (stands_later : StandsLater) (for_itself : S
   sound_after l (Compact bucket) can h = record {
     entries = h.entries;
     newest_low = h.newest_low;
+    sums = h.sums;
     op_low = h.op_low;
     reach_low = h.reach_low;
     wrote_low = h.wrote_low;
@@ -402,6 +417,7 @@ module _ (grows_later : GrowsLater) (stands_later : StandsLater) (for_itself : S
       record {
         entries = h.entries;
         newest_low = h.newest_low;
+        sums = h.sums;
         op_low = h.op_low;
         reach_low = h.reach_low;
         wrote_low = h.wrote_low;
@@ -427,6 +443,7 @@ module _ (grows_later : GrowsLater) (stands_later : StandsLater) (for_itself : S
   sound_after l (Deploy rules) can h = record {
     entries = h.entries;
     newest_low = h.newest_low;
+    sums = h.sums;
     op_low = h.op_low;
     reach_low = h.reach_low;
     wrote_low = h.wrote_low;

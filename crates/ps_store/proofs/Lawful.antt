@@ -8,10 +8,12 @@ use Rattle.std.specs.Ordering.{nat_cmp}
 use Rattle.std.proofs.lemmas.Bool.{cases_lt, lt-ltb, le-ltb}
 use Rattle.ps_data.specs.declared.ids.OpId.{OpId}
 use Rattle.ps_bucket_log.specs.declared.ops.Op.{Op}
+use Rattle.ps_bucket_log.specs.declared.ops.Op.TheVariants.{Put, Remove, Move, Clear}
+use Rattle.ps_bucket_log.specs.Buckets.{bucket_of}
 use Rattle.ps_bucket_log.specs.declared.batches.Batch.{Batch}
 use Rattle.ps_bucket_log.specs.Ops.{id_of, is_clear, checksum, greatest_target, upto, past, newest, place_after, sum_of}
 use Rattle.ps_bucket_log.specs.Logs.{IsRising, IsLog, AreEntries, cleared, rest}
-use Rattle.ps_bucket_log.specs.Standing.{StandsFor, Matches}
+use Rattle.ps_bucket_log.specs.Standing.{StandsFor, FrontStands, Matches}
 use Rattle.ps_bucket_log.specs.Laws.{StaysHonest, StaysHonestUpTo, WholeAtNewest, FreshIsHonest, HonestLater, AddsNothing, StandsForItself, StandingIsLog, WithinLevel, TargetWithinLevel, SameSums, TotalIsSum, BatchRises, ReadsLongestFront, ReadsOn}
 use Rattle.ps_rows.specs.declared.shown.Shown.{Shown}
 use Rattle.ps_bucket_log.specs.declared.takes.TakenBucket.{TakenBucket}
@@ -22,6 +24,7 @@ use Rattle.ps_store.specs.Latest.{ShowsLatest}
 use Rattle.ps_store.specs.Limits.{greatest}
 use Rattle.ps_store.specs.Readings.{taken_names, AreTold, bucket_upto, batch_in}
 use Rattle.ps_store.specs.Standing.{Holding}
+use Rattle.ps_store.proofs.Sums.{every_front, every_filtered, AreSummed}
 
 -- the laws of one bucket
 pub record BucketLaws : Type 0 where
@@ -78,6 +81,7 @@ pub record KeepsLogs (course : Course) (log : ℕ → List ℕ → List Op) (lev
   pub batch : (n low high : ℕ) (name : List ℕ) → course.batch n name low high ≡ batch_in (ended n name) (log n name) low high
   pub within : (n : ℕ) (name : List ℕ) → EndsWithin (course.op n) (ended n name)
   pub newest_low : (n : ℕ) (name : List ℕ) → newest (course.original n name) ≤ greatest
+  pub sums : (n : ℕ) (name : List ℕ) → AreSummed (course.original n name)
   pub takes : (n : ℕ) (name : List ℕ) (bucket : TakenBucket) → bucket_in name (course.take n).buckets ≡ Some bucket → TellsLog (ended n name) (course.op n) (log n name) bucket
   pub ends : (n m : ℕ) (name : List ℕ) (bucket : TakenBucket) → n ≤ m → bucket_in name (course.take n).buckets ≡ Some bucket → EndsPast (course.op n) (ended m name)
 
@@ -115,18 +119,6 @@ last_of_low : (p top : ℕ) (ops : List Op) → AllLow top ops → p ≤ top →
 last_of_low p top [] low from = from
 last_of_low p top (op ∷ ops) low from = last_of_low (id_of op) top ops low.1 low.0
 
-low_front : (top : ℕ) (xs ys : List Op) → AllLow top (xs ++ ys) → AllLow top xs
-low_front top [] ys low = tt
-low_front top (x ∷ xs) ys low = (low.0, low_front top xs ys low.1)
-
-low_filtered : (top : ℕ) (p : Op → Bool) (ops : List Op) → AllLow top ops → AllLow top (filter p ops)
-low_filtered top p [] low = tt
-low_filtered top p (op ∷ ops) low = by (p op) (low_filtered top p ops low.1)
-  where
-    by : (b : Bool) → AllLow top (filter p ops) → AllLow top (cond b (op ∷ filter p ops) (filter p ops))
-    by true rest = (low.0, rest)
-    by false rest = rest
-
 few_filtered : (p : Op → Bool) (ops : List Op) → length (filter p ops) ≤ length ops
 few_filtered p [] = omega arith
 few_filtered p (op ∷ ops) = by (p op) (few_filtered p ops)
@@ -146,6 +138,26 @@ low_matched top level original (op ∷ ops) (entry ∷ entries) pairs low = (
   ],
   low_matched top level original ops entries pairs.1 low.1,
 )
+
+-- what stands for operations has their sums
+summed_matched : (level : ℕ) (original ops entries : List Op) → AllZip (Matches original level) ops entries → AreSummed entries → AreSummed ops
+summed_matched level original [] entries pairs low = tt
+summed_matched level original (op ∷ ops) [] pairs low = absurd pairs
+summed_matched level original (op ∷ ops) (entry ∷ entries) pairs low = (
+  elim pairs.0 [
+    | inl same ↦ subst (λ n. n < 2 ^ 32) (sym (ap checksum same)) low.0
+    | inr move ↦ subst (λ n. n < 2 ^ 32) (sym (ap checksum move.is)) low.0
+  ],
+  summed_matched level original ops entries pairs.1 low.1,
+)
+
+-- a CLEAR has the sum of a front of the original
+summed_log : (level : ℕ) (original log : List Op) → ((high : ℕ) → (bucket_of (upto high original)).total < 2 ^ 32) → FrontStands original level log → AreSummed (rest log) → AreSummed log
+summed_log level original [] totals front low = tt
+summed_log level original (Put id key content sum ∷ ops) totals front low = low
+summed_log level original (Remove id key sum ∷ ops) totals front low = low
+summed_log level original (Move id sum target ∷ ops) totals front low = low
+summed_log level original (Clear id sum target ∷ ops) totals front low = (subst (λ n. n < 2 ^ 32) (sym front.sum) (totals id.0), low)
 
 low_log : (top : ℕ) (log : List Op) → cleared log ≤ top → AllLow top (rest log) → AllLow top log
 low_log top [] clear low = tt
@@ -272,13 +284,33 @@ module _ (laws : BucketLaws) (course : Course) (log : ℕ → List ℕ → List 
       let original : List Op = course.original n name in
       let all : AllLow greatest original = rising_low 0 greatest original (keeps.entries n name).rising (keeps.newest_low n name) in
       low_log greatest (log n name) (omega (arith, cleared_low n name, keeps.greatest_op n))
-      (low_matched greatest (level n name) original (rest (log n name)) (past (cleared (log n name)) original) (keeps.stands n name).pairs (low_filtered greatest _ original all))
+      (low_matched greatest (level n name) original (rest (log n name)) (past (cleared (log n name)) original) (keeps.stands n name).pairs (every_filtered _ _ original all))
 
   ids_are_low : (n low high : ℕ) (name : List ℕ) → AllByRecursion (λ (op : Op). id_of op ≤ greatest) (course.batch n name low high).ops
   ids_are_low n low high name = elim (reads_at n low high name) [
     | nothing none no_target ↦ rw none tt
     | front left target split ↦
-        low_front greatest (course.batch n name low high).ops left (subst (AllLow greatest) split (low_filtered greatest _ (past low (log n name)) (low_filtered greatest _ (log n name) (log_low n name))))
+        every_front _ (course.batch n name low high).ops left (subst (AllLow greatest) split (every_filtered _ _ (past low (log n name)) (every_filtered _ _ (log n name) (log_low n name))))
+  ]
+
+  -- ---- the sums of operations
+  totals_low : (n high : ℕ) (name : List ℕ) → (bucket_of (upto high (course.original n name))).total < 2 ^ 32
+  totals_low n high name =
+      let written = keeps.entries n name in
+      let own = laws.total (course.original n name) high (laws.is_log (course.original n name) (course.original n name) 0 written (laws.itself (course.original n name) written)) in
+      subst (λ (total : ℕ). total < 2 ^ 32) (sym own.0) (mod-lt _ (omega arith))
+
+  log_summed : (n : ℕ) (name : List ℕ) → AreSummed (log n name)
+  log_summed n name =
+      let original : List Op = course.original n name in
+      summed_log (level n name) original (log n name) (λ high. totals_low n high name) (keeps.stands n name).front
+      (summed_matched (level n name) original (rest (log n name)) (past (cleared (log n name)) original) (keeps.stands n name).pairs (every_filtered _ _ original (keeps.sums n name)))
+
+  sums_are_low : (n low high : ℕ) (name : List ℕ) → AreSummed (course.batch n name low high).ops
+  sums_are_low n low high name = elim (reads_at n low high name) [
+    | nothing none no_target ↦ rw none tt
+    | front left target split ↦
+        every_front _ (course.batch n name low high).ops left (subst AreSummed split (every_filtered _ _ (past low (log n name)) (every_filtered _ _ (log n name) (log_summed n name))))
   ]
 
   taken_low : (n : ℕ) (bucket : TakenBucket) → bucket ≡ bucket_upto (course.op n) bucket.name (log n bucket.name) → IsLow bucket
@@ -287,7 +319,7 @@ module _ (laws : BucketLaws) (course : Course) (log : ℕ → List ℕ → List 
       let few : length (upto (course.op n) own) ≤ length own = few_filtered _ own in
       let below : 0 + length own ≤ place_after 0 own = rising_below 0 own (log_is n bucket.name).rising in
       let last : place_after 0 own ≤ greatest = last_of_low 0 greatest own (log_low n bucket.name) (omega arith) in
-      let newest_is : newest (upto (course.op n) own) ≤ greatest = last_of_low 0 greatest (upto (course.op n) own) (low_filtered greatest _ own (log_low n bucket.name)) (omega arith) in
+      let newest_is : newest (upto (course.op n) own) ≤ greatest = last_of_low 0 greatest (upto (course.op n) own) (every_filtered _ _ own (log_low n bucket.name)) (omega arith) in
       record {
         sum_low = subst (λ (n : ℕ). n < 2 ^ 32) (sym (ap (λ (b : TakenBucket). b.sum.0) is)) (mod-lt _ (omega arith));
         count_low = omega (arith, few, below, last, ap (λ (b : TakenBucket). b.count) is);
@@ -338,6 +370,7 @@ module _ (laws : BucketLaws) (course : Course) (log : ℕ → List ℕ → List 
       head_low = takes.head_low;
       buckets_low = λ n. all_low n (course.take n).buckets (takes.taken n);
       ids_low = ids_are_low;
+      sums_low = sums_are_low;
     };
     takes = record { op = takes.op; number = takes.number; rise = takes.rise; apart = takes.apart; sums = sums_are; rows = takes.rows };
     stays = stays;

@@ -55,3 +55,4 @@ pub mod Ties
 pub mod Totalling
 pub mod Upto
 pub mod Worked
+pub mod Sums

@@ -1,6 +1,6 @@
 -- One more change in a plan.
 use Rattle.std.proofs.Common.{◌≡◌, ℕ, suc, ◌+◌, ◌≤◌, ◌<◌, Bool, true, false, not, cond, Option, Some, None, List, [], ◌∷◌, ◌++◌, refl, sym, ap, ◌∙◌, subst, length, map, take, fold, get_or, append-nil, length-append, arith}
-use Rattle.std.specs.Prelude.{if◌then◌else◌, nat_lt}
+use Rattle.std.specs.Prelude.{if◌then◌else◌, nat_lt, slice_get}
 use Rattle.std.specs.FinMap.Entries.{find}
 use Rattle.std.specs.Ordering.{eq_by_cmp}
 use Rattle.std.proofs.lemmas.Bool.Decides.{nat_tests}
@@ -8,6 +8,7 @@ use Rattle.std.proofs.lemmas.List.Elements.{filter_more}
 use Rattle.ps_rows.specs.Source.{Key, key_cmp}
 use Rattle.ps_definitions.specs.declared.definitions.Definition.{Definition}
 use Rattle.ps_definitions.specs.RuleSets.{RuleSet}
+use Rattle.ps_bucket_eval.specs.declared.changes.ChangeEntries.{ChangeEntries}
 use Rattle.ps_bucket_eval.specs.declared.placed.Placed.{Placed}
 use Rattle.ps_store.specs.declared.fixed.Limits.{Limits}
 use Rattle.ps_store.specs.declared.plans.Made.{Made}
@@ -19,12 +20,11 @@ use Rattle.ps_store.specs.Ledgers.{Ledger, entries_after, next_ops, write_next}
 use Rattle.ps_store.specs.Noting.{row_noted}
 use Rattle.ps_store.specs.Originals.{Timed, key_of, after, entries_at, columns_of, standing_entries, stays, removed, put, leaving, numbered}
 use Rattle.ps_store.specs.Places.{Place, place_of, is_taken, places_left, removed_all}
-use Rattle.ps_store.specs.Plans.{PlanStands, IsStart, seen_at}
+use Rattle.ps_store.specs.Plans.{PlanStands, IsStart, IsMade, row_left, row_seen}
 use Rattle.ps_store.specs.Rows.{row_at}
 use Rattle.ps_store.specs.Runs.{refusal_of, lasts_from}
 use Rattle.ps_store.specs.Tails.{ids, AreRowsOf}
 use Rattle.ps_store.proofs.Lanes.{fold_push, length_lasts, ops_push, lasts_push, next_rules, next_number, next_plain, next_wrote, length_numbered}
-use Rattle.ps_store.proofs.Maps.{equal_rows}
 use Rattle.ps_store.proofs.Sources.{columns_after}
 
 not_past : (a b : ℕ) → b ≤ a → nat_lt a b ≡ false
@@ -94,12 +94,12 @@ length_removed next [] = refl
 length_removed next (x ∷ gone) = ap suc (length_removed (next + 1) gone)
 
 -- a plan of no change
-pub stands_none : (rules : RuleSet) (rows : Rows) (base : Ledger) (plan : Plan) → IsStart rules rows plan.last.0 base
-    → ((key : Key) → seen_at rules.definitions plan rows key ≡ map place_of (entries_at rules.definitions key (columns_of (row_at rows key))))
-    → plan.entered.items ≡ [] → plan.made.items ≡ [] → PlanStands rules rows plan base []
-stands_none rules rows base plan start seen entered made = record {
+pub stands_none : (rules : RuleSet) (rows : Rows) (changes : List Timed) (base : Ledger) (plan : Plan) → IsStart rules rows plan.last.0 base
+    → ((key : Key) → row_seen plan rows changes key ≡ columns_of (row_at rows key))
+    → plan.entered.items ≡ [] → plan.made.items ≡ [] → PlanStands rules rows changes plan base []
+stands_none rules rows changes base plan start seen entered made = record {
   rules_are = start.rules_are;
-  entries = λ key. seen key ∙ ap (map place_of) (start.entries key);
+  stand = λ key. seen key ∙ start.stand key;
   last = start.last;
   entered = entered;
   lasts = ap ids made;
@@ -116,31 +116,42 @@ module _ (limits : Limits) (rules : RuleSet) (base : Ledger) (ts : List Timed) (
   now_rules = next_rules ts base ∙ rules_are
 
   -- what is refused
-  pub is_wide : (key : Key) → key ≡ key_of t → limits.entries < length (entries_at rules.definitions key t.change.row) → (count : ℕ) → count ≡ limits.entries + 1
+  pub is_wide : limits.entries < length (entries_at rules.definitions (key_of t) t.change.row) → (count : ℕ) → count ≡ limits.entries + 1
       → Some (TooWide count) ≡ refusal_of limits now t
-  is_wide key same wide count is =
+  is_wide wide count is =
       let more : limits.entries < length (entries_after now t) =
-      subst (λ (r : RuleSet). limits.entries < length (entries_at r.definitions (key_of t) t.change.row)) (sym now_rules)
-      (subst (λ (q : Key). limits.entries < length (entries_at rules.definitions q t.change.row)) same wide) in
+      subst (λ (r : RuleSet). limits.entries < length (entries_at r.definitions (key_of t) t.change.row)) (sym now_rules) wide in
       ap (λ (n : ℕ). Some (TooWide n)) is
       ∙ sym (wide_from (nat_lt limits.entries (length (entries_after now t))) (nat_lt limits.ops (now.last + length (next_ops now t))) (is_past limits.entries (length (entries_after now t)) more) (Some (TooWide (limits.entries + 1))))
 
-  module _ (rows : Rows) (old : Plan) (h : PlanStands rules rows old base ts) (key : Key) (is_key : key ≡ key_of t) (left : List Placed) (gone : List Place)
-      (is_left : left ≡ entries_at rules.definitions key t.change.row) (is_gone : gone ≡ places_left (seen_at rules.definitions old rows key) left) where
+  module _ (rows : Rows) (changes : List Timed) (old : Plan) (h : PlanStands rules rows changes old base ts) where
+    pub length_made : length old.made.items ≡ length ts
+    length_made = sym (length_map (λ (m : Made). m.last.0) old.made.items) ∙ ap length h.lasts ∙ length_lasts ts base
+
+    -- what a change makes of the row as it was seen is what it makes over the ledger
+    pub is_made : (entries : ChangeEntries) → entries.before ≡ entries_at rules.definitions (key_of t) (row_seen old rows changes (key_of t))
+        → entries.after ≡ entries_at rules.definitions (key_of t) t.change.row → length entries.after ≤ limits.entries → IsMade limits now t entries
+    is_made entries before after narrow = record {
+      before =
+          before ∙ ap (entries_at rules.definitions (key_of t)) (h.stand (key_of t))
+          ∙ ap (λ (r : RuleSet). standing_entries r.definitions now.force.source (key_of t)) (sym now_rules);
+      after = after ∙ ap (λ (r : RuleSet). entries_at r.definitions (key_of t) t.change.row) (sym now_rules);
+      narrow = narrow;
+    }
+
+  module _ (rows : Rows) (changes : List Timed) (old : Plan) (h : PlanStands rules rows changes old base ts) (entries : ChangeEntries) (made_is : IsMade limits now t entries)
+      (gone : List Place) (is_gone : gone ≡ places_left (map place_of entries.before) entries.after) where
     abbrev standing : List Placed
     standing = standing_entries now.force.rules.definitions now.force.source (key_of t)
 
-    before_is : seen_at rules.definitions old rows key ≡ map place_of standing
-    before_is =
-        h.entries key
-        ∙ ap (λ (q : Key). map place_of (standing_entries rules.definitions now.force.source q)) is_key
-        ∙ ap (λ (r : RuleSet). map place_of (standing_entries r.definitions now.force.source (key_of t))) (sym now_rules)
+    abbrev left : List Placed
+    left = entries.after
 
     gone_is : gone ≡ map place_of (leaving standing left)
-    gone_is = is_gone ∙ ap (λ before. places_left before left) before_is ∙ left_by_places standing left
+    gone_is = is_gone ∙ left_by_places entries.before left ∙ ap (λ before. map place_of (leaving before left)) made_is.before
 
     left_is : left ≡ entries_after now t
-    left_is = is_left ∙ ap (λ (q : Key). entries_at rules.definitions q t.change.row) is_key ∙ ap (λ (r : RuleSet). entries_at r.definitions (key_of t) t.change.row) (sym now_rules)
+    left_is = made_is.after
 
     change_is : next_ops now t ≡ removed_all (now.last + 1) gone ++ numbered put (now.last + 1 + length gone) left
     change_is = next_plain now t (next_number ts base ∙ h.number) ∙ sym (ap (λ g. removed_all (now.last + 1) g ++ numbered put (now.last + 1 + length g) left) gone_is
@@ -153,34 +164,34 @@ module _ (limits : Limits) (rules : RuleSet) (base : Ledger) (ts : List Timed) (
         ap length change_is
         ∙ omega (arith, length-append (removed_all (now.last + 1) gone) (numbered put (now.last + 1 + length gone) left), length_removed (now.last + 1) gone, length_numbered put (now.last + 1 + length gone) left)
 
-    narrow_is : length left ≤ limits.entries → nat_lt limits.entries (length (entries_after now t)) ≡ false
-    narrow_is narrow = subst (λ (es : List Placed). nat_lt limits.entries (length es) ≡ false) left_is (not_past limits.entries (length left) narrow)
+    narrow_is : nat_lt limits.entries (length (entries_after now t)) ≡ false
+    narrow_is = subst (λ (es : List Placed). nat_lt limits.entries (length es) ≡ false) left_is (not_past limits.entries (length left) made_is.narrow)
 
-    pub is_full : length left ≤ limits.entries → limits.ops < old.last.0 + (length gone + length left) → Some OpsFull ≡ refusal_of limits now t
-    is_full narrow more =
+    pub is_full : limits.ops < old.last.0 + (length gone + length left) → Some OpsFull ≡ refusal_of limits now t
+    is_full more =
         let b : nat_lt limits.ops (now.last + length (next_ops now t)) ≡ true = is_past limits.ops (now.last + length (next_ops now t)) (omega (arith, more, change_length, h.last)) in
-        sym (full_from (nat_lt limits.entries (length (entries_after now t))) (nat_lt limits.ops (now.last + length (next_ops now t))) (narrow_is narrow) b (Some (TooWide (limits.entries + 1))))
+        sym (full_from (nat_lt limits.entries (length (entries_after now t))) (nat_lt limits.ops (now.last + length (next_ops now t))) narrow_is b (Some (TooWide (limits.entries + 1))))
 
-    pub is_fine : length left ≤ limits.entries → old.last.0 + (length gone + length left) ≤ limits.ops → None ≡ refusal_of limits now t
-    is_fine narrow fits =
+    pub is_fine : old.last.0 + (length gone + length left) ≤ limits.ops → None ≡ refusal_of limits now t
+    is_fine fits =
         let b : nat_lt limits.ops (now.last + length (next_ops now t)) ≡ false = not_past limits.ops (now.last + length (next_ops now t)) (omega (arith, fits, change_length, h.last)) in
-        sym (fits_from (nat_lt limits.entries (length (entries_after now t))) (nat_lt limits.ops (now.last + length (next_ops now t))) (narrow_is narrow) b (Some (TooWide (limits.entries + 1))))
+        sym (fits_from (nat_lt limits.entries (length (entries_after now t))) (nat_lt limits.ops (now.last + length (next_ops now t))) narrow_is b (Some (TooWide (limits.entries + 1))))
 
     -- the plan with the change
-    pub stands_more : (new : Plan) (made : Made)
-        → ((other : Key) → seen_at rules.definitions new rows other ≡ (if eq_by_cmp key_cmp other key then map place_of left else seen_at rules.definitions old rows other))
+    pub stands_more : (key : Key) → key ≡ key_of t → slice_get changes (length ts) ≡ Some t → (new : Plan) (made : Made)
+        → ((other : Key) → row_seen new rows changes other ≡ (if eq_by_cmp key_cmp other key then row_left (slice_get changes (length old.made.items)) else row_seen old rows changes other))
         → made.last.0 ≡ old.last.0 + (length gone + length left) → made.row ≡ row_noted rules.definitions t → new.last ≡ made.last
         → new.entered.items ≡ old.entered.items ++ (removed_all (old.last.0 + 1) gone ++ numbered put (old.last.0 + 1 + length gone) left)
         → new.made.items ≡ old.made.items ++ made ∷ []
-        → PlanStands rules rows new base (ts ++ t ∷ [])
-    stands_more new made seen last row same entered made_is =
+        → PlanStands rules rows changes new base (ts ++ t ∷ [])
+    stands_more key is_key at new made seen last row same entered items =
         let next : fold write_next base (ts ++ t ∷ []) ≡ write_next now t = fold_push write_next ts t base in
         let last_is : made.last.0 ≡ (write_next now t).last = omega (arith, last, h.last, change_length) in
         let wrote_is : made.last.0 ≡ (write_next now t).wrote = last_is ∙ sym (next_wrote (t ∷ []) now (next_wrote ts base h.wrote)) in
-        let count : length old.made.items ≡ length ts = sym (length_map (λ (m : Made). m.last.0) old.made.items) ∙ ap length h.lasts ∙ length_lasts ts base in
+        let count : length old.made.items ≡ length ts = length_made rows changes old h in
         record {
           rules_are = rules_are;
-          entries = λ other. seen other ∙ by (eq_by_cmp key_cmp other key) other refl ∙ ap (λ (l : Ledger). map place_of (standing_entries rules.definitions l.force.source other)) (sym next);
+          stand = λ other. seen other ∙ by (eq_by_cmp key_cmp other key) other refl ∙ ap (λ (l : Ledger). columns_of (find key_cmp other l.force.source)) (sym next);
           last = ap (λ id. id.0) same ∙ last_is ∙ ap (λ (l : Ledger). l.last) (sym next);
           entered =
               entered
@@ -189,26 +200,24 @@ module _ (limits : Limits) (rules : RuleSet) (base : Ledger) (ts : List Timed) (
               ∙ ap (λ es. es ++ next_ops now t) h.entered
               ∙ sym (ops_push ts t base);
           lasts =
-              ap ids made_is
+              ap ids items
               ∙ map_more (λ (m : Made). m.last.0) old.made.items made
               ∙ ap (λ ns. ns ++ made.last.0 ∷ []) h.lasts
               ∙ ap (λ n. lasts_from base ts ++ n ∷ []) wrote_is
               ∙ sym (lasts_push ts t base);
-          rows_are = subst (λ (ms : List Made). AreRowsOf rules.definitions ms (ts ++ t ∷ [])) (sym made_is) (rows_push rules.definitions old.made.items ts made t count h.rows_are row);
+          rows_are = subst (λ (ms : List Made). AreRowsOf rules.definitions ms (ts ++ t ∷ [])) (sym items) (rows_push rules.definitions old.made.items ts made t count h.rows_are row);
           number = h.number;
           wrote = h.wrote;
         }
       where
-        there : (other : Key) → eq_by_cmp key_cmp other (key_of t) ≡ true → left ≡ entries_at rules.definitions other t.change.row
-        there other e = is_left ∙ ap (λ (q : Key). entries_at rules.definitions q t.change.row) (is_key ∙ sym (equal_rows other (key_of t) e))
+        left_there : row_left (slice_get changes (length old.made.items)) ≡ t.change.row
+        left_there = ap (λ n. row_left (slice_get changes n)) (length_made rows changes old h) ∙ ap row_left at
 
-        after_is : (other : Key) → standing_entries rules.definitions (write_next now t).force.source other ≡ entries_at rules.definitions other (cond (eq_by_cmp key_cmp other (key_of t)) t.change.row (columns_of (find key_cmp other now.force.source)))
-        after_is other = ap (entries_at rules.definitions other) (columns_after now.force.source t other)
-
-        by : (b : Bool) (other : Key) → eq_by_cmp key_cmp other key ≡ b → (if b then map place_of left else seen_at rules.definitions old rows other) ≡ map place_of (standing_entries rules.definitions (write_next now t).force.source other)
+        by : (b : Bool) (other : Key) → eq_by_cmp key_cmp other key ≡ b
+            → (if b then row_left (slice_get changes (length old.made.items)) else row_seen old rows changes other) ≡ columns_of (find key_cmp other (write_next now t).force.source)
         by true other e =
-            let at : eq_by_cmp key_cmp other (key_of t) ≡ true = ap (λ (q : Key). eq_by_cmp key_cmp other q) (sym is_key) ∙ e in
-            ap (map place_of) (there other at ∙ ap (λ b. entries_at rules.definitions other (cond b t.change.row (columns_of (find key_cmp other now.force.source)))) (sym at) ∙ sym (after_is other))
+            let here : eq_by_cmp key_cmp other (key_of t) ≡ true = ap (λ (q : Key). eq_by_cmp key_cmp other q) (sym is_key) ∙ e in
+            left_there ∙ ap (λ b. cond b t.change.row (columns_of (find key_cmp other now.force.source))) (sym here) ∙ sym (columns_after now.force.source t other)
         by false other e =
-            let at : eq_by_cmp key_cmp other (key_of t) ≡ false = ap (λ (q : Key). eq_by_cmp key_cmp other q) (sym is_key) ∙ e in
-            h.entries other ∙ ap (map place_of) (ap (λ b. entries_at rules.definitions other (cond b t.change.row (columns_of (find key_cmp other now.force.source)))) (sym at) ∙ sym (after_is other))
+            let apart : eq_by_cmp key_cmp other (key_of t) ≡ false = ap (λ (q : Key). eq_by_cmp key_cmp other q) (sym is_key) ∙ e in
+            h.stand other ∙ ap (λ b. cond b t.change.row (columns_of (find key_cmp other now.force.source))) (sym apart) ∙ sym (columns_after now.force.source t other)

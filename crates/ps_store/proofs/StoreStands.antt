@@ -26,7 +26,7 @@ use Rattle.ps_store.specs.Ledgers.{Ledger, fresh, unwritten, timed_of, end_of, w
 use Rattle.ps_store.specs.Originals.{Entered, Timed, timed, timed_from, entries_at, columns_of, standing_entries, in_bucket}
 use Rattle.ps_store.specs.Plans.{IsStart, IsRun}
 use Rattle.ps_store.specs.Reach.{Reached, reached, settled}
-use Rattle.ps_store.specs.Rows.{row_at, AreNarrow}
+use Rattle.ps_store.specs.Rows.{row_at}
 use Rattle.ps_store.specs.Runs.{Run, run_from, ops_from, lasts_from}
 use Rattle.ps_store.specs.Limits.{greatest}
 use Rattle.ps_store.specs.StoreLogs.{log_at, has_ops, first_ops, Continue}
@@ -118,16 +118,10 @@ totals_written ts l h =
       sum = record { 0 = (sym (sum_append l.entered (ops_from l ts)) ∙ ap (λ (es : List Entered). sum_of (counted_ops es)) entered) i };
     }
 
--- rows are narrow
-pub narrow_rows : (store : Store) (l : Ledger) → Stands store l → AreNarrow store.fixed.rules.definitions store.fixed.limits.entries store.rows
-narrow_rows store l h = λ key.
-    subst (λ (r : RuleSet). length (entries_at r.definitions key (columns_of (row_at store.rows key))) ≤ store.fixed.limits.entries) h.rules
-    (subst (λ (o : Option Version). length (entries_at l.force.rules.definitions key (columns_of o)) ≤ store.fixed.limits.entries) (sym (h.rows key)) (h.kept.narrow key))
-
 pub is_start : (store : Store) (l : Ledger) → l.force.number ≡ 1 → l.wrote ≡ l.last → Stands store l → IsStart store.fixed.rules store.rows store.last.0 l
 is_start store l number wrote h = record {
   rules_are = h.rules;
-  entries = λ key. ap (λ (o : Option Version). entries_at store.fixed.rules.definitions key (columns_of o)) (h.rows key);
+  stand = λ key. ap columns_of (h.rows key);
   last = h.last;
   number = number;
   wrote = wrote;
@@ -148,7 +142,7 @@ take_joined (suc w) n [] = take_nil (suc w + n) [] refl ∙ sym (take_nil n [] r
 take_joined (suc w) n (x ∷ xs) = let e : suc w + n ≡ suc (w + n) = omega arith in ap (λ k. take k (x ∷ xs)) e ∙ ap (λ ys. x ∷ ys) (take_joined w n xs)
 
 module _ (old : Store) (l : Ledger) (h : Stands old l) (usual : old.fixed.limits.entries ≤ 1000) (limit : ℕ) (planned : Planned)
-    (is_run : IsRun old.fixed.rules old.rows l planned (take limit (unwritten l)) (run_from old.fixed.limits l 0 (take limit (unwritten l)))) where
+    (is_run : IsRun old.fixed.rules old.rows old.tail.changes.items l planned (take limit (unwritten l)) (run_from old.fixed.limits l 0 (take limit (unwritten l)))) where
   abbrev run : Run
   run = run_from old.fixed.limits l 0 (take limit (unwritten l))
 

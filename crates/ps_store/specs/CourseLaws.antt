@@ -6,7 +6,7 @@ use Rattle.std.specs.Cmp.Lexicographic.{slice_cmp}
 use Rattle.std.specs.Ordering.{nat_cmp}
 use Rattle.ps_bucket_log.specs.declared.ops.Key.{Key}
 use Rattle.ps_bucket_log.specs.declared.ops.Op.{Op}
-use Rattle.ps_bucket_log.specs.Ops.{id_of, upto, newest}
+use Rattle.ps_bucket_log.specs.Ops.{id_of, checksum, upto, newest}
 use Rattle.ps_bucket_log.specs.Buckets.{Bucket, after, bucket_of, fresh}
 use Rattle.ps_bucket_log.specs.Logs.{IsRising}
 use Rattle.ps_bucket_log.specs.Standing.{IsHonest, IsHonestUpTo}
@@ -88,6 +88,7 @@ pub record Climb (course : Course) : Type 0 where
   pub head_low : (n : ℕ) → (course.take n).head.0 ≤ greatest
   pub buckets_low : (n : ℕ) → AllByRecursion IsLow (course.take n).buckets
   pub ids_low : (n low high : ℕ) (name : List ℕ) → AllByRecursion (λ (op : Op). id_of op ≤ greatest) (course.batch n name low high).ops
+  pub sums_low : (n low high : ℕ) (name : List ℕ) → AllByRecursion (λ (op : Op). checksum op < 2 ^ 32) (course.batch n name low high).ops
 
 -- a take tells the checkpoint, and of each bucket the sum and the newest id of its original operations up to it; and who holds what
 -- these make of the taken buckets, and nothing else, shows the rows that are due, where the buckets' vectors are of integers of signed

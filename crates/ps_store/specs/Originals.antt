@@ -12,7 +12,9 @@ use Rattle.ps_rows.specs.declared.changes.Transaction.{Transaction}
 use Rattle.ps_rows.specs.Source.{Key, key_cmp, Version, Source, after_row}
 use Rattle.ps_definitions.specs.declared.definitions.Definition.{Definition}
 use Rattle.ps_bucket_eval.specs.declared.placed.Placed.{Placed}
-use Rattle.ps_bucket_eval.specs.Entries.{RowOf, entries_of}
+use Rattle.ps_bucket_eval.specs.Entries.{RowOf}
+-- the entries of a row, where it is there
+pub use Rattle.ps_bucket_eval.specs.Changes.{entries_at}
 -- ---- one change
 
 -- an operation, and the bucket that it is written into
@@ -70,11 +72,6 @@ after source t = after_row t.position t.index (key_of t) t.change.row source
 
 abbrev pub row_of : Key → List Column → RowOf
 row_of key columns = record { table = key.0; id = key.1; row = columns }
-
--- the entries of a row, where it is there
-abbrev pub entries_at : List Definition → Key → Option (List Column) → List Placed
-entries_at definitions key None = []
-entries_at definitions key (Some columns) = entries_of definitions (row_of key columns)
 
 abbrev pub columns_of : Option Version → Option (List Column)
 columns_of version = option_map (λ (v : Version). v.columns) version

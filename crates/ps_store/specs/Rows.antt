@@ -1,10 +1,8 @@
 -- The live rows of the store.
-use Rattle.std.specs.Prelude.{ℕ, ◌≤◌, Bool, List, length, Option, Some, None, is_some}
+use Rattle.std.specs.Prelude.{Bool, Option, Some, None, is_some}
 use Rattle.std.specs.BTreeMap.{get}
 use Rattle.ps_rows.specs.Source.{Key, key_cmp, Version}
-use Rattle.ps_definitions.specs.declared.definitions.Definition.{Definition}
 use Rattle.ps_store.specs.declared.rows.Rows.{Rows}
-use Rattle.ps_store.specs.Originals.{entries_at, columns_of}
 
 -- what stands in a place
 abbrev pub in_place : Option (Option Version) → Option Version
@@ -18,7 +16,3 @@ row_at rows key = in_place (get key_cmp rows.places key)
 -- there is a place for the row
 abbrev pub has_place : Rows → Key → Bool
 has_place rows key = is_some (get key_cmp rows.places key)
-
--- no row has more entries
-abbrev pub AreNarrow : List Definition → ℕ → Rows → Type 0
-AreNarrow definitions top rows = (key : Key) → length (entries_at definitions key (columns_of (row_at rows key))) ≤ top

@@ -1,8 +1,13 @@
-ghost use Rattle.std.specs.Prelude.{◌≡◌};
+//! What no call of a store changes.
+
+ghost use Rattle.std.specs.Prelude.{◌≡◌, IfOk};
 ghost use Rattle.ps_store.specs.Limits.{usual_limits, AreWithin};
 
-use ps_data::GREATEST;
+use ps_data::{GREATEST, Memory};
 use ps_definitions::Rules;
+use std::alloc::Global;
+use std::marker::Model;
+use std::sync::Arc;
 
 /// What bounds a store.
 #[derive(Clone, Copy, Debug)]
@@ -42,4 +47,47 @@ pub struct Fixed {
     pub rules: Rules,
     /// Its limits.
     pub limits: Limits,
+}
+
+/// The same as a store holds it: the rules can be shared with what is evaluated while others change the store.
+#[derive(Drop)]
+pub(crate) struct Shared {
+    rules: Arc<Rules>,
+    limits: Limits,
+}
+
+impl Model for Shared {
+    ghost use Rattle.std.specs.Coded.{codes};
+    ghost use Rattle.ps_queries.specs.contracts.expressions.Expr as expr;
+    ghost use Rattle.ps_store.specs.declared.fixed.Fixed.{Fixed as FixedSeen};
+
+    ghost Value = { FixedSeen };
+
+    ghost coded = { Prim.hlevel (codes, expr.the_row.coded) };
+
+    ghost view = { λ shared. record { rules = shared.rules.value; limits = shared.limits } };
+}
+
+impl Shared {
+    /// Rules that can be shared, and limits.
+    pub(crate) fn new(alloc: Global, rules: Rules, limits: Limits) -> Result<Shared, Memory>
+        ensures { IfOk result (λ shared. shared ≡ record { rules = rules; limits = limits }) }
+    {
+        let rules = Arc::new(alloc, rules)?;
+        Ok(Shared { rules, limits })
+    }
+
+    /// The rules.
+    pub(crate) fn rules(&self) -> &Rules
+        ensures { result.now ≡ self.now.rules }
+    {
+        &self.rules
+    }
+
+    /// The limits.
+    pub(crate) fn limits(&self) -> &Limits
+        ensures { result.now ≡ self.now.limits }
+    {
+        &self.limits
+    }
 }

@@ -50,17 +50,6 @@ pub(crate) fn into_places(alloc: Global, entries: Items<Placed>) -> Result<Items
     Ok(Items::from_vec(places))
 }
 
-/// The bucket and the key of each entry, in their order.
-pub(crate) fn places_in_order(alloc: Global, entries: &[Placed]) -> Result<Items<Place>, Memory>
-    ensures { IfOk result (λ places. places ≡ map place_of_entry entries.now) }
-{
-    let mut places = Vec::new(alloc);
-    'entries: for entry in entries {
-        places.push(place_of(alloc, entry)?)?;
-    }
-    Ok(Items::from_vec(places))
-}
-
 /// An equal place.
 pub(crate) fn copy_place(alloc: Global, place: &Place) -> Result<Place, Memory>
     ensures { IfOk result (λ copy. copy ≡ place.now) }

@@ -1,27 +1,25 @@
 //! The first phase of a write: what the changes make, over the live rows with the batch's own changes laid over them.
 
-ghost use Rattle.std.specs.Prelude.{◌≡◌, ◌+◌, ◌<◌, ◌≤◌, ◌^◌, ◌++◌, [], ◌∷◌, List, true, false, length, map, OnOk, IfOk, fold, if◌then◌else◌, take};
+ghost use Rattle.std.specs.Prelude.{◌≡◌, ◌+◌, ◌<◌, ◌≤◌, ◌^◌, ◌++◌, [], ◌∷◌, List, Some, true, false, length, OnOk, IfOk, fold, if◌then◌else◌, take, slice_get};
 ghost use Rattle.std.specs.Option.{option_copied};
 ghost use Rattle.std.specs.Ordering.{eq_by_cmp};
 ghost use Rattle.ps_rows.specs.Source.{Key as KeySeen, key_cmp};
-ghost use Rattle.ps_definitions.specs.RuleSets.{RuleSet};
-ghost use Rattle.ps_bucket_eval.specs.Entries.{IsPlaced};
 ghost use Rattle.ps_store.specs.Ledgers.{Ledger, write_next};
 ghost use Rattle.ps_store.specs.Limits.{AreWithin};
 ghost use Rattle.ps_store.specs.Noting.{row_noted};
-ghost use Rattle.ps_store.specs.Originals.{Timed, columns_of, entries_at as entries_of_key, put, numbered};
-ghost use Rattle.ps_store.specs.Places.{place_of, places_left, removed_all};
-ghost use Rattle.ps_store.specs.Plans.{PlanStands, IsStart, IsRun, with_change, seen_at};
-ghost use Rattle.ps_store.specs.Rows.{row_at, AreNarrow};
+ghost use Rattle.ps_store.specs.Originals.{Timed, columns_of, key_of, put, numbered};
+ghost use Rattle.ps_store.specs.Places.{places_left, removed_all};
+ghost use Rattle.ps_store.specs.Plans.{PlanStands, IsStart, IsRun, IsMade, with_change, row_left, row_seen};
+ghost use Rattle.ps_store.specs.Rows.{row_at};
 ghost use Rattle.ps_store.specs.Runs.{refusal_of, run_from};
 ghost use Rattle.ps_store.specs.declared.rows.Rows.{Rows as RowsSeen};
 
 use crate::entered::Entered;
-use crate::fixed::{Fixed, Limits};
-use crate::places::{Place, copy_place, into_places, is_among, is_in, places_in_order, places_of};
+use crate::fixed::{Limits, Shared};
+use crate::places::{Place, copy_place, into_places, is_among, is_in, places_of};
 use crate::rows::{RowKey, Rows};
 use crate::waiting::Waiting;
-use ps_bucket_eval::{PlaceFault, Placed, entries_of_row};
+use ps_bucket_eval::{ChangeEntries, PlaceFault, Placed, entries_of_change};
 use ps_bucket_log::{Key, Op};
 use ps_checksum::{put_sum, remove_sum};
 use ps_data::{Items, Memory, OpId};
@@ -48,52 +46,8 @@ pub(crate) struct Made {
     pub(crate) row: Option<Row>,
 }
 
-/// The places of the entries that rows have after the changes so far.
-pub(crate) type Seen = BTreeMap<RowKey, Items<Place>>;
-
-// The entries of a row, where there is one, unless they are more than one may have.
-fn entries_at(
-    alloc: Global,
-    fixed: &Fixed,
-    key: &RowKey,
-    row: Option<&Row>,
-) -> Result<Items<Placed>, PlaceFault>
-    requires { AreWithin fixed.now.limits }
-    ensures { IsPlaced (entries_of_key fixed.now.rules.definitions key.now (option_copied row.entry)) fixed.now.limits.entries result }
-{
-    match row {
-        Some(row) => entries_of_row(
-            alloc,
-            &fixed.rules,
-            &key.0,
-            &key.1,
-            row,
-            fixed.limits.entries,
-        ),
-        None => Ok(Items::new(alloc)),
-    }
-}
-
-// The places of the entries of a row that lives, none where there is none.
-fn places_of_live(
-    alloc: Global,
-    fixed: &Fixed,
-    rows: &Rows,
-    key: &RowKey,
-) -> Result<Items<Place>, Memory>
-    requires limits { AreWithin fixed.now.limits }
-    requires narrow { AreNarrow fixed.now.rules.definitions fixed.now.limits.entries rows.now }
-    ensures { IfOk result (λ places. places ≡ map place_of (entries_of_key fixed.now.rules.definitions key.now (columns_of (row_at rows.now key.now)))) }
-{
-    let Some(live) = rows.get(key) else {
-        return Ok(Items::new(alloc));
-    };
-    match entries_at(alloc, fixed, key, Some(live.row())) {
-        Ok(entries) => into_places(alloc, entries),
-        Err(PlaceFault::TooWide { .. }) => unreachable!(),
-        Err(PlaceFault::Memory) => Err(Memory),
-    }
-}
+/// The last place, among the changes that are planned, of a change of each row that they change.
+pub(crate) type Seen = BTreeMap<RowKey, usize>;
 
 // The places that a row has no more.
 fn leaving(alloc: Global, before: &[Place], after: &[Placed]) -> Result<Items<Place>, Memory>
@@ -212,8 +166,7 @@ impl Plan {
         ensures last { result.last ≡ last }
         ensures entered { result.entered.items ≡ [] }
         ensures made { result.made.items ≡ [] }
-        ensures seen { (rules : RuleSet) (rows : RowsSeen) (key : KeySeen)
-            → seen_at rules.definitions result rows key ≡ map place_of (entries_of_key rules.definitions key (columns_of (row_at rows key))) }
+        ensures seen { (rows : RowsSeen) (changes : List Timed) (key : KeySeen) → row_seen result rows changes key ≡ columns_of (row_at rows key) }
     {
         Plan {
             seen: BTreeMap::new(alloc),
@@ -243,37 +196,37 @@ impl Plan {
         (seen, entered, made)
     }
 
-    // The places that a row leaves, where it has some entries after the next change.
-    fn left_by(
+    // A row as it stands after the changes so far: as the last of them that is of it leaves it, or as it lives.
+    fn row_before<'a>(
         &self,
-        alloc: Global,
-        fixed: &Fixed,
-        rows: &Rows,
+        rows: &'a Rows,
+        changes: &'a VecDeque<Waiting>,
         key: &RowKey,
-        after: &[Placed],
-    ) -> Result<Items<Place>, Memory>
-        requires limits { AreWithin fixed.now.limits }
-        requires narrow { AreNarrow fixed.now.rules.definitions fixed.now.limits.entries rows.now }
-        ensures { IfOk result (λ left. left ≡ places_left (seen_at fixed.now.rules.definitions self.now rows.now key.now) after.now) }
+    ) -> Option<&'a Row>
+        ensures { option_copied result ≡ row_seen self.now rows.now changes.now.items key.now }
     {
         match self.seen.get(key) {
-            Some(places) => leaving(alloc, places.as_slice(), after),
-            None => {
-                let places = places_of_live(alloc, fixed, rows, key)?;
-                leaving(alloc, places.as_slice(), after)
-            }
+            Some(place) => match changes.get(*place) {
+                Some(waiting) => waiting.change().row.as_ref(),
+                None => None,
+            },
+            None => match rows.get(key) {
+                Some(live) => Some(live.row()),
+                None => None,
+            },
         }
     }
 
-    // Notes the places of the entries that a row has after a change.
-    fn see(&mut self, key: RowKey, places: Items<Place>) -> Result<(), Memory>
+    // Notes that the next change is the last one so far of its row.
+    fn see(&mut self, key: RowKey) -> Result<(), Memory>
         ensures last { self.new.last ≡ self.old.last }
         ensures entered { self.new.entered ≡ self.old.entered }
         ensures made { self.new.made ≡ self.old.made }
-        ensures seen { OnOk result ((rules : RuleSet) (rows : RowsSeen) (other : KeySeen)
-            → seen_at rules.definitions self.new rows other ≡ (if eq_by_cmp key_cmp other key then places else seen_at rules.definitions self.old rows other)) }
+        ensures seen { OnOk result ((rows : RowsSeen) (changes : List Timed) (other : KeySeen) → row_seen self.new rows changes other
+            ≡ (if eq_by_cmp key_cmp other key then row_left (slice_get changes (length self.old.made.items)) else row_seen self.old rows changes other)) }
     {
-        self.seen.insert(key, places)?;
+        let place = self.made.len();
+        self.seen.insert(key, place)?;
         Ok(())
     }
 
@@ -291,66 +244,92 @@ impl Plan {
         put_all(&mut self.entered, middle, after)
     }
 
-    // Keeps a change: where its row stands after it, its operations, and what it made besides.
-    fn keep(
+    // Puts a change behind the others: its row, its operations, and what it made besides.
+    fn push(
         &mut self,
-        alloc: Global,
         key: RowKey,
         gone: Items<Place>,
         after: Items<Placed>,
         row: Option<Row>,
     ) -> Result<(), Memory>
         requires { self.old.last.0 + (length gone + length after) < 2 ^ 64 }
-        ensures seen { OnOk result ((rules : RuleSet) (rows : RowsSeen) (other : KeySeen)
-            → seen_at rules.definitions self.new rows other ≡ (if eq_by_cmp key_cmp other key then map place_of after else seen_at rules.definitions self.old rows other)) }
+        ensures seen { OnOk result ((rows : RowsSeen) (changes : List Timed) (other : KeySeen) → row_seen self.new rows changes other
+            ≡ (if eq_by_cmp key_cmp other key then row_left (slice_get changes (length self.old.made.items)) else row_seen self.old rows changes other)) }
         ensures last { OnOk result (self.new.last.0 ≡ self.old.last.0 + (length gone + length after)) }
         ensures entered { OnOk result (self.new.entered.items ≡ self.old.entered.items
             ++ (removed_all (self.old.last.0 + 1) gone ++ numbered put (self.old.last.0 + 1 + length gone) after)) }
         ensures made { OnOk result (self.new.made.items ≡ self.old.made.items ++ record { last = self.new.last; row = row } ∷ []) }
     {
-        let places = places_in_order(alloc, after.as_slice())?;
         let last = self.enter(gone, after)?;
-        self.see(key, places)?;
+        self.see(key)?;
         self.made.push(Made { last, row })?;
         self.last = last;
         Ok(())
     }
 
-    /// Adds a change, unless it is refused.
-    pub(crate) fn add(
+    /// Keeps the next change, of which is given what it makes of its row, unless fewer ids are left than it needs.
+    pub(crate) fn keep(
         &mut self,
         alloc: Global,
-        fixed: &Fixed,
-        rows: &Rows,
+        fixed: &Shared,
+        key: RowKey,
         waiting: &Waiting,
+        entries: ChangeEntries,
     ) -> Result<Option<Refusal>, Memory>
         requires limits { AreWithin fixed.now.limits }
-        requires narrow { AreNarrow fixed.now.rules.definitions fixed.now.limits.entries rows.now }
-        ensures { IfOk result (λ refusal. (base : Ledger) (ts : List Timed) → PlanStands fixed.now.rules rows.now self.old base ts
+        requires key { key ≡ key_of waiting.now }
+        ensures { IfOk result (λ refusal. (rows : RowsSeen) (changes : List Timed) (base : Ledger) (ts : List Timed)
+            → PlanStands fixed.now.rules rows changes self.old base ts
+            → slice_get changes (length ts) ≡ Some waiting.now
+            → IsMade fixed.now.limits (fold write_next base ts) waiting.now entries
             → (refusal ≡ refusal_of fixed.now.limits (fold write_next base ts) waiting.now)
-            × PlanStands fixed.now.rules rows.now self.new base (with_change refusal ts waiting.now)) }
+            × PlanStands fixed.now.rules rows changes self.new base (with_change refusal ts waiting.now)) }
     {
-        let key = waiting.key(alloc)?;
-        let after = match entries_at(alloc, fixed, &key, waiting.change().row.as_ref()) {
-            Ok(entries) => entries,
-            Err(PlaceFault::TooWide { count }) => return Ok(Some(Refusal::TooWide { count })),
-            Err(PlaceFault::Memory) => return Err(Memory),
-        };
-        let gone = self.left_by(alloc, fixed, rows, &key, after.as_slice())?;
-        if !has_ids(&fixed.limits, self.last, gone.len(), after.len()) {
+        let ChangeEntries { before, after } = entries;
+        let places = into_places(alloc, before)?;
+        let gone = leaving(alloc, places.as_slice(), after.as_slice())?;
+        if !has_ids(fixed.limits(), self.last, gone.len(), after.len()) {
             return Ok(Some(Refusal::OpsFull));
         }
         let row = row_to_note(alloc, fixed, waiting)?;
-        self.keep(alloc, key, gone, after, row)?;
+        self.push(key, gone, after, row)?;
         Ok(None)
+    }
+
+    /// Adds the next change, which stands at a place of the changes, unless it is refused.
+    pub(crate) fn add(
+        &mut self,
+        alloc: Global,
+        fixed: &Shared,
+        rows: &Rows,
+        changes: &VecDeque<Waiting>,
+        place: usize,
+    ) -> Result<Option<Refusal>, Memory>
+        requires limits { AreWithin fixed.now.limits }
+        requires place { place < length changes.now.items }
+        ensures { IfOk result (λ refusal. (base : Ledger) (ts : List Timed) (t : Timed)
+            → PlanStands fixed.now.rules rows.now changes.now.items self.old base ts
+            → length ts ≡ place → slice_get changes.now.items place ≡ Some t
+            → (refusal ≡ refusal_of fixed.now.limits (fold write_next base ts) t)
+            × PlanStands fixed.now.rules rows.now changes.now.items self.new base (with_change refusal ts t)) }
+    {
+        let waiting = &changes[place];
+        let key = waiting.key(alloc)?;
+        let before = self.row_before(rows, changes, &key);
+        let (rules, top) = (fixed.rules(), fixed.limits().entries);
+        match entries_of_change(alloc, rules, waiting.change(), before, top) {
+            Ok(entries) => self.keep(alloc, fixed, key, waiting, entries),
+            Err(PlaceFault::TooWide { count }) => Ok(Some(Refusal::TooWide { count })),
+            Err(PlaceFault::Memory) => Err(Memory),
+        }
     }
 }
 
 // An equal row of what a change leaves, where a parameter query reads its table. The index drops a row of any other.
-fn row_to_note(alloc: Global, fixed: &Fixed, waiting: &Waiting) -> Result<Option<Row>, Memory>
+fn row_to_note(alloc: Global, fixed: &Shared, waiting: &Waiting) -> Result<Option<Row>, Memory>
     ensures { IfOk result (λ row. row ≡ row_noted fixed.now.rules.definitions waiting.now) }
 {
-    if !fixed.rules.reads(&waiting.change().table) {
+    if !fixed.rules().reads(&waiting.change().table) {
         return Ok(None);
     }
     waiting.row(alloc)
@@ -377,21 +356,20 @@ pub(crate) struct Planned {
 /// Plans a write: as many of the first `limit` changes as can be written.
 pub(crate) fn plan_run(
     alloc: Global,
-    fixed: &Fixed,
+    fixed: &Shared,
     rows: &Rows,
     last: OpId,
     changes: &VecDeque<Waiting>,
     limit: usize,
 ) -> Result<Planned, Memory>
-    requires limits { AreWithin fixed.now.limits }
-    requires narrow { AreNarrow fixed.now.rules.definitions fixed.now.limits.entries rows.now }
+    requires { AreWithin fixed.now.limits }
     ensures { IfOk result (λ planned. (base : Ledger) → IsStart fixed.now.rules rows.now last.0 base
-        → IsRun fixed.now.rules rows.now base planned (take limit changes.now.items) (run_from fixed.now.limits base 0 (take limit changes.now.items))) }
+        → IsRun fixed.now.rules rows.now changes.now.items base planned (take limit changes.now.items) (run_from fixed.now.limits base 0 (take limit changes.now.items))) }
 {
     let mut plan = Plan::new(alloc, last);
     let count = limit.min(changes.len());
     'changes: for place in 0..count {
-        match plan.add(alloc, fixed, rows, &changes[place])? {
+        match plan.add(alloc, fixed, rows, changes, place)? {
             None => {}
             Some(refusal) => {
                 return Ok(Planned {

@@ -19,7 +19,7 @@ ghost use Rattle.ps_store.specs.Totals.{totals_of, bucket_names_of, HaveRoom};
 ghost use Rattle.ps_store.specs.Stores.{StoreStandsFor, Writes, Feeds, Commits, Compacts, IsSame, IsFilled, IsTooWide, IsNamed, Uploads, MakesNumber};
 
 use crate::faults::{CompactFault, FeedFault, NothingToCommit, WriteFault};
-use crate::fixed::{Fixed, Limits};
+use crate::fixed::{Limits, Shared};
 use crate::laws::logs_stand_for_originals;
 use crate::logs::Logs;
 use crate::numbers::have_numbers;
@@ -68,7 +68,7 @@ pub struct Wrote {
 /// The store of a service: the transactions that were fed, their changes as operations of buckets, as far as they are
 /// written, and what of them clients are shown.
 pub struct Store {
-    fixed: Fixed,
+    fixed: Shared,
     logs: Logs,
     rows: Rows,
     tail: Tail,
@@ -108,8 +108,9 @@ impl Store {
     {
         have_numbers(&rules);
         let index = ParameterIndex::new(alloc, &rules)?;
+        let fixed = Shared::new(alloc, rules, limits)?;
         Ok(Store {
-            fixed: Fixed { rules, limits },
+            fixed,
             logs: Logs::new(alloc),
             rows: Rows::new(alloc),
             tail: Tail::new(alloc),
@@ -159,7 +160,7 @@ impl Store {
         if self.closed {
             return Err(FeedFault::FeedClosed);
         }
-        if self.fixed.limits.positions <= self.head.0 {
+        if self.fixed.limits().positions <= self.head.0 {
             return Err(FeedFault::PositionFull { head: self.head });
         }
         let position = Position(self.head.0 + 1);
@@ -356,9 +357,9 @@ impl Store {
         notes_of_changes_are_the_source();
         let names = self
             .index
-            .rows_for(alloc, &self.fixed.rules, asker, self.checkpoint.position)?;
+            .rows_for(alloc, self.fixed.rules(), asker, self.checkpoint.position)?;
         let count = names.len();
-        if count > self.fixed.limits.buckets as usize {
+        if count > self.fixed.limits().buckets as usize {
             return Err(TakeFault::TooManyBuckets {
                 count: count as u64,
             });

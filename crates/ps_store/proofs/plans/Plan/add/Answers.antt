@@ -1,78 +1,65 @@
-use Rattle.std.proofs.Common.{◌≡◌, ◌+◌, ◌≤◌, ◌<◌, Option, List, refl, sym, ap, ◌∙◌, subst, length, arith}
-use Rattle.std.specs.Prelude.{Err}
+use Rattle.std.proofs.Common.{◌≡◌, ℕ, Option, Some, List, Result, sym, ap, ◌∙◌, subst, length, fold, get_or}
+use Rattle.std.specs.Prelude.{Err, Ok, slice_get}
 use Rattle.std.specs.Option.{option_copied}
+use Rattle.std.proofs.lemmas.Option.{get_or_from_slice_get}
+use Rattle.std.proofs.lemmas.Result.{IfOk-weaker}
 use Rattle.ps_data.specs.declared.columns.Column.{Column}
 use Rattle.ps_rows.specs.declared.changes.Change.{Change}
-use Rattle.ps_rows.specs.Source.{Key}
 use Rattle.ps_definitions.specs.RuleSets.{RuleSet}
+use Rattle.ps_bucket_eval.specs.Changes.{IsChangeOf}
+use Rattle.ps_bucket_eval.specs.declared.changes.ChangeEntries.{ChangeEntries}
 use Rattle.ps_bucket_eval.specs.declared.faults.PlaceFault.{PlaceFault}
 use Rattle.ps_bucket_eval.specs.declared.faults.PlaceFault.TheVariants.{TooWide}
-use Rattle.ps_bucket_eval.specs.declared.placed.Placed.{Placed}
-use Rattle.ps_bucket_eval.specs.Entries.{IsPlaced}
 use Rattle.ps_store.specs.declared.fixed.Limits.{Limits}
-use Rattle.ps_store.specs.declared.plans.Made.{Made}
 use Rattle.ps_store.specs.declared.plans.Plan.{Plan}
-use Rattle.ps_store.specs.Originals.{Timed, entries_at}
-use Rattle.ps_store.specs.Places.{Place, places_left}
-use Rattle.ps_store.specs.Plans.{seen_at}
-use Rattle.ps_store.proofs.Planning.{is_wide, is_full, is_fine, stands_more}
+use Rattle.ps_store.specs.declared.rows.Rows.{Rows}
+use Rattle.ps_store.specs.Ledgers.{write_next}
+use Rattle.ps_store.specs.Originals.{Timed, key_of}
+use Rattle.ps_store.specs.Plans.{PlanStands, IsMade, with_change, row_seen}
+use Rattle.ps_store.specs.Runs.{refusal_of}
+use Rattle.ps_store.proofs.Planning.{is_wide, is_made}
 use Rattle.ps_store.proofs.plans.Plan.add.Goals as goal
 
+-- what is said of the change that was read at the place is said of the change at the place
+of_read : (changes : List Timed) (place : ℕ) (t read : Timed) → slice_get changes place ≡ Some t → read ≡ get_or changes place read → t ≡ read
+of_read changes place t read at is = sym (get_or_from_slice_get changes place t read at) ∙ sym is
+
+-- what is said of rules, limits and a change that were read is said of those that they are read of
+told : (own rules : RuleSet) (held limits : Limits) (of change : Change) (before : Option (List Column)) (result : Result ChangeEntries PlaceFault) → own ≡ rules → held ≡ limits → of ≡ change
+    → IsChangeOf own.definitions of before held.entries result → IsChangeOf rules.definitions change before limits.entries result
+told own rules held limits of change before result r l c said =
+    subst (λ (x : RuleSet). IsChangeOf x.definitions change before limits.entries result) r
+    (subst (λ (x : Limits). IsChangeOf own.definitions change before x.entries result) l
+    (subst (λ (x : Change). IsChangeOf own.definitions x before held.entries result) c said))
+
 pub returns-in-Err-TooWide : goal.returns-in-Err-TooWide
-returns-in-Err-TooWide c = λ base ts h.
-    let t : Timed = c.args.waiting.now in
+returns-in-Err-TooWide c = λ base ts t h count at.
+    let read : Timed = c.index-waiting.result.now in
     let limits : Limits = c.args.fixed.now.limits in
     let rules : RuleSet = c.args.fixed.now.rules in
-    let row_is : option_copied c.as_ref.result ≡ t.change.row = c.as_ref.ensures.value ∙ ap (λ (x : Change). x.row) c.change.ensures in
-    let said : IsPlaced (entries_at rules.definitions c.in_ok-key.key (option_copied c.as_ref.result)) limits.entries (Err (TooWide c.in-Err-TooWide.count)) =
-    subst (λ (f : PlaceFault). IsPlaced (entries_at rules.definitions c.in_ok-key.key (option_copied c.as_ref.result)) limits.entries (Err f)) c.in-Err-TooWide.field-0-is c.in-Err-TooWide.ensures in
-    let refused = is_wide limits rules base ts t h.rules_are c.in_ok-key.key c.in_ok-key.ensures
-    (subst (λ (o : Option (List Column)). limits.entries < length (entries_at rules.definitions c.in_ok-key.key o)) row_is said.0) c.in-Err-TooWide.count said.1 in
-    (rw c.in-Err-TooWide.field-0-is refused, h)
+    let before : Option (List Column) = option_copied c.row_before-before.result in
+    let same : t ≡ read = of_read c.args.changes.now.items c.args.place t read at c.index-waiting.ensures in
+    let said : IsChangeOf rules.definitions read.change before limits.entries (Err (TooWide c.in-Err-TooWide.count)) =
+    told c.rules-rules.result.now rules c.limits.result.now limits c.change.result.now read.change before (Err (TooWide c.in-Err-TooWide.count)) c.rules-rules.ensures c.limits.ensures c.change.ensures
+    (subst (λ (f : PlaceFault). IsChangeOf c.rules-rules.result.now.definitions c.change.result.now before c.limits.result.now.entries (Err f)) c.in-Err-TooWide.field-0-is c.in-Err-TooWide.ensures) in
+    (rw c.in-Err-TooWide.field-0-is (is_wide limits rules base ts t h.rules_are (rw same said.0) c.in-Err-TooWide.count said.1), h)
 
-pub returns-then-not-has_ids : goal.returns-then-not-has_ids
-returns-then-not-has_ids c = λ base ts h.
-    let t : Timed = c.args.waiting.now in
+pub returns-in-Ok : goal.returns-in-Ok
+returns-in-Ok c =
+    let read : Timed = c.index-waiting.result.now in
     let limits : Limits = c.args.fixed.now.limits in
     let rules : RuleSet = c.args.fixed.now.rules in
-    let key : Key = c.in_ok-key.key in
-    let left : List Placed = c.in-Ok.entries in
-    let row_is : option_copied c.as_ref.result ≡ t.change.row = c.as_ref.ensures.value ∙ ap (λ (x : Change). x.row) c.change.ensures in
-    let said = c.in-Ok.ensures in
-    let is_left : left ≡ entries_at rules.definitions key t.change.row = said.0 ∙ ap (entries_at rules.definitions key) row_is in
-    let narrow : length left ≤ limits.entries = subst (λ (es : List Placed). length es ≤ limits.entries) (sym said.0) said.1 in
-    let is_gone : c.in_ok-gone.gone ≡ places_left (seen_at rules.definitions c.args.self.now c.args.rows.now key) left =
-    c.in_ok-gone.ensures ∙ ap (places_left (seen_at rules.definitions c.args.self.now c.args.rows.now key)) c.as_slice.ensures in
-    let full : limits.ops < c.args.self.now.last.0 + (c.len.result + c.len-2.result) = c.has_ids.ensures.full c.if-not-has_ids.true in
-    let more : limits.ops < c.args.self.now.last.0 + (length c.in_ok-gone.gone + length left) = omega (arith, full, c.len.ensures, c.len-2.ensures) in (
-      is_full limits rules base ts t h.rules_are c.args.rows.now c.args.self.now h key c.in_ok-key.ensures left c.in_ok-gone.gone is_left is_gone narrow more,
-      h,
-    )
-
-pub returns : goal.returns
-returns c = λ base ts h.
-    let t : Timed = c.args.waiting.now in
-    let limits : Limits = c.args.fixed.now.limits in
-    let rules : RuleSet = c.args.fixed.now.rules in
-    let key : Key = c.in_ok-key.key in
+    let rows : Rows = c.args.rows.now in
+    let changes : List Timed = c.args.changes.now.items in
     let old : Plan = c.args.self.now in
-    let left : List Placed = c.in-Ok.entries in
-    let gone : List Place = c.in_ok-gone.gone in
-    let row_is : option_copied c.as_ref.result ≡ t.change.row = c.as_ref.ensures.value ∙ ap (λ (x : Change). x.row) c.change.ensures in
-    let said = c.in-Ok.ensures in
-    let is_left : left ≡ entries_at rules.definitions key t.change.row = said.0 ∙ ap (entries_at rules.definitions key) row_is in
-    let narrow : length left ≤ limits.entries = subst (λ (es : List Placed). length es ≤ limits.entries) (sym said.0) said.1 in
-    let is_gone : gone ≡ places_left (seen_at rules.definitions old c.args.rows.now key) left =
-    c.in_ok-gone.ensures ∙ ap (places_left (seen_at rules.definitions old c.args.rows.now key)) c.as_slice.ensures in
-    let low : old.last.0 + (c.len.result + c.len-2.result) ≤ limits.ops = c.has_ids.ensures.left c.if-not-has_ids.false in
-    let fits : old.last.0 + (length gone + length left) ≤ limits.ops = omega (arith, low, c.len.ensures, c.len-2.ensures) in
-    let new : Plan = c.keep.new.self in
-    let made : Made = record { last = new.last; row = c.in_ok-row.row } in (
-      is_fine limits rules base ts t h.rules_are c.args.rows.now old h key c.in_ok-key.ensures left gone is_left is_gone narrow fits,
-      stands_more limits rules base ts t h.rules_are c.args.rows.now old h key c.in_ok-key.ensures left gone is_left is_gone
-          new made
-          (c.in_ok-keep.ensures.seen rules c.args.rows.now)
-          c.in_ok-keep.ensures.last c.in_ok-row.ensures refl
-          c.in_ok-keep.ensures.entered
-          c.in_ok-keep.ensures.made,
-    )
+    let entries : ChangeEntries = c.in-Ok.entries in
+    let before : Option (List Column) = option_copied c.row_before-before.result in
+    let said : IsChangeOf rules.definitions read.change before limits.entries (Ok entries) =
+    told c.rules-rules.result.now rules c.limits.result.now limits c.change.result.now read.change before (Ok entries) c.rules-rules.ensures c.limits.ensures c.change.ensures c.in-Ok.ensures in
+    let seen : before ≡ row_seen old rows changes (key_of read) = c.row_before-before.ensures ∙ ap (row_seen old rows changes) c.in_ok-key.ensures in
+    IfOk-weaker c.keep.result _ _ (λ refusal kept base ts t h count at.
+    let same : t ≡ read = of_read changes c.args.place t read at c.index-waiting.ensures in
+    let made : IsMade limits (fold write_next base ts) read entries = is_made limits rules base ts read h.rules_are rows changes old h entries (rw seen at said.0) said.1 said.2 in
+    let there : slice_get changes (length ts) ≡ Some read = ap (slice_get changes) count ∙ at ∙ ap Some same in
+    subst (λ (x : Timed). (refusal ≡ refusal_of limits (fold write_next base ts) x) × PlanStands rules rows changes c.keep.new.self base (with_change refusal ts x)) (sym same)
+    (kept rows changes base ts h there made)) c.keep.ensures
