@@ -1,8 +1,8 @@
 -- Counts of operations, one change and one transaction further.
-use Rattle.std.proofs.Common.{◌≡◌, ℕ, zero, suc, ◌+◌, ◌<◌, ◌≤◌, Bool, true, false, cond, List, [], ◌∷◌, ◌++◌, Some, None, Option, length, take, drop, get_or, map, refl, sym, ap, ◌∙◌, subst, arith, length-append}
+use Rattle.std.proofs.Common.{◌≡◌, ℕ, suc, ◌+◌, ◌<◌, Bool, true, false, cond, List, [], ◌∷◌, ◌++◌, Some, None, Option, length, take, drop, get_or, map, refl, sym, ap, ◌∙◌, subst, arith, length-append}
 use Rattle.std.specs.List.{list_any, range_with_len}
 use Rattle.std.proofs.lemmas.List.FromFn.{map-range_with_len_more}
-use Rattle.std.specs.Prelude.{◌||◌, if◌then◌else◌, fold, flat_map, option_map}
+use Rattle.std.specs.Prelude.{◌||◌, if◌then◌else◌, fold, option_map}
 use Rattle.std.specs.FinMap.Entries.{find}
 use Rattle.std.specs.Ordering.{eq_by_cmp, is_eq}
 use Rattle.std.specs.declared.cmp.Ordering.{Ordering}
@@ -12,7 +12,7 @@ use Rattle.std.proofs.lemmas.List.{take_more, drop_more}
 use Rattle.ps_data.specs.declared.columns.Column.{Column}
 use Rattle.ps_rows.specs.declared.changes.Change.{Change}
 use Rattle.ps_rows.specs.declared.changes.Transaction.{Transaction}
-use Rattle.ps_rows.specs.Source.{Key, key_cmp, Version, Source, after_row}
+use Rattle.ps_rows.specs.Source.{Key, key_cmp, Version, Source}
 use Rattle.ps_rows.specs.Keys.{keys_exact, find-after_row}
 use Rattle.ps_definitions.specs.declared.definitions.Definition.{Definition}
 use Rattle.ps_bucket_eval.specs.declared.placed.Placed.{Placed}

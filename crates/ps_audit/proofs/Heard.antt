@@ -1,11 +1,10 @@
 -- A verdict, line by line, while a client takes them that shows rows.
-use Rattle.std.proofs.Common.{◌≡◌, ℕ, ◌+◌, ◌<◌, ◌≤◌, Bool, true, false, List, [], ◌∷◌, ◌++◌, Option, Some, None, Result, Ok, Err, length, get_or, drop, map, refl, sym, ap, ◌∙◌, subst, arith}
-use Rattle.std.proofs.lemmas.List.{drop_more, drop_all}
+use Rattle.std.proofs.Common.{◌≡◌, ℕ, ◌+◌, ◌<◌, ◌≤◌, true, false, List, [], ◌∷◌, Option, Some, None, Result, Ok, Err, length, get_or, drop, refl, sym, ap, ◌∙◌, subst, arith}
+use Rattle.std.proofs.lemmas.List.{drop_more}
 use Rattle.std.specs.Prelude.{Vec}
 use Rattle.std.specs.declared.alloc.Global.{Global}
 use Rattle.ps_data.specs.declared.ids.OpId.{OpId}
 use Rattle.ps_data.specs.declared.ids.Position.{Position}
-use Rattle.ps_rows.specs.declared.shown.Shown.{Shown}
 use Rattle.ps_client_log.specs.Kept.{Kept}
 use Rattle.ps_client.specs.declared.events.Event.{Event}
 use Rattle.ps_client.specs.declared.events.Event.TheVariants.{Nothing, Applied, Held, Refused, Expiring}
@@ -19,7 +18,7 @@ use Rattle.ps_audit.specs.declared.outcomes.Outcome.TheVariants.{Taken, Complete
 use Rattle.ps_audit.specs.declared.verdicts.Broken.{Broken}
 use Rattle.ps_audit.specs.declared.verdicts.Judged.{Judged}
 use Rattle.ps_audit.specs.declared.verdicts.Verdict.{Verdict}
-use Rattle.ps_audit.specs.declared.verdicts.Verdict.TheVariants.{Yes, No}
+use Rattle.ps_audit.specs.declared.verdicts.Verdict.TheVariants.{No}
 use Rattle.ps_audit.specs.Positions.{Case}
 use Rattle.ps_audit.specs.Judging.{Progress, IsJudged, Judges, JudgesAfter, IsVerdict, asking_client, bad_request, begins_afresh, no_progress, passed, texts, with_judged}
 use Rattle.ps_audit.specs.Hearing.{IsNext, Became, Notes, MayCome, AreBreaking}

@@ -1,5 +1,5 @@
 -- What verdicts mean, line by line.
-use Rattle.std.proofs.Common.{◌≡◌, ℕ, zero, suc, ◌+◌, ◌≤◌, Bool, true, false, List, [], ◌∷◌, ◌++◌, ◌⊎◌, inl, inr, Result, Ok, Err, length, refl, sym, ap, ◌∙◌, subst, arith, append_assoc}
+use Rattle.std.proofs.Common.{◌≡◌, ℕ, ◌+◌, ◌≤◌, Bool, true, false, List, [], ◌∷◌, ◌++◌, ◌⊎◌, inl, inr, Result, Ok, Err, length, refl, sym, ap, ◌∙◌, subst, arith, append_assoc}
 use Rattle.std.specs.Prelude.{Contains}
 use Rattle.ps_data.specs.declared.ids.OpId.{OpId}
 use Rattle.ps_data.specs.declared.ids.Position.{Position}
@@ -19,9 +19,9 @@ use Rattle.ps_audit.specs.declared.verdicts.Broken.TheVariants as kinds
 use Rattle.ps_audit.specs.declared.verdicts.Judged.{Judged}
 use Rattle.ps_audit.specs.declared.verdicts.Verdict.{Verdict}
 use Rattle.ps_audit.specs.declared.verdicts.Verdict.TheVariants.{Yes, No}
-use Rattle.ps_audit.specs.Positions.{Case, NoneFits, IsLeast}
-use Rattle.ps_audit.specs.Judging.{Progress, judged, passed, with_judged, IsSettled, IsJudged, GoesOn, Judges, asking_client, no_progress, asks_afresh, bad_request, JudgesAfter}
-use Rattle.ps_audit.specs.Meaning.{after_lines, IsTaken, HoldsDue, StandsBehind, NeverFall, IsRight, AreRight, last_position, Breaks, IsBroken, Says, SaysAfter, VerdictsMean}
+use Rattle.ps_audit.specs.Positions.{Case, IsLeast}
+use Rattle.ps_audit.specs.Judging.{Progress, judged, passed, with_judged, IsJudged, GoesOn, Judges, asking_client, no_progress, asks_afresh, JudgesAfter}
+use Rattle.ps_audit.specs.Meaning.{after_lines, IsTaken, HoldsDue, StandsBehind, IsRight, AreRight, Breaks, IsBroken, Says, SaysAfter, VerdictsMean}
 use Rattle.ps_audit.proofs.Placing.{contains_first, contains_more, contains_cases, contains_none}
 
 append_none : {X : Type 0} (xs : List X) → xs ++ [] ≡ xs

@@ -1,5 +1,5 @@
 -- The verdict on the stream of an honest service.
-use Rattle.std.proofs.Common.{◌≡◌, ℕ, zero, suc, ◌+◌, ◌<◌, ◌≤◌, Bool, true, false, cond, List, [], ◌∷◌, ◌++◌, ◌⊎◌, inl, inr, Result, Ok, Err, length, take, map, refl, sym, ap, ◌∙◌, subst, arith}
+use Rattle.std.proofs.Common.{◌≡◌, ℕ, zero, suc, ◌<◌, ◌≤◌, Bool, true, false, cond, List, [], ◌∷◌, ◌++◌, ◌⊎◌, inl, inr, Result, Ok, Err, length, take, map, refl, sym, ap, ◌∙◌, subst, arith}
 use Rattle.std.specs.Prelude.{Contains, nat_le, fold, None}
 use Rattle.std.proofs.lemmas.Bool.Decides.{nat_tests}
 use Rattle.ps_data.specs.declared.ids.OpId.{OpId}
@@ -10,17 +10,14 @@ use Rattle.ps_rows.specs.Source.{after_transactions}
 use Rattle.ps_definitions.specs.RuleSets.{RuleSet}
 use Rattle.ps_granted.specs.Grants.{granted}
 use Rattle.ps_granted.specs.Latest.{rows_of}
-use Rattle.ps_lines.specs.Bodies.{body_of}
-use Rattle.ps_lines.specs.Reading.{line_of}
 use Rattle.ps_lines.specs.Writing.{without_targets}
 use Rattle.ps_client_log.specs.Kept.{Kept}
 use Rattle.ps_client_log.specs.Rows.{row_at}
 use Rattle.ps_client.specs.declared.events.Event.{Event}
 use Rattle.ps_client.specs.declared.events.Event.TheVariants.{Nothing, Applied, Held, Refused, Expiring}
 use Rattle.ps_client.specs.declared.faults.ClientFault.{ClientFault}
-use Rattle.ps_client.specs.declared.faults.ClientFault.TheVariants.{OutOfOrder, BadLine, KeeperFault, QueueEmpty, QueueWaiting, Memory}
 use Rattle.ps_client.specs.Clients.{PlainClient, Took, taken, taken_if, line_taken}
-use Rattle.ps_client.specs.Taking.{Rows, AreHeld}
+use Rattle.ps_client.specs.Taking.{AreHeld}
 use Rattle.ps_store.specs.declared.events.Event.{Event as StoreEvent}
 use Rattle.ps_store.specs.declared.events.Event.TheVariants as events
 use Rattle.ps_store.specs.Courses.{Course, course_of, ledger_at}
@@ -28,22 +25,21 @@ use Rattle.ps_store.specs.CourseLaws.{IsLawful, CoursesAreLawful}
 use Rattle.ps_store.specs.Histories.{has_deploy, LedgersTellOneGeneration}
 use Rattle.ps_store.specs.Laws.{Rises, last_position, AreLatestRows}
 use Rattle.ps_store.specs.LedgerLaws.{fed_in, LedgersTellFeeds, LedgersTellOps, LedgersTellReach}
-use Rattle.ps_store.specs.Ledgers.{Ledger, ledger_of, ledger_after, fresh, head_of, IsLegal, IsLegalFrom}
+use Rattle.ps_store.specs.Ledgers.{Ledger, ledger_after, fresh, IsLegal, IsLegalFrom}
 use Rattle.ps_store.specs.Originals.{original}
 use Rattle.ps_store.specs.StepLaws.{transactions_upto}
-use Rattle.ps_streams.specs.Headline.{Local, Headline, Meets, AreHonest, IsGood, AreListed, with_local}
+use Rattle.ps_streams.specs.Headline.{Local, Headline, Meets, AreHonest, IsGood}
 use Rattle.ps_streams.specs.Led.{EmptyAreHonest}
-use Rattle.ps_streams.specs.Runs.{Made, Turn, all_made}
+use Rattle.ps_streams.specs.Runs.{Made}
 use Rattle.ps_streams.specs.TakePlaces.{Rise, place_of, LinesRise}
 use Rattle.ps_audit.specs.declared.outcomes.Outcome.{Outcome}
 use Rattle.ps_audit.specs.declared.outcomes.Outcome.TheVariants as outcomes
 use Rattle.ps_audit.specs.declared.verdicts.Broken.{Broken}
 use Rattle.ps_audit.specs.declared.verdicts.Verdict.{Verdict}
-use Rattle.ps_audit.specs.declared.verdicts.Verdict.TheVariants.{Yes, No}
-use Rattle.ps_audit.specs.Positions.{Case, IsPosition, Fits, IsLeast, NoneFits}
-use Rattle.ps_audit.specs.Judging.{Progress, passed, with_judged, IsJudged, GoesOn, Judges, asking_client, no_progress, asks_afresh, JudgesAfter}
-use Rattle.ps_audit.specs.Honest.{IsFed, begun, AreRecorded, IsHonestStream, IsYes, HonestStreamsPass}
-use Rattle.ps_audit.proofs.Placing.{is_le, not_le, contains_first, contains_more, contains_cases, contains_none, last_above, behind_known}
+use Rattle.ps_audit.specs.Positions.{Case, IsPosition, Fits, IsLeast}
+use Rattle.ps_audit.specs.Judging.{Progress, passed, with_judged, IsJudged, GoesOn, Judges, asking_client, no_progress, JudgesAfter}
+use Rattle.ps_audit.specs.Honest.{IsFed, begun, AreRecorded, IsYes, HonestStreamsPass}
+use Rattle.ps_audit.proofs.Placing.{is_le, not_le, contains_cases, contains_none, last_above, behind_known}
 
 -- ---- transactions up to a position
 

@@ -1,5 +1,5 @@
 -- Places and positions of a source.
-use Rattle.std.proofs.Common.{◌≡◌, ℕ, zero, suc, ◌+◌, ◌<◌, ◌≤◌, Bool, true, false, List, [], ◌∷◌, ◌++◌, inl, inr, length, get_or, take, refl, sym, ap, ◌∙◌, subst, arith}
+use Rattle.std.proofs.Common.{◌≡◌, ℕ, zero, suc, ◌+◌, ◌<◌, ◌≤◌, true, false, List, [], ◌∷◌, ◌++◌, inl, inr, length, get_or, take, refl, sym, ap, ◌∙◌, subst, arith}
 use Rattle.std.specs.Prelude.{◌⊎◌, Contains, nat_le}
 use Rattle.std.proofs.lemmas.Bool.{cases_lt}
 use Rattle.std.proofs.lemmas.List.{take_more}
@@ -7,14 +7,15 @@ use Rattle.std.proofs.lemmas.List.FromFn.{length-map-range_with_len, get_or-map-
 use Rattle.std.proofs.lemmas.Bool.Decides.{nat_tests}
 use Rattle.ps_rows.specs.declared.changes.Transaction.{Transaction}
 use Rattle.ps_rows.specs.declared.shown.Shown.{Shown}
+use Rattle.ps_rows.specs.Source.{Source, after_changes, after_transactions}
 use Rattle.ps_store.specs.Laws.{Rises, last_position}
 use Rattle.ps_store.specs.Originals.{original}
 use Rattle.ps_store.specs.StepLaws.{transactions_upto}
 use Rattle.ps_definitions.specs.declared.definitions.Definition.{Definition}
 use Rattle.ps_audit.specs.Counts.{operations_behind, AreCounts}
-use Rattle.ps_audit.specs.Places.{FitsAt, NoneFitsBelow, StandsAt, position_behind}
+use Rattle.ps_audit.specs.Places.{FitsAt, NoneFitsBelow, StandsAt, position_behind, source_behind}
 use Rattle.ps_audit.specs.declared.cursors.Cursor.{Cursor}
-use Rattle.ps_audit.specs.Positions.{Case, due_at, Fits, IsLeast, NoneFits}
+use Rattle.ps_audit.specs.Positions.{Case, due_at, due_over, Fits, IsLeast, NoneFits}
 
 pub is_le : (a b : ℕ) → a ≤ b → nat_le a b ≡ true
 is_le a b h = grind (arith, nat_tests)
@@ -187,6 +188,19 @@ pub position_next : (case : Case) (n : ℕ) (t : Transaction) → n < length cas
 position_next case n t low is =
     ap (last_position 0) (take_more case.transactions n t low ∙ ap (λ u. take n case.transactions ++ u ∷ []) (sym is)) ∙ last_behind 0 (take n case.transactions) t
 
+after_more : (ts : List Transaction) (t : Transaction) (source : Source) → after_transactions (ts ++ t ∷ []) source ≡ after_changes t.position.0 0 t.changes (after_transactions ts source)
+after_more [] t source = refl
+after_more (x ∷ xs) t source = after_more xs t (after_changes x.position.0 0 x.changes source)
+
+pub source_next : (case : Case) (n : ℕ) (t : Transaction) → n < length case.transactions → t ≡ get_or case.transactions n t
+    → source_behind case (n + 1) ≡ after_changes t.position.0 0 t.changes (source_behind case n)
+source_next case n t low is =
+    ap (λ ts. after_transactions ts []) (take_more case.transactions n t low ∙ ap (λ u. take n case.transactions ++ u ∷ []) (sym is)) ∙ after_more (take n case.transactions) t []
+
+-- what is due at the position of a place is due over the source there
+pub due_behind : (case : Case) (n : ℕ) → Rises 0 case.transactions → due_at case (position_behind case n) ≡ due_over case (source_behind case n)
+due_behind case n rises = ap (λ ts. due_over case (after_transactions ts [])) (upto_take 0 n case.transactions rises)
+
 pub none_more : (case : Case) (op : ℕ) (rows : List Shown) (low high : ℕ) → NoneFitsBelow case op rows low high → ¬ (FitsAt case op rows high) → NoneFitsBelow case op rows low (high + 1)
 none_more case op rows low high none not = λ n from below. elim (cases_lt n high) [
   | inl before ↦ none n from before
@@ -198,12 +212,17 @@ pub none_at_end : (case : Case) (op : ℕ) (rows : List Shown) (low high end : �
 none_at_end case op rows low high end a b none not =
     let same : high ≡ end = omega arith in subst (λ h. NoneFitsBelow case op rows low (h + 1)) same (none_more case op rows low high none not)
 
-pub stands_first : (case : Case) (cursor : Cursor) → cursor.place ≡ 0 → cursor.position.0 ≡ 0 → StandsAt case cursor
-stands_first case cursor place position = record {
+pub stands_first : (case : Case) (cursor : Cursor) → cursor.place ≡ 0 → cursor.position.0 ≡ 0 → cursor.source ≡ [] → StandsAt case cursor
+stands_first case cursor place position source = record {
   within = omega (arith, place);
   position = position ∙ sym (ap (position_behind case) place ∙ first case.transactions);
+  source = source ∙ sym (ap (source_behind case) place ∙ none case.transactions);
 }
   where
     first : (ts : List Transaction) → last_position 0 (take 0 ts) ≡ 0
     first [] = refl
     first (t ∷ ts) = refl
+
+    none : (ts : List Transaction) → after_transactions (take 0 ts) [] ≡ []
+    none [] = refl
+    none (t ∷ ts) = refl

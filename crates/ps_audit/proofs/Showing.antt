@@ -1,6 +1,6 @@
 -- A client takes lines as it does whatever rows it shows; and what it holds does not depend on them.
-use Rattle.std.proofs.Common.{◌≡◌, ℕ, Bool, true, false, List, [], ◌∷◌, Option, Some, None, Result, Ok, Err, refl, sym, ap, ◌∙◌, subst, inl, inr}
-use Rattle.std.specs.Prelude.{IfSome, unwrap_or, ◌==◌}
+use Rattle.std.proofs.Common.{◌≡◌, ℕ, List, [], ◌∷◌, Option, Some, None, Result, Ok, Err, refl, sym, subst, inl, inr}
+use Rattle.std.specs.Prelude.{IfSome, ◌==◌}
 use Rattle.std.specs.List.{list_all}
 use Rattle.std.proofs.lemmas.Bool.{cases_Bool}
 use Rattle.ps_data.specs.declared.ids.OpId.{OpId}
@@ -13,13 +13,13 @@ use Rattle.ps_lines.specs.declared.lines.Line.{Line}
 use Rattle.ps_lines.specs.declared.lines.Line.TheVariants.{Checkpoint, Diff, Data, Complete, Expires, Unknown}
 use Rattle.ps_lines.specs.Reading.{line_of}
 use Rattle.ps_client_log.specs.Kept.{Kept}
-use Rattle.ps_client_log.specs.Rows.{HeldCopy, Holds, IsLatest, IsLatestContent, row_at, AreInOrder}
+use Rattle.ps_client_log.specs.Rows.{IsLatestContent, row_at, AreInOrder}
 use Rattle.ps_client.specs.declared.events.Differing.{Differing}
 use Rattle.ps_client.specs.declared.events.Why.{Why}
 use Rattle.ps_client.specs.declared.streams.Stream.{Stream}
 use Rattle.ps_client.specs.declared.streams.Stream.TheVariants.{Over, Asked, Open}
 use Rattle.ps_client.specs.declared.tables.Table.{Table}
-use Rattle.ps_client.specs.Clients.{PlainClient, Took, applied, compared, complete_taken, data_taken, diff_taken, comes_next, held, taken_in, next_taken, first_taken, taken, taken_if, line_taken}
+use Rattle.ps_client.specs.Clients.{PlainClient, Took, applied, compared, complete_taken, data_taken, diff_taken, comes_next, held, taken_in, next_taken, first_taken, taken_if, line_taken}
 use Rattle.ps_client.specs.Tables.{differing, is_told}
 use Rattle.ps_client.specs.Taking.{Rows, AreHeld, showing}
 use Rattle.ps_store.specs.Laws.{AreLatestRows}

@@ -6,7 +6,7 @@ use Rattle.ps_lines.specs.Reading.{line_of}
 use Rattle.ps_lines.specs.Writing.{without_targets}
 use Rattle.ps_definitions.specs.RuleSets.{RuleSet, AreRules}
 use Rattle.ps_store.specs.declared.events.Event.{Event}
-use Rattle.ps_store.specs.Courses.{Course, course_of}
+use Rattle.ps_store.specs.Courses.{course_of}
 use Rattle.ps_store.specs.Histories.{has_deploy}
 use Rattle.ps_store.specs.Laws.{HaveNumbers, Rises}
 use Rattle.ps_store.specs.Ledgers.{ledger_of, IsLegal}

@@ -19,7 +19,6 @@ use Rattle.ps_client.specs.Clients.{PlainClient, line_taken}
 use Rattle.ps_store.specs.Laws.{AreLatestRows}
 use Rattle.ps_audit.specs.declared.outcomes.Outcome.{Outcome}
 use Rattle.ps_audit.specs.declared.outcomes.Outcome.TheVariants.{Taken, Completes, Breaks}
-use Rattle.ps_audit.specs.declared.verdicts.Broken.{Broken}
 use Rattle.ps_audit.specs.declared.verdicts.Broken.TheVariants as kinds
 use Rattle.ps_audit.specs.declared.verdicts.Judged.{Judged}
 use Rattle.ps_audit.specs.declared.verdicts.Verdict.{Verdict}

@@ -9,7 +9,7 @@ use Rattle.ps_client.specs.declared.events.Differing.{Differing}
 use Rattle.ps_client.specs.declared.events.Event.{Event}
 use Rattle.ps_client.specs.declared.events.Event.TheVariants.{Nothing, Applied, Held, Refused, Expiring}
 use Rattle.ps_client.specs.declared.faults.ClientFault.{ClientFault}
-use Rattle.ps_client.specs.declared.faults.ClientFault.TheVariants.{OutOfOrder, BadLine, KeeperFault, QueueEmpty, QueueWaiting, Memory}
+use Rattle.ps_client.specs.declared.faults.ClientFault.TheVariants.{OutOfOrder, BadLine}
 use Rattle.ps_client.specs.Clients.{PlainClient, line_taken}
 use Rattle.ps_store.specs.Laws.{AreLatestRows}
 use Rattle.ps_audit.specs.declared.verdicts.Broken.{Broken}

@@ -1,6 +1,7 @@
 -- Places in a source: behind so many of its first transactions.
-use Rattle.std.specs.Prelude.{◌≡◌, ℕ, ◌≤◌, ◌<◌, ◌+◌, List, length, take}
+use Rattle.std.specs.Prelude.{◌≡◌, ℕ, ◌≤◌, ◌<◌, List, [], length, take}
 use Rattle.ps_rows.specs.declared.shown.Shown.{Shown}
+use Rattle.ps_rows.specs.Source.{Source, after_transactions}
 use Rattle.ps_sql_eval.specs.Evaluated.{asker_of}
 use Rattle.ps_store.specs.Laws.{last_position, Rises}
 use Rattle.ps_audit.specs.declared.cursors.Cursor.{Cursor}
@@ -24,10 +25,15 @@ pub record IsCounted (subject : Subject) : Type 0 where
 abbrev pub position_behind : Case → ℕ → ℕ
 position_behind case n = last_position 0 (take n case.transactions)
 
+-- the source that they make
+abbrev pub source_behind : Case → ℕ → Source
+source_behind case n = after_transactions (take n case.transactions) []
+
 -- where a cursor stands
 pub record StandsAt (case : Case) (cursor : Cursor) : Type 0 where
   pub within : cursor.place ≤ length case.transactions
   pub position : cursor.position.0 ≡ position_behind case cursor.place
+  pub source : cursor.source ≡ source_behind case cursor.place
 
 -- a place fits an op and rows
 pub record FitsAt (case : Case) (op : ℕ) (rows : List Shown) (n : ℕ) : Type 0 where

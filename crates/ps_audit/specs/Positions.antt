@@ -2,10 +2,12 @@
 use Rattle.std.specs.Prelude.{◌≡◌, ℕ, ◌≤◌, ◌⊎◌, List, Contains, length}
 use Rattle.ps_rows.specs.declared.changes.Transaction.{Transaction}
 use Rattle.ps_rows.specs.declared.shown.Shown.{Shown}
+use Rattle.ps_rows.specs.Source.{Source}
 use Rattle.ps_queries.specs.Meaning.{Asker}
 use Rattle.ps_definitions.specs.declared.definitions.Definition.{Definition}
 use Rattle.ps_definitions.specs.RuleSets.{RuleSet}
-use Rattle.ps_granted.specs.Latest.{due}
+use Rattle.ps_granted.specs.Grants.{granted}
+use Rattle.ps_granted.specs.Latest.{due, rows_of}
 use Rattle.ps_store.specs.Originals.{original}
 use Rattle.ps_store.specs.StepLaws.{transactions_upto}
 
@@ -22,7 +24,11 @@ case_for rules transactions asker = record { definitions = rules.definitions; tr
 abbrev pub operations_at : Case → ℕ → ℕ
 operations_at case position = length (original case.definitions (transactions_upto position case.transactions))
 
--- the rows that are due to the asker at a position
+-- the rows that are due to the asker over a source
+abbrev pub due_over : Case → Source → List Shown
+due_over case source = rows_of (granted case.definitions case.asker source)
+
+-- and at a position
 abbrev pub due_at : Case → ℕ → List Shown
 due_at case position = due case.definitions case.asker case.transactions position
 

@@ -2,31 +2,31 @@
 
 ghost use Rattle.std.specs.Prelude.{◌≡◌, ◌<◌, ◌≤◌, ◌+◌, [], true, false, length, IfOk, OnOk, IsTrue, MatchOption, ◌↔◌};
 ghost use Rattle.ps_audit.specs.Places.{case_of, IsCounted, StandsAt, FitsAt, NoneFitsBelow};
-ghost use Rattle.ps_audit.specs.Positions.{due_at, IsLeast, NoneFits};
+ghost use Rattle.ps_audit.specs.Positions.{due_over, IsLeast, NoneFits};
 
 use crate::subjects::Subject;
 use ps_data::{Items, Memory, OpId, Position};
-use ps_grant::{grants_of, rows_of, source_at};
+use ps_grant::{SourceRows, grants_of, rows_of};
 use ps_rows::Shown;
 use std::alloc::Global;
 
-/// A place behind the first transactions of a source.
+/// A place behind the first transactions of a source, with the rows that live there.
 #[derive(Drop)]
 pub(crate) struct Cursor {
     place: usize,
     position: Position,
+    source: SourceRows,
 }
 
-// The rows that are due to the asker at a position.
+// The rows that are due to the asker over a source.
 fn due_rows(
     alloc: Global,
     subject: &Subject<'_>,
-    position: Position,
+    source: &SourceRows,
 ) -> Result<Items<Shown>, Memory>
-    ensures { IfOk result (λ rows. rows ≡ due_at (case_of subject.now) position.0) }
+    ensures { IfOk result (λ rows. rows ≡ due_over (case_of subject.now) source.now) }
 {
-    let source = source_at(alloc, subject.transactions, position)?;
-    let copies = grants_of(alloc, subject.rules, subject.asker, &source)?;
+    let copies = grants_of(alloc, subject.rules, subject.asker, source)?;
     rows_of(alloc, copies.as_slice())
 }
 
@@ -54,25 +54,30 @@ fn are_same(rows: &[Shown], others: &[Shown]) -> bool
 
 impl Cursor {
     /// Before all transactions. Takes no memory.
-    pub(crate) fn new() -> Cursor
+    pub(crate) fn new(alloc: Global) -> Cursor
         ensures place { result.place ≡ 0 }
         ensures position { result.position.0 ≡ 0 }
+        ensures source { result.source ≡ [] }
     {
         Cursor {
             place: 0,
             position: Position(0),
+            source: SourceRows::new(alloc),
         }
     }
 
-    // Goes on behind the next transaction.
-    fn advance(&mut self, subject: &Subject<'_>)
+    // Goes on behind the next transaction: the rows are made from those before it.
+    fn advance(&mut self, alloc: Global, subject: &Subject<'_>) -> Result<(), Memory>
         requires stands { StandsAt (case_of subject.now) self.old }
         requires next { self.old.place < length subject.now.transactions.now }
-        ensures stands { StandsAt (case_of subject.now) self.new }
-        ensures place { self.new.place ≡ self.old.place + 1 }
+        ensures stands { OnOk result (StandsAt (case_of subject.now) self.new) }
+        ensures place { OnOk result (self.new.place ≡ self.old.place + 1) }
     {
-        self.position = subject.transactions[self.place].position;
+        let transaction = &subject.transactions[self.place];
+        self.source.take(alloc, transaction)?;
+        self.position = transaction.position;
         self.place += 1;
+        Ok(())
     }
 
     // Whether the place fits an op and rows.
@@ -91,7 +96,7 @@ impl Cursor {
         if subject.counts[self.place] != op.0 {
             return Ok(false);
         }
-        let due = due_rows(alloc, subject, self.position)?;
+        let due = due_rows(alloc, subject, &self.source)?;
         Ok(are_same(due.as_slice(), rows))
     }
 
@@ -115,7 +120,7 @@ impl Cursor {
             if self.fits(alloc, subject, op, rows)? {
                 return Ok(true);
             }
-            self.advance(subject);
+            self.advance(alloc, subject)?;
         }
         self.fits(alloc, subject, op, rows)
     }

@@ -172,7 +172,7 @@ pub(crate) fn hear_all(
     ensures { IfOk result (Judges (texts lines.now) (case_of subject.now) no_progress asking_client) }
 {
     let mut client = begin_client(alloc)?;
-    let mut cursor = Cursor::new();
+    let mut cursor = Cursor::new(alloc);
     let mut completed = Items::new(alloc);
     let mut number = 2u64;
     'lines: for line in lines {

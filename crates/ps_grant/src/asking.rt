@@ -5,12 +5,13 @@ ghost use Rattle.ps_queries.specs.Vectors.{SourceRow, vector_on as vectors_on, a
 ghost use Rattle.ps_definitions.specs.Vectors.{query_vectors, parameter_vectors};
 ghost use Rattle.ps_sql_eval.specs.Evaluated.{asker_of};
 ghost use Rattle.ps_grant.specs.Solving.{HaveSame, Gains};
-ghost use Rattle.ps_granted.specs.Sources.{entries_of, rows_in};
+ghost use Rattle.ps_granted.specs.Sources.{rows_in};
+ghost use Rattle.ps_grant.specs.Mapped.{kept_rows};
 
+use crate::sourcing::Live;
 use crate::vectors::VectorSet;
 use ps_data::{Items, Memory, Text};
 use ps_definitions::Definition;
-use ps_granted::LiveRow;
 use ps_queries::ParameterQuery;
 use ps_rows::Row;
 use ps_sql_eval::{Asker, vector_on};
@@ -42,16 +43,16 @@ fn add_from(
     query: &ParameterQuery,
     table: &Text,
     asker: &Asker,
-    rows: &[LiveRow],
+    rows: &Live,
 ) -> Result<(), Memory>
     ensures { OnOk result (Gains vectors.old vectors.new
-        (flat_map (vectors_on names.now (asker_of asker.now) query.now) (filter (λ (r : SourceRow). bytes_eq r.table table.now) (rows_in (entries_of rows.now))))) }
+        (flat_map (vectors_on names.now (asker_of asker.now) query.now) (filter (λ (r : SourceRow). bytes_eq r.table table.now) (rows_in (kept_rows rows.now))))) }
 {
-    'rows: for live in rows {
-        if !live.table.equals(table) {
+    'rows: for (key, version) in rows.iter() {
+        if !key.0.equals(table) {
             continue;
         }
-        add_on(alloc, vectors, names, query, asker, &live.id, &live.row)?;
+        add_on(alloc, vectors, names, query, asker, &key.1, &version.row)?;
     }
     Ok(())
 }
@@ -63,9 +64,9 @@ fn add_query(
     names: &[Text],
     query: &ParameterQuery,
     asker: &Asker,
-    rows: &[LiveRow],
+    rows: &Live,
 ) -> Result<(), Memory>
-    ensures { OnOk result (Gains vectors.old vectors.new (query_vectors names.now (asker_of asker.now) (rows_in (entries_of rows.now)) query.now)) }
+    ensures { OnOk result (Gains vectors.old vectors.new (query_vectors names.now (asker_of asker.now) (rows_in (kept_rows rows.now)) query.now)) }
 {
     match &query.table {
         Some(table) => add_from(alloc, vectors, names, query, table, asker, rows),
@@ -84,9 +85,9 @@ fn add_queries(
     names: &[Text],
     queries: &[ParameterQuery],
     asker: &Asker,
-    rows: &[LiveRow],
+    rows: &Live,
 ) -> Result<(), Memory>
-    ensures { OnOk result (Gains vectors.old vectors.new (flat_map (query_vectors names.now (asker_of asker.now) (rows_in (entries_of rows.now))) queries.now)) }
+    ensures { OnOk result (Gains vectors.old vectors.new (flat_map (query_vectors names.now (asker_of asker.now) (rows_in (kept_rows rows.now))) queries.now)) }
 {
     'queries: for query in queries {
         add_query(alloc, vectors, names, query, asker, rows)?;
@@ -100,9 +101,9 @@ pub(crate) fn vectors_of(
     alloc: Global,
     definition: &Definition,
     asker: &Asker,
-    rows: &[LiveRow],
+    rows: &Live,
 ) -> Result<VectorSet, Memory>
-    ensures { IfOk result (λ vectors. HaveSame vectors (parameter_vectors definition.now (asker_of asker.now) (rows_in (entries_of rows.now)))) }
+    ensures { IfOk result (λ vectors. HaveSame vectors (parameter_vectors definition.now (asker_of asker.now) (rows_in (kept_rows rows.now)))) }
 {
     let mut vectors = VectorSet::new(alloc);
     if definition.parameters.is_empty() {

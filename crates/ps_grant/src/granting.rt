@@ -7,15 +7,16 @@ ghost use Rattle.ps_definitions.specs.RuleSets.{IsSound, IsSoundQuery};
 ghost use Rattle.ps_sql_eval.specs.Evaluated.{asker_of};
 ghost use Rattle.ps_granted.specs.Grants.{copy_of, grant_of, granted_by_query, granted_by, granted};
 ghost use Rattle.ps_grant.specs.Solving.{AreAsLong};
-ghost use Rattle.ps_granted.specs.Sources.{entries_of, entry_of};
+ghost use Rattle.ps_grant.specs.Mapped.{kept_rows, version_of};
 
 use crate::SourceRows;
 use crate::asking::vectors_of;
 use crate::branching::holds_for_a_vector;
+use crate::sourcing::{Live, Version};
 use crate::vectors::VectorSet;
 use ps_data::{Items, Memory, Text};
 use ps_definitions::{Definition, Planned, Rules};
-use ps_granted::{Granted, LiveRow};
+use ps_granted::Granted;
 use ps_sql_eval::{Asker, content, object_id};
 use std::alloc::Global;
 
@@ -24,20 +25,21 @@ fn copy_on(
     alloc: Global,
     planned: &Planned,
     asker: &Asker,
-    live: &LiveRow,
+    key: &(Text, Text),
+    version: &Version,
 ) -> Result<Option<Granted>, Memory>
-    ensures { IfOk result (λ copy. copy ≡ copy_of (asker_of asker.now) planned.now (entry_of live.now)) }
+    ensures { IfOk result (λ copy. copy ≡ copy_of (asker_of asker.now) planned.now (key.now, version_of version.now)) }
 {
-    let Some(id) = object_id(alloc, &planned.query, asker, &live.id, &live.row)? else {
+    let Some(id) = object_id(alloc, &planned.query, asker, &key.1, &version.row)? else {
         return Ok(None);
     };
-    let content = content(alloc, &planned.query, &id, asker, &live.id, &live.row)?;
+    let content = content(alloc, &planned.query, &id, asker, &key.1, &version.row)?;
     Ok(Some(Granted {
         kind: planned.query.kind.copy(alloc)?,
         id,
         content,
-        position: live.position,
-        index: live.index,
+        position: version.position,
+        index: version.index,
         number: planned.number,
     }))
 }
@@ -49,20 +51,21 @@ fn grant_on(
     vectors: &VectorSet,
     names: &[Text],
     asker: &Asker,
-    live: &LiveRow,
+    key: &(Text, Text),
+    version: &Version,
 ) -> Result<Option<Granted>, Memory>
     requires long { AreAsLong names.now vectors.now }
     requires differ { has_repeated names.now ≡ false }
     requires sound { IsSoundQuery names.now planned.now }
-    ensures { IfOk result (λ copy. copy ≡ grant_of (asker_of asker.now) names.now vectors.now planned.now (entry_of live.now)) }
+    ensures { IfOk result (λ copy. copy ≡ grant_of (asker_of asker.now) names.now vectors.now planned.now (key.now, version_of version.now)) }
 {
-    if !live.table.equals(&planned.query.table) {
+    if !key.0.equals(&planned.query.table) {
         return Ok(None);
     }
-    if !holds_for_a_vector(alloc, planned, vectors, names, asker, &live.id, &live.row)? {
+    if !holds_for_a_vector(alloc, planned, vectors, names, asker, &key.1, &version.row)? {
         return Ok(None);
     }
-    copy_on(alloc, planned, asker, live)
+    copy_on(alloc, planned, asker, key, version)
 }
 
 // Puts the copies of a data query behind others.
@@ -73,15 +76,15 @@ fn grant_query(
     vectors: &VectorSet,
     names: &[Text],
     asker: &Asker,
-    rows: &[LiveRow],
+    rows: &Live,
 ) -> Result<(), Memory>
     requires long { AreAsLong names.now vectors.now }
     requires differ { has_repeated names.now ≡ false }
     requires sound { IsSoundQuery names.now planned.now }
-    ensures { OnOk result (copies.new ≡ copies.old ++ granted_by_query (asker_of asker.now) names.now vectors.now (entries_of rows.now) planned.now) }
+    ensures { OnOk result (copies.new ≡ copies.old ++ granted_by_query (asker_of asker.now) names.now vectors.now (kept_rows rows.now) planned.now) }
 {
-    'rows: for live in rows {
-        let Some(copy) = grant_on(alloc, planned, vectors, names, asker, live)? else {
+    'rows: for (key, version) in rows.iter() {
+        let Some(copy) = grant_on(alloc, planned, vectors, names, asker, key, version)? else {
             continue;
         };
         copies.push(copy)?;
@@ -97,12 +100,12 @@ fn grant_queries(
     vectors: &VectorSet,
     names: &[Text],
     asker: &Asker,
-    rows: &[LiveRow],
+    rows: &Live,
 ) -> Result<(), Memory>
     requires long { AreAsLong names.now vectors.now }
     requires differ { has_repeated names.now ≡ false }
     requires sound { AllByRecursion (IsSoundQuery names.now) queries.now }
-    ensures { OnOk result (copies.new ≡ copies.old ++ flat_map (granted_by_query (asker_of asker.now) names.now vectors.now (entries_of rows.now)) queries.now) }
+    ensures { OnOk result (copies.new ≡ copies.old ++ flat_map (granted_by_query (asker_of asker.now) names.now vectors.now (kept_rows rows.now)) queries.now) }
 {
     'queries: for planned in queries {
         grant_query(alloc, copies, planned, vectors, names, asker, rows)?;
@@ -116,10 +119,10 @@ fn grant_definition(
     copies: &mut Items<Granted>,
     definition: &Definition,
     asker: &Asker,
-    rows: &[LiveRow],
+    rows: &Live,
 ) -> Result<(), Memory>
     requires { IsSound definition.now }
-    ensures { OnOk result (copies.new ≡ copies.old ++ granted_by (asker_of asker.now) (entries_of rows.now) definition.now) }
+    ensures { OnOk result (copies.new ≡ copies.old ++ granted_by (asker_of asker.now) (kept_rows rows.now) definition.now) }
 {
     let vectors = vectors_of(alloc, definition, asker, rows)?;
     grant_queries(
@@ -146,7 +149,7 @@ pub fn grants_of(
 {
     let mut copies = Items::new(alloc);
     'definitions: for definition in rules.definitions() {
-        grant_definition(alloc, &mut copies, definition, asker, source.rows())?;
+        grant_definition(alloc, &mut copies, definition, asker, source.live())?;
     }
     Ok(copies)
 }

@@ -1,37 +1,51 @@
-ghost use Rattle.std.specs.Prelude.{◌≡◌};
-ghost use Rattle.ps_granted.specs.Sources.{entries_of};
+ghost use Rattle.std.specs.Prelude.{◌≡◌, [], OnOk};
+ghost use Rattle.ps_rows.specs.Source.{after_changes};
+ghost use Rattle.ps_grant.specs.Mapped.{kept_rows};
 
-use ps_data::Items;
-use ps_granted::LiveRow;
+use crate::sourcing::{Live, take_changes};
+use ps_data::Memory;
+use ps_rows::Transaction;
+use std::alloc::Global;
+use std::collections::BTreeMap;
 use std::marker::Model;
 
 /// The source at a position, which contracts see as the map from table and id to a row and the moment of its last change.
-#[derive(Debug, Drop)]
+#[derive(Drop)]
 pub struct SourceRows {
-    rows: Items<LiveRow>,
+    live: Live,
 }
 
 impl Model for SourceRows {
     ghost use Rattle.ps_rows.specs.Source.{Source as SeenSource};
-    ghost use Rattle.ps_granted.specs.Sources.{entries_of as seen_entries};
+    ghost use Rattle.ps_grant.specs.Mapped.{kept_rows as seen_rows};
 
     ghost Value = { SeenSource };
 
-    ghost view = { λ source. seen_entries source.rows };
+    ghost view = { λ source. seen_rows source.live };
 }
 
 impl SourceRows {
-    /// The source of rows. Takes no memory.
-    pub(crate) fn of_rows(rows: Items<LiveRow>) -> SourceRows
-        ensures { result ≡ entries_of rows }
+    /// No row lives. Takes no memory.
+    pub fn new(alloc: Global) -> SourceRows
+        ensures { result ≡ [] }
     {
-        SourceRows { rows }
+        SourceRows {
+            live: BTreeMap::new(alloc),
+        }
     }
 
-    /// The rows, in the order of table and id.
-    pub fn rows(&self) -> &[LiveRow]
-        ensures { entries_of result.now ≡ self.now }
+    /// Takes the changes of the next transaction, in order. Where memory is refused, it may have taken some of them. A transaction of
+    /// 4294967296 changes or more is answered as want of memory.
+    pub fn take(&mut self, alloc: Global, transaction: &Transaction) -> Result<(), Memory>
+        ensures { OnOk result (self.new ≡ after_changes transaction.now.position.0 0 transaction.now.changes self.old) }
     {
-        self.rows.as_slice()
+        take_changes(alloc, &mut self.live, transaction)
+    }
+
+    /// The rows that live, in the order of table and id.
+    pub(crate) fn live(&self) -> &Live
+        ensures { kept_rows result.now ≡ self.now }
+    {
+        &self.live
     }
 }

@@ -4,12 +4,10 @@ ghost use Rattle.std.specs.Prelude.{◌≡◌, ◌+◌, ◌^◌, MatchResult, If
 ghost use Rattle.std.specs.FinMap.Entries.{put, where_key};
 ghost use Rattle.std.specs.Ordering.{eq_by_cmp};
 ghost use Rattle.ps_rows.specs.Source.{key_cmp, source_at as source_at_position, after_row, after_changes};
-ghost use Rattle.ps_granted.specs.Sources.{entries_of};
 ghost use Rattle.ps_grant.specs.Mapped.{kept_rows, version_of};
 
 use crate::SourceRows;
-use ps_data::{Items, Memory, Position, Text};
-use ps_granted::LiveRow;
+use ps_data::{Memory, Position, Text};
 use ps_rows::{Change, Row, Transaction};
 use std::alloc::Global;
 use std::collections::BTreeMap;
@@ -17,12 +15,13 @@ use std::collections::BTreeMap;
 /// A row that lives, under its table and id.
 #[derive(Drop)]
 pub(crate) struct Version {
-    row: Row,
-    position: Position,
-    index: u32,
+    pub(crate) row: Row,
+    pub(crate) position: Position,
+    pub(crate) index: u32,
 }
 
-type Live = BTreeMap<(Text, Text), Version>;
+/// Rows that live, by their tables and ids.
+pub(crate) type Live = BTreeMap<(Text, Text), Version>;
 
 /// The source at a position: each row that lives after all changes of the transactions up to it, in order. A transaction
 /// of 4294967296 changes or more is answered as want of memory.
@@ -33,14 +32,14 @@ pub fn source_at(
 ) -> Result<SourceRows, Memory>
     ensures { IfOk result (λ source. source ≡ source_at_position transactions.now position.0) }
 {
-    let mut live = BTreeMap::new(alloc);
+    let mut source = SourceRows::new(alloc);
     'transactions: for transaction in transactions {
         if position.0 < transaction.position.0 {
             continue;
         }
-        take_changes(alloc, &mut live, transaction)?;
+        source.take(alloc, transaction)?;
     }
-    Ok(SourceRows::of_rows(in_order(alloc, live)?))
+    Ok(source)
 }
 
 // The place behind one. Places have 32 bits.
@@ -53,8 +52,12 @@ fn behind(index: u32) -> Result<u32, Memory>
     }
 }
 
-// Takes the changes of a transaction, in order.
-fn take_changes(alloc: Global, live: &mut Live, transaction: &Transaction) -> Result<(), Memory>
+/// Takes the changes of a transaction, in order.
+pub(crate) fn take_changes(
+    alloc: Global,
+    live: &mut Live,
+    transaction: &Transaction,
+) -> Result<(), Memory>
     ensures { OnOk result (kept_rows live.new ≡ after_changes transaction.now.position.0 0 transaction.now.changes (kept_rows live.old)) }
 {
     let mut index = 0u32;
@@ -110,21 +113,4 @@ fn put_in(live: &mut Live, key: (Text, Text), version: Version) -> Result<(), Me
 {
     live.insert(key, version)?;
     Ok(())
-}
-
-// The rows that live, in the order of table and id.
-fn in_order(alloc: Global, live: Live) -> Result<Items<LiveRow>, Memory>
-    ensures { IfOk result (λ rows. entries_of rows ≡ kept_rows live) }
-{
-    let mut rows = Items::new(alloc);
-    'rows: for ((table, id), version) in live {
-        rows.push(LiveRow {
-            table,
-            id,
-            row: version.row,
-            position: version.position,
-            index: version.index,
-        })?;
-    }
-    Ok(rows)
 }

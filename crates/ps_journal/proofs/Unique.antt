@@ -1,5 +1,5 @@
 -- A content reads one way.
-use Rattle.std.proofs.Common.{◌≡◌, ◌≢◌, ◌⊎◌, inl, inr, ℕ, ◌+◌, ◌<◌, ◌≤◌, ◌^◌, List, [], ◌∷◌, ◌++◌, length, take, Option, Some, None, Result, Ok, Err, refl, sym, ◌∙◌, ap, subst, arith, append_assoc, length-append}
+use Rattle.std.proofs.Common.{◌≡◌, ◌≢◌, ◌⊎◌, inl, inr, ℕ, ◌+◌, ◌<◌, ◌≤◌, ◌^◌, List, [], ◌∷◌, ◌++◌, length, take, Some, None, Result, Ok, Err, refl, sym, ◌∙◌, ap, subst, arith, append_assoc, length-append}
 use Rattle.std.proofs.lemmas.List.{append_cancel_left, take_at}
 use Rattle.ps_journal.specs.declared.records.Record.{Record}
 use Rattle.ps_journal.specs.declared.moments.Moment.{Moment}
@@ -7,9 +7,8 @@ use Rattle.ps_journal.specs.declared.moments.Told.{Told}
 use Rattle.ps_journal.specs.declared.faults.OpenFault.{OpenFault}
 use Rattle.ps_journal.specs.declared.faults.OpenFault.TheVariants.{NotJournal, Damaged, TooLong, Failed, Memory}
 use Rattle.ps_journal.specs.Moments.{MayLeave}
-use Rattle.ps_journal.specs.Records.{record_of, AreRecords}
+use Rattle.ps_journal.specs.Records.{AreRecords}
 use Rattle.ps_journal.specs.Layout.{limit, header, framed, opened, front, Spells, HasNoRecord, IsDamagedAt, IsNew, Reads}
-use Rattle.ps_journal.specs.Gates.{IsAmong}
 use Rattle.ps_journal.specs.Journals.{ReadsUpTo, Leaves}
 use Rattle.ps_journal.specs.Opening.{Opens, LeavesAsBefore}
 use Rattle.ps_journal.specs.Laws.{IsOfContent}

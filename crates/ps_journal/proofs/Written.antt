@@ -1,5 +1,5 @@
 -- What is written for a record is read as that record again.
-use Rattle.std.proofs.Common.{◌≡◌, ℕ, ◌≤◌, List, Bool, true, false, Option, Some, None, Ok, codes, refl, sym, ap, ◌∙◌, arith}
+use Rattle.std.proofs.Common.{◌≡◌, ℕ, ◌≤◌, List, false, Some, Ok, codes, refl, ap, ◌∙◌, arith}
 use Rattle.std.specs.Prelude.{decimal}
 use Rattle.std.specs.Str.{IsUtf8}
 use Rattle.std.proofs.lemmas.Str.{is_utf8-from_IsUtf8}
@@ -10,7 +10,6 @@ use Rattle.ps_data.specs.declared.ids.Position.{Position}
 use Rattle.ps_data.specs.Numbers.{greatest, decimal_of}
 use Rattle.ps_values.specs.Laws.{ReadsWhatIsWritten}
 use Rattle.ps_rows.specs.declared.changes.Change.{Change}
-use Rattle.ps_rows.specs.declared.changes.Transaction.{Transaction}
 use Rattle.ps_changes.specs.LongLines.{transaction_in}
 use Rattle.ps_changes.specs.Writing.{transaction_json}
 use Rattle.ps_journal.specs.declared.records.Record.{Record}

@@ -1,5 +1,5 @@
 -- What a journal keeps, and what a crash leaves of it.
-use Rattle.std.specs.Prelude.{◌≡◌, ◌⊎◌, ℕ, ◌+◌, ◌<◌, ◌≤◌, List, [], ◌∷◌, ◌++◌, length, Option, Some, None, Result, Ok, Err}
+use Rattle.std.specs.Prelude.{◌≡◌, ◌⊎◌, ℕ, ◌+◌, ◌<◌, ◌≤◌, List, [], ◌∷◌, ◌++◌, length, Option, Result, Ok, Err}
 use Rattle.ps_journal.specs.declared.moments.Moment.{Moment}
 use Rattle.ps_journal.specs.declared.moments.Told.{Told}
 use Rattle.ps_journal.specs.declared.places.Place.{Place}

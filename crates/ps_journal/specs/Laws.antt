@@ -6,7 +6,6 @@ use Rattle.ps_journal.specs.declared.moments.Told.{Told}
 use Rattle.ps_journal.specs.declared.faults.OpenFault.{OpenFault}
 use Rattle.ps_journal.specs.declared.faults.OpenFault.TheVariants.{NotJournal, Damaged, TooLong, Failed, Memory}
 use Rattle.ps_journal.specs.Moments.{MayLeave}
-use Rattle.ps_journal.specs.Layout.{Reads}
 use Rattle.ps_journal.specs.declared.places.Place.{Place}
 use Rattle.ps_journal.specs.Journals.{KeepsAt, Leaves}
 use Rattle.ps_journal.specs.Opening.{Opens, LeavesAsBefore}

@@ -4,10 +4,10 @@ ghost use Rattle.std.specs.Option.{ForSome};
 ghost use Rattle.ps_io.specs.Counts.{Rose};
 ghost use Rattle.ps_journal.specs.declared.records.Record.{Record as Entry};
 ghost use Rattle.ps_journal.specs.Layout.{limit, framed};
-ghost use Rattle.ps_journal.specs.Records.{IsRecord};
+ghost use Rattle.ps_journal.specs.Records.{IsRecord, body_of};
 ghost use Rattle.ps_journal.specs.Gates.{Stands, LeavesBodies};
 ghost use Rattle.ps_journal.specs.Runs.{Throughout};
-ghost use Rattle.ps_journal.specs.Opening.{Opens, Reopens};
+ghost use Rattle.ps_journal.specs.Opening.{Opens, IsMade, Reopens};
 ghost use Rattle.ps_journal.specs.Journals.{disk_of, place_of, Keeps, AreAmong, Leaves, length_with, IsFullExactly};
 
 use crate::blocks::block;
@@ -44,18 +44,22 @@ impl<D: Disk> Model for Journal<D> {
 }
 
 impl<D: Disk> Journal<D> {
-    /// Reads the records that stand on a disk. A disk with at most 9 bytes is made an empty journal. At each moment of the call a crash leaves what
-    /// it might have left before, or what reads as no records, as the disk did. A refusal gives the disk back; `Failed` comes only where its count of faults rose.
+    /// Reads the records that stand on a disk. A disk with at most 9 bytes is made a journal of no records, and synced: the eight bytes and a gate of byte 0.
+    /// At each moment of the call a crash leaves what it might have left before, or what reads as no records, as the disk did.
+    ///
+    /// A refusal gives the disk back; `Failed` comes only where its count of faults rose, and after each other refusal it is as before.
     pub fn open(alloc: Global, disk: D) -> Result<(Journal<D>, Vec<Record>), (D, OpenFault)>
         ensures keeps { IfOk result (λ opened. Keeps D.told opened.0 opened.1.items []) }
         ensures valid { IfOk result (λ opened. All IsRecord opened.1.items) }
         ensures reads { IfOk result (λ opened. IfSome (D.told disk) (λ known. Opens known.content (Ok opened.1.items))) }
         ensures refuses { IfErr result (λ refused. IfSome (D.told disk) (λ known. Opens known.content (Err refused.1))) }
+        ensures made { IfOk result (λ opened. IsMade (D.told disk) (D.told (disk_of opened.0))) }
         ensures crash { IfOk result (λ opened. Reopens (D.told disk) (D.told (disk_of opened.0))) }
         ensures crash_refused { IfErr result (λ refused. Reopens (D.told disk) (D.told refused.0)) }
         ensures failed { IfErr result (λ refused. refused.1 ≡ OpenFault.Failed → Rose (D.faults disk) (D.faults refused.0)) }
         ensures faults { IfErr result (λ refused. D.faults disk ≤ D.faults refused.0) }
         ensures quiet { IfOk result (λ opened. D.faults (disk_of opened.0) ≡ D.faults disk) }
+        ensures quiet_refused { IfErr result (λ refused. refused.1 ≢ OpenFault.Failed → D.faults refused.0 ≡ D.faults disk) }
     {
         let mut disk = disk;
         match load(alloc, &mut disk) {
@@ -143,13 +147,16 @@ impl<D: Disk> Journal<D> {
         Ok(())
     }
 
-    /// Adds a record. At `Ok` it is acknowledged: from then on each crash leaves a disk that has it. At each moment of the call a crash leaves
-    /// the records from before, and after them at most one: the new one, or one that failed or was taken back before.
+    /// Adds a record: behind those that stand come an open gate, its length, the body that `Record::body` writes, and a closed gate. At `Ok` it is
+    /// acknowledged: from then on each crash leaves a disk that has it. At each moment of the call a crash leaves the records from before, and after them at
+    /// most one: the new one, or one that failed or was taken back before.
     ///
     /// `KeepFull` comes exactly where the journal would be too long, and `KeepFailed` only where the disk's count of faults rose.
     pub fn append(&mut self, alloc: Global, entry: &Record) -> Result<(), AppendFault>
         requires { IsRecord entry.now }
         ensures ok { OnOk result ((records others : List Entry) → Keeps D.told self.old records others → Keeps D.told self.new (records ++ entry.now ∷ []) []) }
+        ensures written { OnOk result ((bodies others : List (List ℕ)) → Stands (D.told (disk_of self.old)) (place_of self.old) bodies others
+            → Stands (D.told (disk_of self.new)) (place_of self.new) (bodies ++ body_of entry.now ∷ []) []) }
         ensures fresh { OnOk result ((last : ℕ) × ((place_of self.new).standing ≡ Standing.Fresh last)) }
         ensures err { OnErr result ((records others : List Entry) → Keeps D.told self.old records others
             → (left : List Entry) × Keeps D.told self.new records left × AreAmong (entry.now ∷ others) left) }

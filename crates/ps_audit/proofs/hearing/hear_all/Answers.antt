@@ -9,7 +9,7 @@ use Rattle.ps_audit.proofs.hearing.hear_all.Goals as goal
 pub lines-init : goal.lines-init
 lines-init c = record {
   number = refl;
-  stands = stands_first (case_of c.args.subject.now) c.new-cursor.result c.new-cursor.ensures.place c.new-cursor.ensures.position;
+  stands = stands_first (case_of c.args.subject.now) c.new-cursor.result c.new-cursor.ensures.place c.new-cursor.ensures.position c.new-cursor.ensures.source;
   leads = leads_start (case_of c.args.subject.now) (texts c.args.lines.now) (state c.in_ok-client.client) c.new-cursor.result.position.0 c.new-completed.result c.in_ok-client.ensures c.new-cursor.ensures.position c.new-completed.ensures;
 }
 

@@ -1,9 +1,12 @@
-use Rattle.std.proofs.Common.{◌≡◌, ◌++◌, filter_map, drop}
+use Rattle.std.proofs.Common.{◌≡◌, ◌++◌, filter_map}
 use Rattle.ps_sql_eval.specs.Evaluated.{asker_of}
 use Rattle.ps_granted.specs.Grants.{grant_of}
-use Rattle.ps_granted.specs.Sources.{entries_of}
+use Rattle.ps_grant.specs.Mapped.{kept_rows}
+use Rattle.ps_grant.proofs.KeptLaws.{held}
 use Rattle.ps_grant.proofs.granting.grant_query.Given as goal
 
 -- the copies so far, and then those of the rows that are left
 abbrev pub invariant-rows : goal.invariant-rows
-invariant-rows l = l.copies ++ filter_map (grant_of (asker_of l.asker) l.names l.vectors l.planned) (entries_of (drop l.live-index l.rows)) ≡ l.initial.copies ++ filter_map (grant_of (asker_of l.asker) l.names l.vectors l.planned) (entries_of l.rows)
+invariant-rows l =
+    l.copies ++ filter_map (grant_of (asker_of l.asker) l.names l.vectors l.planned) (held l.key-iterator)
+    ≡ l.initial.copies ++ filter_map (grant_of (asker_of l.asker) l.names l.vectors l.planned) (kept_rows l.rows)

@@ -1,4 +1,4 @@
-use Rattle.std.proofs.Common.{◌≤◌, length, refl, arith}
+use Rattle.std.proofs.Common.{refl, arith}
 use Rattle.ps_journal.proofs.Spans.{apart_more, not_apart, apart_all}
 use Rattle.ps_journal.proofs.crashes.is_apart.Goals as goal
 

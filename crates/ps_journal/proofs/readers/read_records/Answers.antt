@@ -1,6 +1,6 @@
-use Rattle.std.proofs.Common.{◌≡◌, ◌+◌, ◌<◌, ◌^◌, [], ◌∷◌, ◌++◌, length, refl, sym, ◌∙◌, ap, arith}
+use Rattle.std.proofs.Common.{◌<◌, ◌^◌, [], ◌∷◌, ◌++◌, length, sym, ◌∙◌, arith}
 use Rattle.std.proofs.lemmas.List.Elements.{All-nil, All-push}
-use Rattle.ps_journal.specs.Records.{IsRecord, AreRecords}
+use Rattle.ps_journal.specs.Records.{IsRecord}
 use Rattle.ps_journal.proofs.Shapes.{length-front, length-front_push}
 use Rattle.ps_journal.proofs.Reading.{are_push}
 use Rattle.ps_journal.proofs.Loading.{begins, ends, damaged, goes_on, none_from_frame, none_from_record, left_length}

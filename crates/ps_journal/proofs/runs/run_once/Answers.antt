@@ -1,4 +1,4 @@
-use Rattle.std.proofs.Common.{[], ◌∷◌, sym, ◌∙◌}
+use Rattle.std.proofs.Common.{[], sym, ◌∙◌}
 use Rattle.ps_journal.proofs.Living.{opened_is, reopens_then, runs_then, kept_then, done}
 use Rattle.ps_journal.proofs.runs.run_once.Goals as goal
 

@@ -1,7 +1,7 @@
-use Rattle.std.proofs.Common.{◌≡◌, ◌+◌, length, sym, ap, ◌∙◌, arith}
+use Rattle.std.proofs.Common.{◌≡◌, ◌+◌, true, length, sym, ap, ◌∙◌, arith}
 use Rattle.ps_audit.specs.Places.{case_of}
-use Rattle.ps_audit.specs.Positions.{due_at}
-use Rattle.ps_audit.proofs.Placing.{counts_length, count_at}
+use Rattle.ps_audit.specs.Positions.{due_over}
+use Rattle.ps_audit.proofs.Placing.{counts_length, count_at, due_behind}
 use Rattle.ps_audit.proofs.cursors.Cursor.fits.Goals as goal
 
 pub index-requires : goal.index-requires
@@ -20,5 +20,12 @@ returns-clause-yes c =
     let s = c.args.subject.now in
     λ e. record {
       operations = sym (c.index.ensures ∙ count_at s.rules.now.definitions s.transactions.now s.counts.items c.args.self.now.place c.index.result.now c.requires.counted.counts c.requires.stands.within) ∙ c.if-index-op.false;
-      due = ap (due_at (case_of s)) (sym c.requires.stands.position) ∙ sym c.in_ok-due.ensures ∙ sym c.as_slice.ensures ∙ c.are_same.ensures.0 e;
+      due = due_behind (case_of s) c.args.self.now.place c.requires.counted.rises ∙ ap (due_over (case_of s)) (sym c.requires.stands.source) ∙ sym c.in_ok-due.ensures ∙ sym c.as_slice.ensures ∙ c.are_same.ensures.0 e;
     }
+
+pub returns-clause-no : goal.returns-clause-no
+returns-clause-no c =
+    let s = c.args.subject.now in
+    λ e fits.
+    let same : c.are_same.result ≡ true = c.are_same.ensures.1 (c.as_slice.ensures ∙ c.in_ok-due.ensures ∙ ap (due_over (case_of s)) c.requires.stands.source
+    ∙ sym (due_behind (case_of s) c.args.self.now.place c.requires.counted.rises) ∙ fits.due) in absurd (cc)

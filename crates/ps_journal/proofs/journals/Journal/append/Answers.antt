@@ -1,6 +1,5 @@
 use Rattle.ps_journal.specs.declared.places.Place.{Place}
-use Rattle.std.proofs.Common.{inl, ℕ, List, ◌+◌, ◌≤◌, [], ◌∷◌, ◌++◌, length, refl, ◌∙◌, ap, arith}
-use Rattle.ps_journal.specs.Records.{record_of}
+use Rattle.std.proofs.Common.{inl, ℕ, List, [], ◌∷◌, ◌++◌, refl, ◌∙◌, ap, arith}
 use Rattle.ps_journal.specs.Layout.{framed}
 use Rattle.ps_journal.proofs.Results.{on_err}
 use Rattle.ps_journal.proofs.Reading.{are_push}
@@ -98,6 +97,17 @@ returns-clause-ok g c = λ records others keeps.
       are_push keeps.0 records body c.args.entry.now keeps.3 c.in_ok-body.ensures.read_again,
       tt,
     )
+
+pub returns-clause-written : goal.returns-clause-written
+returns-clause-written g c = λ bodies others stands.
+    let start = rw (← c.self.view_is) at c.settle.ensures.end in
+    let staged = c.stage.ensures.end in
+    let framed_is = c.deref-2.ensures.value ∙ c.in_ok-block.ensures ∙ ap (λ (l : List ℕ). framed l ++ 0 ∷ []) c.deref.ensures.value in
+    let body = c.in_ok-body.body.items in
+    let shut = c.in_ok-settle.ensures.ok bodies others stands in
+    let ajar = c.in_ok-stage.ensures.ok bodies body framed_is shut in
+    let opened = c.in_ok-open_gate.ensures.ok bodies body (omega (arith, start, staged, c.len-count.ensures, c.in_ok-body.body.ok.0)) ajar in
+    rw c.in_ok-body.ensures.value at opened
 
 pub returns-clause-fresh : goal.returns-clause-fresh
 returns-clause-fresh g c = (c.stage.new.self.1.end, ap (λ (p : Place). p.standing) c.in_ok-open_gate.ensures.place)
