@@ -1,4 +1,5 @@
-/* Refuses one allocation of a program that it is loaded into: the one whose number REFUSED says, counted from 1. At the end it says on standard error how many there were. */
+/* Refuses one allocation of a program that it is loaded into: the one whose number REFUSED says, counted from 1 over all threads. At the end
+   it says on standard error how many there were. */
 #include <errno.h>
 #include <stdio.h>
 #include <stdlib.h>
@@ -17,15 +18,22 @@ __attribute__((constructor)) static void begin(void) {
     counts = 1;
 }
 
-/* The program ends by this, so that no destructor runs. */
-__attribute__((noreturn)) void _exit(int status) {
+static void tell(void) {
+    if (!counts) return;
     counts = 0;
     dprintf(2, "allocations %ld\n", count);
+}
+
+/* A program ends by returning from main, or by _exit, and then no destructor runs. */
+__attribute__((destructor)) static void end(void) { tell(); }
+
+__attribute__((noreturn)) void _exit(int status) {
+    tell();
     for (;;) syscall(SYS_exit_group, status);
 }
 
 static int refuses(void) {
-    if (!counts || ++count != refused) return 0;
+    if (!counts || __atomic_add_fetch(&count, 1, __ATOMIC_SEQ_CST) != refused) return 0;
     errno = ENOMEM;
     return 1;
 }
