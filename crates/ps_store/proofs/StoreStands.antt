@@ -23,7 +23,7 @@ use Rattle.ps_store.specs.declared.stores.Store.{Store}
 use Rattle.ps_store.specs.declared.tails.Tail.{Tail}
 use Rattle.ps_store.specs.declared.totals.Totals.{Totals}
 use Rattle.ps_store.specs.Ledgers.{Ledger, fresh, unwritten, timed_of, end_of, write_next, head_of}
-use Rattle.ps_store.specs.Originals.{Entered, Timed, timed, timed_from, columns_of, standing_entries, in_bucket}
+use Rattle.ps_store.specs.Originals.{Entered, Timed, timed, timed_from, entries_at, columns_of, standing_entries, in_bucket}
 use Rattle.ps_store.specs.Plans.{IsStart, IsRun}
 use Rattle.ps_store.specs.Reach.{Reached, reached, settled}
 use Rattle.ps_store.specs.Rows.{row_at}
