@@ -11,9 +11,11 @@ use ps_commands::run_plain;
 use ps_data::Text;
 use ps_files::{Fault, say};
 use ps_io::{DiskFiles, Sink, StdSink, WallClock};
+use ps_progress::Meter;
 use ps_serving::run_serve;
 use ps_sockets::{TcpDoors, TcpLink};
-use ps_syncing::run_sync;
+use ps_syncing::{run_sync, run_sync_telling};
+use std::io::IsTerminal;
 use std::process::ExitCode;
 use std::sync::Wait;
 use std::thread::Threads;
@@ -67,7 +69,7 @@ fn serve<R: Wait + Threads + time::Clock + Sync, K: Sink, E: Sink>(
     )
 }
 
-// A client over the system's sockets. What it keeps ends with the program.
+// A client over the system's sockets. What it keeps ends with the program. Where standard error is a terminal, it gets how far a long download is.
 fn sync<R: Wait, K: Sink, E: Sink>(
     rt: &HostRuntime,
     waits: &R,
@@ -75,19 +77,19 @@ fn sync<R: Wait, K: Sink, E: Sink>(
     out: &mut K,
     err: &mut E,
 ) -> u8 {
+    let alloc = rt.alloc();
     let mut files = DiskFiles::new(*rt);
     let mut link = TcpLink::new(*rt);
     let keeper = VolatileKeeper;
-    let (status, _keeper) = run_sync(
-        waits,
-        rt.alloc(),
-        words,
-        &mut files,
-        &mut link,
-        keeper,
-        out,
-        err,
-    );
+    let stderr = rt.stderr();
+    let (status, _keeper) = if stderr.is_terminal() {
+        let mut meter = Meter::new(StdSink::new(io::writer(&stderr)));
+        run_sync_telling(
+            waits, alloc, words, &mut files, &mut link, keeper, out, err, &mut meter,
+        )
+    } else {
+        run_sync(waits, alloc, words, &mut files, &mut link, keeper, out, err)
+    };
     status
 }
 

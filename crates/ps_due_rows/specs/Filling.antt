@@ -8,7 +8,7 @@ use Rattle.ps_store.specs.declared.stores.Store.{Store}
 use Rattle.ps_store.specs.Laws.{last_position}
 use Rattle.ps_store.specs.Ledgers.{ledger_of}
 use Rattle.ps_store.specs.Stores.{StoreStandsFor}
-use Rattle.ps_script.specs.Lines.{lines_of}
+use Rattle.ps_file_lines.specs.Lines.{lines_of}
 use Rattle.ps_snapshot.specs.declared.faults.FillFault.{FillFault}
 use Rattle.ps_snapshot.specs.declared.faults.FillFault.TheVariants.{LineTooLong, BadJson, BadShape, BadPosition, BadValue, BadChunk, NotRising, NotCovered, TooWide, OpsFull}
 use Rattle.ps_snapshot.specs.declared.faults.FillFault.TheVariants as filling

@@ -2,7 +2,7 @@
 use Rattle.std.specs.Prelude.{ℕ, ◌+◌, if◌then◌else◌, List, [], ◌∷◌, Option, Some, None, Result, Ok, Err}
 use Rattle.ps_rows.specs.declared.changes.Transaction.{Transaction}
 use Rattle.ps_definitions.specs.RuleSets.{RuleSet}
-use Rattle.ps_script.specs.Lines.{lines_of, is_blank}
+use Rattle.ps_file_lines.specs.Lines.{lines_of, is_blank}
 use Rattle.ps_snapshot.specs.declared.faults.LineFault.{LineFault}
 use Rattle.ps_snapshot.specs.declared.faults.LineFault.TheVariants.{LineTooLong, BadJson, BadShape, BadPosition, BadValue, BadChunk, NotRising, NotCovered, Memory}
 use Rattle.ps_snapshot.specs.FirstCopies.{FirstCopy, nothing, after_line}

@@ -3,7 +3,7 @@
 ghost use Rattle.std.specs.Prelude.{◌≡◌, ◌≤◌, ◌<◌, ◌+◌, ◌^◌, [], List, length, IfOk};
 ghost use Rattle.ps_rows.specs.declared.changes.Transaction.{Transaction as TransactionSeen};
 ghost use Rattle.ps_definitions.specs.RuleSets.{RuleSet};
-ghost use Rattle.ps_script.specs.Lines.{lines_of};
+ghost use Rattle.ps_file_lines.specs.Lines.{lines_of};
 ghost use Rattle.ps_snapshot.specs.declared.lines.Line.{Line as LineSeen};
 ghost use Rattle.ps_snapshot.specs.FirstCopies.{copy_of};
 ghost use Rattle.ps_snapshot.specs.Fillings.{Fills, IsFilling};
@@ -15,8 +15,8 @@ ghost use Rattle.ps_due_rows.specs.Filling.{IsServed, Feeds, TakesNext, TakesAll
 
 use ps_data::Memory;
 use ps_definitions::Rules;
+use ps_file_lines::{is_blank, split_line};
 use ps_files::{Fault, Limit, LineFault, lacks_feed};
-use ps_script::{is_blank, split_line};
 use ps_snapshot::{FillFault, Filling};
 use ps_store::{Limits, NothingToCommit, Store, ledgers_tell_histories};
 use std::alloc::Global;

@@ -10,7 +10,7 @@ use Rattle.ps_changes.specs.Members.{Reads}
 use Rattle.ps_store.specs.Limits.{greatest}
 use Rattle.ps_files.specs.declared.faults.Fault.{Fault}
 use Rattle.ps_files.specs.declared.faults.Fault.TheVariants.{Usage, Rules, Change, PastLimit, TooManyBuckets, Claims, Keys, TooLong, CannotRead, CannotWrite, Script, Memory}
-use Rattle.ps_script.specs.Lines.{is_blank}
+use Rattle.ps_file_lines.specs.Lines.{is_blank}
 use Rattle.ps_files.specs.ChangeFiles.{numbered, line_fault, all_from, all_transactions_of, ◌>>=◌}
 use Rattle.ps_files.specs.ReadingAll.{HasRead, FindsTransactions, ReadsAll}
 use Rattle.ps_files.specs.ReadingChanges.{ReadsRising, lines_left, bytes_left}

@@ -12,7 +12,7 @@ use Rattle.ps_changes.specs.Lines.{line_of}
 use Rattle.ps_changes.specs.Laws.{ReadsLines}
 use Rattle.ps_definitions.specs.declared.definitions.Definition.{Definition}
 use Rattle.ps_definitions.specs.RuleSets.{RuleSet}
-use Rattle.ps_script.specs.Lines.{lines_of, is_blank}
+use Rattle.ps_file_lines.specs.Lines.{lines_of, is_blank}
 use Rattle.ps_store.specs.Laws.{last_position}
 use Rattle.ps_store.specs.Ledgers.{timed_of}
 use Rattle.ps_store.specs.Originals.{timed}

@@ -26,7 +26,7 @@ use Rattle.ps_files.specs.declared.faults.Fault.TheVariants.{Usage, Rules, Chang
 use Rattle.ps_files.specs.declared.faults.Limit.{Limit}
 use Rattle.ps_files.specs.declared.faults.Limit.TheVariants.{Entries, Operations}
 use Rattle.ps_files.specs.declared.faults.LineFault.TheVariants.{NotRising}
-use Rattle.ps_script.specs.Lines.{lines_of, is_blank}
+use Rattle.ps_file_lines.specs.Lines.{lines_of, is_blank}
 use Rattle.ps_files.specs.ChangeFiles.{rising, passed_by, first_passed, first_of, unless_passed, within_limits, accepted, transactions_from, transactions_of, ◌>>=◌}
 use Rattle.ps_files.specs.ReadingChanges.{usual, IsPlain, IsPending, HasCommitted, HasWritten, WritesSome, WritesAll, TakesLine, Writes, ReadsRising, lines_left, bytes_left}
 use Rattle.ps_files.specs.Committing.{writes, committing, history_of}

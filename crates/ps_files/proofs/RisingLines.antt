@@ -6,7 +6,7 @@ use Rattle.ps_changes.specs.Lines.{line_of}
 use Rattle.ps_store.specs.Laws.{Rises, last_position}
 use Rattle.ps_files.specs.declared.faults.Fault.{Fault}
 use Rattle.ps_files.specs.declared.faults.Fault.TheVariants.{Usage, Rules, Change, PastLimit, TooManyBuckets, Claims, Keys, TooLong, CannotRead, CannotWrite, Script, Memory}
-use Rattle.ps_script.specs.Lines.{is_blank}
+use Rattle.ps_file_lines.specs.Lines.{is_blank}
 use Rattle.ps_files.specs.ChangeFiles.{rising, rising_from, rising_transactions_of, ◌>>=◌}
 use Rattle.ps_files.specs.ReadingChanges.{ReadsRising, lines_left, bytes_left}
 use Rattle.ps_files.specs.ReadingRising.{HasRisen, FindsRising, ReadsAllRising}

@@ -10,7 +10,7 @@ use Rattle.ps_store.specs.Laws.{last_position}
 use Rattle.ps_store.specs.Ledgers.{timed_of}
 use Rattle.ps_store.specs.Limits.{greatest, usual_limits}
 use Rattle.ps_store.specs.Originals.{Timed, timed, key_of, entries_at, ops_from}
-use Rattle.ps_script.specs.Lines.{lines_of, is_blank}
+use Rattle.ps_file_lines.specs.Lines.{lines_of, is_blank}
 use Rattle.ps_files.specs.declared.faults.Fault.{Fault}
 use Rattle.ps_files.specs.declared.faults.Fault.TheVariants as faults
 use Rattle.ps_files.specs.declared.faults.Limit.{Limit}

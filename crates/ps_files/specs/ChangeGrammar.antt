@@ -4,7 +4,7 @@ use Rattle.std.specs.List.{All}
 use Rattle.ps_rows.specs.declared.changes.Transaction.{Transaction}
 use Rattle.ps_changes.specs.Grammar.{IsLine}
 use Rattle.ps_definitions.specs.RuleSets.{RuleSet}
-use Rattle.ps_script.specs.Lines.{is_blank}
+use Rattle.ps_file_lines.specs.Lines.{is_blank}
 use Rattle.ps_files.specs.ChangeFiles.{admitted, transactions_of, all_transactions_of}
 
 -- ---- lines

@@ -1,6 +1,6 @@
 -- Where the lines of a file end.
 use Rattle.std.specs.Prelude.{ℕ, ◌+◌, ◌-◌, Bool, false, not, ◌==◌, if◌then◌else◌, List, length, slice_get, Option, Some, None}
-use Rattle.ps_script.specs.Lines.{lines_of}
+use Rattle.ps_file_lines.specs.Lines.{lines_of}
 
 abbrev pub is_open : Option ℕ → Bool
 is_open None = false

@@ -15,7 +15,7 @@ use Rattle.ps_store.specs.Stores.{StoreStandsFor}
 use Rattle.ps_files.specs.declared.faults.Fault.{Fault}
 use Rattle.ps_files.specs.declared.faults.Fault.TheVariants.{Usage, Rules, Change, PastLimit, TooManyBuckets, Claims, Keys, TooLong, CannotRead, CannotWrite, Script, Memory}
 use Rattle.ps_files.specs.declared.faults.Limit.{Limit}
-use Rattle.ps_script.specs.Lines.{lines_of}
+use Rattle.ps_file_lines.specs.Lines.{lines_of}
 use Rattle.ps_files.specs.ChangeFiles.{transactions_of, transactions_from, first_passed}
 use Rattle.ps_files.specs.Committing.{writes, history_of}
 

@@ -14,8 +14,8 @@ use crate::faults::{Fault, Limit, LineFault};
 use ps_changes::{ChangeFault, LineReader};
 use ps_data::{Items, Memory};
 use ps_definitions::Rules;
+use ps_file_lines::{is_blank, split_line};
 use ps_rows::Transaction;
-use ps_script::{is_blank, split_line};
 use ps_store::{
     FeedFault, Limits, NothingToCommit, Store, WriteFault, ledgers_tell_histories, ledgers_tell_ops,
 };

@@ -12,9 +12,9 @@ use crate::faults::{Fault, Limit, LineFault};
 use crate::loading::{FILE_LIMIT, load};
 use ps_changes::{ChangeFault, read_line};
 use ps_data::Text;
+use ps_file_lines::{is_blank, split_line};
 use ps_io::Files;
 use ps_rows::Transaction;
-use ps_script::{is_blank, split_line};
 use std::alloc::Global;
 
 // Why the line of that number is refused.

@@ -9,9 +9,9 @@ use crate::faults::Fault;
 use crate::loading::{FILE_LIMIT, load};
 use ps_changes::LineReader;
 use ps_data::Text;
+use ps_file_lines::{is_blank, split_line};
 use ps_io::Files;
 use ps_rows::Transaction;
-use ps_script::{is_blank, split_line};
 use std::alloc::Global;
 
 // Reads all transactions of a change file, whose positions rise. Blank lines are skipped and counted.

@@ -16,7 +16,8 @@ use Rattle.ps_script.specs.declared.events.ScriptEvent.{ScriptEvent}
 use Rattle.ps_script.specs.declared.events.ScriptEvent.TheVariants as events
 use Rattle.ps_script.specs.declared.verbs.Verb.{Verb}
 use Rattle.ps_script.specs.declared.verbs.Verb.TheVariants.{Open, Turn, Take, Cut, Alter, Upload, Number, Rows}
-use Rattle.ps_script.specs.Words.{IsName, cut, text_of, count_of, name_of}
+use Rattle.ps_file_lines.specs.Cuts.{cut}
+use Rattle.ps_script.specs.Words.{IsName, text_of, count_of, name_of}
 use Rattle.ps_script.specs.Verbs.{verb_of, event_by}
 use Rattle.ps_script.specs.Events.{asker_by, claims_in, read_or_none, change_in, alone, named, client_in, local_in, behind, by_words, event_of}
 use Rattle.ps_script.specs.Grammar.{IsEvent, feeds, closes, writes, commits, compacts, begins_client, opens, turns, takes, cuts, alters, changes_locally, uploads, numbers, shows_rows, sums_up}

@@ -12,7 +12,8 @@ use Rattle.ps_script.specs.declared.events.ScriptEvent.{ScriptEvent}
 use Rattle.ps_script.specs.declared.events.ScriptEvent.TheVariants.{Feed, Write, Client, Local}
 use Rattle.ps_script.specs.declared.verbs.Verb.{Verb}
 use Rattle.ps_script.specs.declared.verbs.Verb.TheVariants.{Open, Turn, Take, Cut, Alter, Upload, Number, Rows}
-use Rattle.ps_script.specs.Words.{cut, IsName, name_of}
+use Rattle.ps_file_lines.specs.Cuts.{cut}
+use Rattle.ps_script.specs.Words.{IsName, name_of}
 use Rattle.ps_script.specs.Verbs.{event_by}
 use Rattle.ps_script.specs.Events.{read_or_none, change_in, client_in, local_in, event_of}
 use Rattle.ps_script.specs.Grammar.{IsEvent, feeds, closes, writes, commits, compacts, begins_client, opens, turns, takes, cuts, alters, changes_locally, uploads, numbers, shows_rows, sums_up}

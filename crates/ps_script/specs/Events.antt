@@ -10,7 +10,8 @@ use Rattle.ps_script.specs.declared.events.ScriptEvent.{ScriptEvent}
 use Rattle.ps_script.specs.declared.events.ScriptEvent.TheVariants.{Feed, Close, Write, Commit, Compact, Client, Local, Totals}
 use Rattle.ps_script.specs.Grammar.{IsEvent}
 use Rattle.ps_script.specs.Verbs.{verb_of, event_by}
-use Rattle.ps_script.specs.Words.{cut, text_of, count_of, name_of}
+use Rattle.ps_file_lines.specs.Cuts.{cut}
+use Rattle.ps_script.specs.Words.{text_of, count_of, name_of}
 
 infixl 10 ◌>>=◌
 abbrev pub ◌>>=◌ : {A B : Type 0} → Option A → (A → Option B) → Option B

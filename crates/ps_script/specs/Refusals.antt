@@ -6,7 +6,8 @@ use Rattle.ps_script.specs.declared.faults.ScriptFault.{ScriptFault}
 use Rattle.ps_script.specs.declared.faults.ScriptFault.TheVariants.{BadEvent}
 use Rattle.ps_script.specs.Events.{alone}
 use Rattle.ps_script.specs.Verbs.{verb_of}
-use Rattle.ps_script.specs.Words.{cut, is_name}
+use Rattle.ps_file_lines.specs.Cuts.{cut}
+use Rattle.ps_script.specs.Words.{is_name}
 
 -- what fails a test is no event, and no want of memory stands in place of that
 abbrev pub RefusesUnless : {X : Type 0} → Bool → Result X ScriptFault → Type 0

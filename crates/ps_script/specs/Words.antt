@@ -20,11 +20,6 @@ pub record IsName (name : List ℕ) : Type 0 where
 
 -- ---- how it is read
 
--- what stands before the first byte of that kind; what stands behind it, where there is one
-abbrev pub cut : ℕ → List ℕ → List ℕ × Option (List ℕ)
-cut at [] = ([], None)
-cut at (b ∷ bs) = if b == at then ([], Some bs) else (b ∷ (cut at bs).0, (cut at bs).1)
-
 -- bytes that are text
 abbrev pub text_of : List ℕ → Option (List ℕ)
 text_of bytes = if is_utf8 bytes then Some bytes else None

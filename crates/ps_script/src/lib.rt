@@ -1,7 +1,6 @@
-//! Scripts: their lines, and the event that each line is.
+//! Scripts: the lines that are passed over, and the event that each other line is.
 #![tactic(auto)]
 
-mod cuts;
 mod events;
 mod faults;
 mod laws;
@@ -13,5 +12,6 @@ mod verbs;
 pub use events::ScriptEvent;
 pub use faults::ScriptFault;
 pub use laws::events_are_spelled;
-pub use lines::{is_blank, is_skipped, split_line};
+pub use lines::is_skipped;
+pub use ps_file_lines::{is_blank, split_line};
 pub use reading::read_event;

@@ -5,15 +5,16 @@ ghost use Rattle.ps_script.specs.Events.{alone as event_alone, named as named_in
 ghost use Rattle.ps_script.specs.Grammar.{IsEvent};
 ghost use Rattle.ps_script.specs.Refusals.{RefusesUnless, RefusesOtherWords, has_claims, has_change, may_follow};
 ghost use Rattle.ps_script.specs.Verbs.{verb_of};
-ghost use Rattle.ps_script.specs.Words.{Reads, cut as cut_at, is_name as is_name_of};
+ghost use Rattle.ps_file_lines.specs.Cuts.{cut as cut_at};
+ghost use Rattle.ps_script.specs.Words.{Reads, is_name as is_name_of};
 
-use crate::cuts::cut;
 use crate::laws::events_are_spelled;
 use crate::parts::{is_name, read_count, read_name, read_text};
 use crate::verbs::read_verb;
 use crate::{ScriptEvent, ScriptFault};
 use ps_changes::{ChangeFault, read_change};
 use ps_claims::read_claims;
+use ps_file_lines::cut;
 use ps_rows::Change;
 use std::alloc::Global;
 

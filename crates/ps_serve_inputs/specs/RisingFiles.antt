@@ -5,7 +5,7 @@ use Rattle.std.specs.declared.alloc.Global.{Global}
 use Rattle.std.specs.List.{All}
 use Rattle.ps_rows.specs.declared.changes.Transaction.{Transaction}
 use Rattle.ps_changes.specs.Lines.{line_of}
-use Rattle.ps_script.specs.Lines.{lines_of, is_blank}
+use Rattle.ps_file_lines.specs.Lines.{lines_of, is_blank}
 use Rattle.ps_store.specs.Laws.{Rises, last_position}
 use Rattle.ps_store.specs.Limits.{greatest}
 use Rattle.ps_files.specs.declared.faults.Fault.{Fault}

@@ -10,10 +10,10 @@ ghost use Rattle.ps_serve_inputs.specs.RisingFiles.{FindsRising, IsRisingFault, 
 
 use ps_changes::{ChangeFault, LineReader};
 use ps_data::Text;
+use ps_file_lines::{is_blank, split_line};
 use ps_files::{FILE_LIMIT, Fault, Limit, LineFault, load};
 use ps_io::Files;
 use ps_rows::Transaction;
-use ps_script::{is_blank, split_line};
 use std::alloc::Global;
 
 // Refuses the line of that number.

@@ -5,6 +5,7 @@ pub mod Counting
 pub mod Ending
 pub mod Failing
 pub mod Flows
+pub mod Hearing
 pub mod LoadedFiles
 pub mod ReadingLines
 pub mod ReadingWords

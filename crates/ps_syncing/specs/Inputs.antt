@@ -6,7 +6,7 @@ use Rattle.ps_rows.specs.declared.changes.Change.{Change}
 use Rattle.ps_changes.specs.Lines.{lone_change_of}
 use Rattle.ps_changes.specs.declared.faults.ChangeFault.{ChangeFault}
 use Rattle.ps_changes.specs.declared.faults.ChangeFault.TheVariants.{LineTooLong, BadJson, BadShape, BadPosition, BadValue, Memory}
-use Rattle.ps_script.specs.Lines.{is_blank, lines_of}
+use Rattle.ps_file_lines.specs.Lines.{is_blank, lines_of}
 use Rattle.ps_syncing.specs.declared.inputs.Refused.{Refused}
 
 infixl 10 ◌>>=◌

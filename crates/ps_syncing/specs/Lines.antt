@@ -17,6 +17,7 @@ use Rattle.ps_syncing.specs.declared.faults.SyncFault.{SyncFault}
 use Rattle.ps_syncing.specs.declared.faults.SyncFault.TheVariants.{ConnectionFailed, NoCheckpoint, Answered, Altered, LineTooLong, Memory}
 use Rattle.ps_syncing.specs.declared.streams.Ended.{Ended}
 use Rattle.ps_syncing.specs.declared.streams.Ended.TheVariants as ended
+use Rattle.ps_progress.specs.Meters.{Heeds, Seen}
 use Rattle.ps_syncing.specs.Exchanges.{given_of}
 use Rattle.ps_syncing.specs.Streams.{GoesOn, Passes}
 
@@ -35,6 +36,12 @@ TakesPart old new line (Err (Answered status)) = ⊥
 TakesPart old new line (Err Altered) = (fault : ClientFault) × ((line_taken old line).answer ≡ Err fault)
 TakesPart old new line (Err (LineTooLong seen)) = ⊥
 TakesPart old new line (Err Memory) = Unit {0}
+
+-- a meter heard the line where the stream goes on, and nothing else
+abbrev pub HearsPart : Seen → Seen → List ℕ → Result (Option Ended) SyncFault → Type 0
+HearsPart old new line (Ok None) = Heeds old new line
+HearsPart old new line (Ok (Some ended)) = new ≡ old
+HearsPart old new line (Err fault) = new ≡ old
 
 -- a line came behind what came before, and these bytes are left behind it
 pub record Comes (input : Option Input) (before left line : List ℕ) : Type 0 where

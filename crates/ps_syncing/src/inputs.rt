@@ -8,8 +8,8 @@ ghost use Rattle.ps_syncing.specs.Inputs.{AddsChange, ReadsAs, changes_of, numbe
 
 use ps_changes::{ChangeFault, read_change};
 use ps_data::Items;
+use ps_file_lines::{is_blank, split_line};
 use ps_rows::Change;
-use ps_script::{is_blank, split_line};
 use std::alloc::Global;
 
 /// A line of changes that is refused.

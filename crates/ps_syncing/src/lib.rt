@@ -25,5 +25,5 @@ pub use runs::sync_client;
 pub use services::Service;
 pub use stops::Stop;
 pub use streams::{Ended, stream};
-pub use syncing::run_sync;
+pub use syncing::{run_sync, run_sync_telling};
 pub use words::{Named, read_words};

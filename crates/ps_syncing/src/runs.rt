@@ -6,6 +6,7 @@ ghost use Rattle.ps_io.specs.Counts.{Rose};
 ghost use Rattle.ps_client.specs.LocalWrites.{keeping};
 ghost use Rattle.ps_client.specs.States.{keeper_of, name_of, state};
 ghost use Rattle.ps_rows.specs.declared.changes.Change.{Change as ChangeSeen};
+ghost use Rattle.ps_progress.specs.Meters.{Hears};
 ghost use Rattle.ps_syncing.specs.Runs.{FailsSo, written_all};
 ghost use Rattle.ps_syncing.specs.Faults.{IsOfKeeper};
 ghost use Rattle.ps_syncing.specs.Steps.{StreamsUntil, IsSynced, Prints};
@@ -18,6 +19,8 @@ use ps_client::Client;
 use ps_client_log::Keeper;
 use ps_data::{Items, Memory, Text};
 use ps_doors::Link;
+use ps_io::Sink;
+use ps_progress::Meter;
 use ps_rows::Change;
 use ps_showing::print_rows;
 use std::alloc::Global;
@@ -51,17 +54,19 @@ fn write_all<P: Keeper>(
 }
 
 // Streams, at most eight, until a checkpoint is applied.
-fn stream_until_applied<R: Wait, L: Link, P: Keeper>(
+fn stream_until_applied<R: Wait, L: Link, P: Keeper, G: Sink>(
     rt: &R,
     alloc: Global,
     link: &mut L,
     service: &Service,
     client: &mut Client<P>,
+    meter: &mut Meter<G>,
 ) -> Result<(), SyncFault>
     requires { name_of client.old ≡ service.now.client }
     ensures streams { OnOk result (StreamsUntil service.now (state client.old) (state client.new) (L.closed link.old) (L.closed link.new)) }
     ensures fails { IfErr result (FailsSo service.now (L.closed link.old) (L.closed link.new)) }
     ensures out { L.out link.new ≡ L.out link.old }
+    ensures heard { Hears meter.old meter.new }
     ensures name { name_of client.new ≡ name_of client.old }
     ensures failed { result ≡ Err SyncFault.ConnectionFailed
         → Rose (L.faults link.old) (L.faults link.new) ⊎ Rose (P.faults (keeper_of client.old)) (P.faults (keeper_of client.new)) }
@@ -69,7 +74,7 @@ fn stream_until_applied<R: Wait, L: Link, P: Keeper>(
     ensures kept { P.faults (keeper_of client.old) ≤ P.faults (keeper_of client.new) }
 {
     'streams: for _stream in 0..MOST_STREAMS {
-        match stream(rt, alloc, link, service, client) {
+        match stream(rt, alloc, link, service, client, meter) {
             Ok(Ended::Applied) => return Ok(()),
             Ok(Ended::Refused) => {}
             Err(fault) => return Err(fault),
@@ -87,14 +92,17 @@ fn shown<P: Keeper>(alloc: Global, client: &Client<P>) -> Result<Vec<u8>, Memory
 }
 
 /// Brings a client up to date: changes are written locally, all that waits is uploaded, a write checkpoint is asked for where one is wanted, and streams
-/// are taken until a checkpoint is applied. Gives the rows that the client shows then, as they are printed. Each connection is closed.
-pub fn sync_client<R: Wait, L: Link, P: Keeper>(
+/// are taken until a checkpoint is applied. Gives the rows that the client shows then, as they are printed. Each connection is closed. The meter hears the
+/// lines of the streams.
+#[tactic(auto, using(crate::proofs::Hearing::hears_nothing))]
+pub fn sync_client<R: Wait, L: Link, P: Keeper, G: Sink>(
     rt: &R,
     alloc: Global,
     link: &mut L,
     service: &Service,
     changes: Items<Change>,
     client: &mut Client<P>,
+    meter: &mut Meter<G>,
 ) -> Result<Vec<u8>, SyncFault>
     requires name { name_of client.old ≡ service.now.client }
     requires tables { All (λ (change : ChangeSeen). change.table ≢ []) changes }
@@ -102,6 +110,7 @@ pub fn sync_client<R: Wait, L: Link, P: Keeper>(
     ensures prints { IfOk result (λ text. Prints (state client.new) text.items) }
     ensures fails { IfErr result (FailsSo service.now (L.closed link.old) (L.closed link.new)) }
     ensures out { L.out link.new ≡ L.out link.old }
+    ensures heard { Hears meter.old meter.new }
     ensures failed { result ≡ Err SyncFault.ConnectionFailed
         → Rose (L.faults link.old) (L.faults link.new) ⊎ Rose (P.faults (keeper_of client.old)) (P.faults (keeper_of client.new)) }
     ensures faults { L.faults link.old ≤ L.faults link.new }
@@ -110,6 +119,6 @@ pub fn sync_client<R: Wait, L: Link, P: Keeper>(
     write_all(alloc, client, changes)?;
     upload_all(alloc, link, service, client)?;
     aim(alloc, link, service, client)?;
-    stream_until_applied(rt, alloc, link, service, client)?;
+    stream_until_applied(rt, alloc, link, service, client, meter)?;
     Ok(shown(alloc, client)?)
 }

@@ -10,7 +10,8 @@ ghost use Rattle.ps_client.specs.Clients.{asked};
 ghost use Rattle.ps_client.specs.States.{keeper_of, name_of, state};
 ghost use Rattle.ps_syncing.specs.Beginnings.{HasBegun};
 ghost use Rattle.ps_syncing.specs.Exchanges.{ClosesOne, Sees};
-ghost use Rattle.ps_syncing.specs.Lines.{TakesNext, TakesPart};
+ghost use Rattle.ps_progress.specs.Meters.{Hears};
+ghost use Rattle.ps_syncing.specs.Lines.{HearsPart, TakesNext, TakesPart};
 ghost use Rattle.ps_syncing.specs.Streams.{ClosesStream, IsStreamRequest, Streams};
 
 use crate::client_faults::of_line;
@@ -23,6 +24,7 @@ use ps_data::{Memory, Text};
 use ps_doors::Link;
 use ps_io::{Sink, Source};
 use ps_lines::write_body;
+use ps_progress::Meter;
 use std::alloc::Global;
 use std::sync::Wait;
 
@@ -36,12 +38,14 @@ pub enum Ended {
 }
 
 // The client takes a line.
-fn take_part<P: Keeper>(
+fn take_part<P: Keeper, G: Sink>(
     alloc: Global,
     client: &mut Client<P>,
     line: &[u8],
+    meter: &mut Meter<G>,
 ) -> Result<Option<Ended>, SyncFault>
     ensures taken { TakesPart (state client.old) (state client.new) line.now result }
+    ensures heard { HearsPart meter.old meter.new line.now result }
     ensures name { name_of client.new ≡ name_of client.old }
     ensures failed { result ≡ Err SyncFault.ConnectionFailed
         → Rose (P.faults (keeper_of client.old)) (P.faults (keeper_of client.new)) }
@@ -51,21 +55,27 @@ fn take_part<P: Keeper>(
     match client.take_line(alloc, line) {
         Ok(Event::Applied { op: _ }) => Ok(Some(Ended::Applied)),
         Ok(Event::Refused { buckets: _ }) => Ok(Some(Ended::Refused)),
-        Ok(Event::Nothing | Event::Held { why: _ } | Event::Expiring { seconds: _ }) => Ok(None),
+        Ok(Event::Nothing | Event::Held { why: _ } | Event::Expiring { seconds: _ }) => {
+            meter.heed(alloc, line);
+            Ok(None)
+        }
         Err(fault) => Err(of_line(fault)),
     }
 }
 
 // The client takes the next line of a stream.
-fn take_next<S: Source, P: Keeper>(
+#[tactic(auto, using(crate::proofs::Hearing::hears_nothing, crate::proofs::Hearing::hears_part))]
+fn take_next<S: Source, P: Keeper, G: Sink>(
     alloc: Global,
     from: &mut S,
     reader: &mut Reader,
     client: &mut Client<P>,
+    meter: &mut Meter<G>,
 ) -> Result<Option<Ended>, SyncFault>
     ensures taken { (before : List ℕ) → HasGiven (S.input from.old) (before ++ left_of reader.old)
         → TakesNext (S.input from.new) before (left_of reader.new) (state client.old) (state client.new) result }
     ensures told { is_some (S.input from.new) ≡ is_some (S.input from.old) }
+    ensures heard { Hears meter.old meter.new }
     ensures name { name_of client.new ≡ name_of client.old }
     ensures failed { result ≡ Err SyncFault.ConnectionFailed
         → (0 < S.faults from.new) ⊎ Rose (P.faults (keeper_of client.old)) (P.faults (keeper_of client.new)) }
@@ -73,7 +83,7 @@ fn take_next<S: Source, P: Keeper>(
     ensures quiet { OnOk result (P.faults (keeper_of client.new) ≡ P.faults (keeper_of client.old)) }
 {
     match reader.next_line(from) {
-        Ok(Part::Whole) => take_part(alloc, client, reader.part()),
+        Ok(Part::Whole) => take_part(alloc, client, reader.part(), meter),
         Ok(Part::Cut) => Err(SyncFault::NoCheckpoint),
         Err(LineFault::TooLong { seen }) => Err(SyncFault::LineTooLong { seen }),
         Err(LineFault::Failed) => Err(SyncFault::ConnectionFailed),
@@ -82,16 +92,18 @@ fn take_next<S: Source, P: Keeper>(
 }
 
 // The client takes the lines of a stream until it ends.
-fn follow<R: Wait, S: Source, P: Keeper>(
+fn follow<R: Wait, S: Source, P: Keeper, G: Sink>(
     rt: &R,
     alloc: Global,
     from: &mut S,
     begun: Begun,
     client: &mut Client<P>,
+    meter: &mut Meter<G>,
 ) -> Result<Ended, SyncFault>
     ensures streams { (old : Option Input) (request : List ℕ) → HasBegun old (S.input from.old) begun
         → Streams (Sees old (S.input from.new) request) (state client.old) (state client.new) result }
     ensures told { is_some (S.input from.new) ≡ is_some (S.input from.old) }
+    ensures heard { Hears meter.old meter.new }
     ensures name { name_of client.new ≡ name_of client.old }
     ensures failed { result ≡ Err SyncFault.ConnectionFailed
         → (0 < S.faults from.new) ⊎ Rose (P.faults (keeper_of client.old)) (P.faults (keeper_of client.new)) }
@@ -103,7 +115,7 @@ fn follow<R: Wait, S: Source, P: Keeper>(
         length: _length,
     } = begun;
     'lines: for _ in rt.forever() {
-        match take_next(alloc, from, &mut reader, client) {
+        match take_next(alloc, from, &mut reader, client, meter) {
             Ok(None) => {}
             Ok(Some(ended)) => return Ok(ended),
             Err(fault) => return Err(fault),
@@ -113,17 +125,20 @@ fn follow<R: Wait, S: Source, P: Keeper>(
 }
 
 // Sends the request of a stream, and the client takes its lines until it ends.
-fn watch<R: Wait, S: Source, K: Sink, P: Keeper>(
+#[tactic(auto, using(crate::proofs::Hearing::hears_nothing))]
+fn watch<R: Wait, S: Source, K: Sink, P: Keeper, G: Sink>(
     rt: &R,
     alloc: Global,
     from: &mut S,
     to: &mut K,
     request: &[u8],
     client: &mut Client<P>,
+    meter: &mut Meter<G>,
 ) -> Result<Ended, SyncFault>
     ensures streams { Streams (Sees (S.input from.old) (S.input from.new) request.now) (state client.old) (state client.new) result }
     ensures took { result ≢ Err SyncFault.ConnectionFailed → Gains (K.taken to.old) (K.taken to.new) request.now }
     ensures told { is_some (S.input from.new) ≡ is_some (S.input from.old) }
+    ensures heard { Hears meter.old meter.new }
     ensures name { name_of client.new ≡ name_of client.old }
     ensures failed { result ≡ Err SyncFault.ConnectionFailed
         → (0 < S.faults from.new + K.faults to.new) ⊎ Rose (P.faults (keeper_of client.old)) (P.faults (keeper_of client.new)) }
@@ -131,7 +146,7 @@ fn watch<R: Wait, S: Source, K: Sink, P: Keeper>(
     ensures quiet { OnOk result (P.faults (keeper_of client.new) ≡ P.faults (keeper_of client.old)) }
 {
     match begin(alloc, from, to, request) {
-        Ok(begun) => follow(rt, alloc, from, begun, client),
+        Ok(begun) => follow(rt, alloc, from, begun, client, meter),
         Err(fault) => Err(fault),
     }
 }
@@ -159,16 +174,19 @@ fn request_of<P: Keeper>(
 }
 
 // Sends the request of a stream over a connection of its own, which is closed.
-fn watch_once<R: Wait, L: Link, P: Keeper>(
+#[tactic(auto, using(crate::proofs::Hearing::hears_nothing))]
+fn watch_once<R: Wait, L: Link, P: Keeper, G: Sink>(
     rt: &R,
     alloc: Global,
     link: &mut L,
     address: &Text,
     request: &[u8],
     client: &mut Client<P>,
+    meter: &mut Meter<G>,
 ) -> Result<Ended, SyncFault>
     ensures streams { Streams (ClosesOne (L.closed link.old) (L.closed link.new) request.now) (state client.old) (state client.new) result }
     ensures out { L.out link.new ≡ L.out link.old }
+    ensures heard { Hears meter.old meter.new }
     ensures name { name_of client.new ≡ name_of client.old }
     ensures failed { result ≡ Err SyncFault.ConnectionFailed
         → Rose (L.faults link.old) (L.faults link.new) ⊎ Rose (P.faults (keeper_of client.old)) (P.faults (keeper_of client.new)) }
@@ -178,28 +196,33 @@ fn watch_once<R: Wait, L: Link, P: Keeper>(
 {
     match link.connect(address) {
         Ok((mut from, mut to)) => {
-            let ended = watch(rt, alloc, &mut from, &mut to, request, client);
+            let ended = watch(rt, alloc, &mut from, &mut to, request, client, meter);
             link.close(from, to);
+            meter.end();
             ended
         }
         Err(_) => Err(SyncFault::ConnectionFailed),
     }
 }
 
-/// A stream for what the client keeps, over a connection of its own, which is closed: the client takes its lines until a checkpoint is applied or refused.
+/// A stream for what the client keeps, over a connection of its own, which is closed: the client takes its lines until a checkpoint is applied or refused,
+/// and the meter hears each line after which the stream goes on.
 /// Fails with `Answered` where the status is not 200, with `NoCheckpoint` where what came is no head or the input ends before, with `Altered` by a line that
 /// the client refuses, with `LineTooLong`, with `ConnectionFailed` where the count of the link or of the keeper rose, and with `Memory`.
-pub fn stream<R: Wait, L: Link, P: Keeper>(
+#[tactic(auto, using(crate::proofs::Hearing::hears_nothing))]
+pub fn stream<R: Wait, L: Link, P: Keeper, G: Sink>(
     rt: &R,
     alloc: Global,
     link: &mut L,
     service: &Service,
     client: &mut Client<P>,
+    meter: &mut Meter<G>,
 ) -> Result<Ended, SyncFault>
     requires { name_of client.old ≡ service.now.client }
     ensures streams { Streams (ClosesStream service.now (state client.old) (L.closed link.old) (L.closed link.new))
         (asked (state client.old)) (state client.new) result }
     ensures out { L.out link.new ≡ L.out link.old }
+    ensures heard { Hears meter.old meter.new }
     ensures name { name_of client.new ≡ name_of client.old }
     ensures failed { result ≡ Err SyncFault.ConnectionFailed
         → Rose (L.faults link.old) (L.faults link.new) ⊎ Rose (P.faults (keeper_of client.old)) (P.faults (keeper_of client.new)) }
@@ -215,6 +238,7 @@ pub fn stream<R: Wait, L: Link, P: Keeper>(
             &service.address,
             request.as_slice(),
             client,
+            meter,
         ),
         Err(Memory) => Err(SyncFault::Memory),
     }

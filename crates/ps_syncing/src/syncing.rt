@@ -4,6 +4,7 @@ ghost use Rattle.std.specs.Prelude.{◌≡◌, ◌≢◌, ◌⊎◌, [], Err};
 ghost use Rattle.std.specs.List.{All};
 ghost use Rattle.ps_io.specs.Counts.{Rose};
 ghost use Rattle.ps_rows.specs.declared.changes.Change.{Change as ChangeSeen};
+ghost use Rattle.ps_progress.specs.Meters.{Hears};
 ghost use Rattle.ps_syncing.specs.Saying.{SaysStop};
 ghost use Rattle.ps_syncing.specs.Syncing.{EndsSo, PrintsSo, RunsSo};
 ghost use Rattle.ps_syncing.specs.Faults.{of_keep as of_keep_means};
@@ -20,6 +21,7 @@ use ps_data::{Memory, Text};
 use ps_doors::Link;
 use ps_files::Fault;
 use ps_io::{Files, Sink};
+use ps_progress::{Meter, Nowhere};
 use std::alloc::Global;
 use std::sync::Wait;
 
@@ -34,16 +36,19 @@ fn of_keep(fault: KeepFault) -> SyncFault
 }
 
 // Opens a client over what its keeper keeps, and brings it up to date. The keeper is given back.
-fn run<R: Wait, L: Link, P: Keeper>(
+#[tactic(auto, using(crate::proofs::Hearing::hears_nothing))]
+fn run<R: Wait, L: Link, P: Keeper, G: Sink>(
     rt: &R,
     alloc: Global,
     link: &mut L,
     prepared: Prepared,
     keeper: P,
+    meter: &mut Meter<G>,
 ) -> (Result<Vec<u8>, SyncFault>, P)
     requires { All (λ (change : ChangeSeen). change.table ≢ []) prepared.changes }
     ensures runs { RunsSo prepared.service prepared.changes (P.held keeper) (L.closed link.old) (L.closed link.new) result.0 }
     ensures out { L.out link.new ≡ L.out link.old }
+    ensures heard { Hears meter.old meter.new }
     ensures failed { result.0 ≡ Err SyncFault.ConnectionFailed
         → Rose (L.faults link.old) (L.faults link.new) ⊎ Rose (P.faults keeper) (P.faults result.1) }
 {
@@ -54,7 +59,7 @@ fn run<R: Wait, L: Link, P: Keeper>(
     };
     match Client::open(alloc, keeper, name) {
         Ok(mut client) => {
-            let text = sync_client(rt, alloc, link, &service, changes, &mut client);
+            let text = sync_client(rt, alloc, link, &service, changes, &mut client, meter);
             (text, client.close())
         }
         Err((keeper, fault)) => (Err(of_keep(fault)), keeper),
@@ -111,6 +116,44 @@ pub fn run_sync<R: Wait, F: Files, L: Link, P: Keeper, K: Sink, E: Sink>(
     // Each connection that was made is closed.
     ensures out { L.out link.new ≡ L.out link.old }
 {
+    let mut meter = Meter::off(Nowhere);
+    run_sync_telling(rt, alloc, words, files, link, keeper, out, err, &mut meter)
+}
+
+/// Does what `run_sync` does, and a meter hears the lines of the streams, so that a long download says how far it is.
+#[tactic(auto, using(crate::proofs::Hearing::hears_nothing))]
+pub fn run_sync_telling<R: Wait, F: Files, L: Link, P: Keeper, K: Sink, E: Sink, G: Sink>(
+    rt: &R,
+    alloc: Global,
+    words: &[Text],
+    files: &mut F,
+    link: &mut L,
+    keeper: P,
+    out: &mut K,
+    err: &mut E,
+    meter: &mut Meter<G>,
+) -> (u8, P)
+    ensures ends { EndsSo (record {
+      held = F.held files.old;
+      read_before = F.faults files.old;
+      read_now = F.faults files.new;
+      closed_before = L.closed link.old;
+      closed_now = L.closed link.new;
+      link_before = L.faults link.old;
+      link_now = L.faults link.new;
+      kept = P.held keeper;
+      keep_before = P.faults keeper;
+      keep_now = P.faults result.1;
+      taken_before = K.taken out.old;
+      taken_now = K.taken out.new;
+      write_before = K.faults out.old;
+      write_now = K.faults out.new;
+    }) words.now (record { old = E.taken err.old; new = E.taken err.new; before = E.faults err.old; now = E.faults err.new }) result.0 }
+    // Each connection that was made is closed.
+    ensures out { L.out link.new ≡ L.out link.old }
+    // The meter's sink gets what the meter tells of lines, and nothing else.
+    ensures heard { Hears meter.old meter.new }
+{
     let named = match read_words(alloc, words) {
         Ok(Some(named)) => named,
         Ok(None) => return (say_fault(err, Fault::Usage), keeper),
@@ -120,7 +163,7 @@ pub fn run_sync<R: Wait, F: Files, L: Link, P: Keeper, K: Sink, E: Sink>(
         Ok(prepared) => prepared,
         Err(stop) => return (say_stop(err, &stop), keeper),
     };
-    let (found, keeper) = run(rt, alloc, link, prepared, keeper);
+    let (found, keeper) = run(rt, alloc, link, prepared, keeper, meter);
     match print(found, out) {
         Ok(()) => (0, keeper),
         Err(stop) => (say_stop(err, &stop), keeper),

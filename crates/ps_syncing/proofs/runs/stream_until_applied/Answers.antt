@@ -1,9 +1,11 @@
 use Rattle.std.proofs.Common.{◌≡◌, ◌∙◌, ◌+◌, ◌<◌, ◌++◌, ◌∷◌, [], length, refl, ap, inr, arith, length-append}
 use Rattle.ps_client.specs.Clients.{asked}
 use Rattle.ps_client.specs.States.{state}
+use Rattle.ps_progress.specs.Meters.{nothing}
 use Rattle.ps_syncing.specs.Runs.{most_streams, next, none}
 use Rattle.ps_syncing.specs.Streams.{EndsApplied, EndsRefused}
 use Rattle.ps_syncing.proofs.Failing.{Closes-none, Closes-more, FailsSo-later, FailsSo-stream}
+use Rattle.ps_syncing.proofs.Hearing.{hears_more}
 use Rattle.ps_syncing.proofs.Stepping.{stream_one}
 use Rattle.ps_syncing.proofs.runs.stream_until_applied.Goals as goal
 
@@ -11,6 +13,7 @@ pub streams-init : goal.streams-init
 streams-init g c = record {
   refused = ([], Closes-none (g.L.Link.closed c.args.link.now), refl, none);
   out = refl;
+  heard = nothing;
   name = refl;
   faults = omega arith;
   kept = refl;
@@ -35,6 +38,7 @@ streams-preserved g c =
         next so_far.0 last.0 was is so_far.3 last.2 last.3,
       );
       out = c.in-Ok-Refused.ensures.out ∙ c.streams.invariant.out;
+      heard = hears_more c.args.meter.now c.streams.meter c.stream.new.meter c.streams.invariant.heard c.in-Ok-Refused.ensures.heard;
       name = c.in-Ok-Refused.ensures.name ∙ c.streams.invariant.name;
       faults = omega (arith, c.in-Ok-Refused.ensures.faults, c.streams.invariant.faults);
       kept = c.in-Ok-Refused.ensures.quiet ∙ c.streams.invariant.kept;
@@ -78,3 +82,9 @@ returns-clause-fails g c =
       eight = eight;
       each = so_far.3;
     })
+
+pub returns-in-Ok-Applied-clause-heard : goal.returns-in-Ok-Applied-clause-heard
+returns-in-Ok-Applied-clause-heard g c = hears_more c.args.meter.now c.streams.meter c.stream.new.meter c.streams.invariant.heard c.in-Ok-Applied.ensures.heard
+
+pub returns-in-Err-clause-heard : goal.returns-in-Err-clause-heard
+returns-in-Err-clause-heard g c = hears_more c.args.meter.now c.streams.meter c.stream.new.meter c.streams.invariant.heard c.in-Err.ensures.heard

@@ -6,6 +6,7 @@ use Rattle.ps_syncing.specs.Exchanges.{ClosesOne, Sees}
 use Rattle.ps_syncing.specs.Streams.{Streams}
 use Rattle.ps_syncing.proofs.Closing.{ClosesOne-seen}
 use Rattle.ps_syncing.proofs.Flows.{Streams-known}
+use Rattle.ps_syncing.proofs.Hearing.{hears_end}
 use Rattle.ps_syncing.proofs.streams.watch_once.Goals as goal
 
 pub returns-in-Ok-clause-streams : goal.returns-in-Ok-clause-streams
@@ -25,3 +26,6 @@ returns-in-Ok-clause-streams g c =
     (λ gains Holds seen. ClosesOne-seen Holds old (S.number c.in-Ok.from) (S.faults c.in-Ok.from) (K.faults c.in-Ok.to) (S.number from) (S.faults from) (K.faults to)
     (S.input c.in-Ok.from) (S.input from) (K.taken c.in-Ok.to) (K.taken to) request c.in-Ok.ensures.fresh c.watch-ended.ensures.told gains seen)
     was is c.watch-ended.result c.watch-ended.ensures.took c.watch-ended.ensures.streams)
+
+pub returns-in-Ok-clause-heard : goal.returns-in-Ok-clause-heard
+returns-in-Ok-clause-heard g c = hears_end c.args.meter.now c.watch-ended.new.meter c.end.new.self c.watch-ended.ensures.heard c.end.ensures

@@ -1,7 +1,9 @@
+//! Bytes that are cut at the first byte of a kind.
+
 ghost use Rattle.std.specs.Prelude.{◌≡◌, ◌<◌, length, IfSome, ◌==◌};
 ghost use Rattle.std.specs.List.{position};
 ghost use Rattle.std.specs.Option.{option_copied};
-ghost use Rattle.ps_script.specs.Words.{cut as cut_at};
+ghost use Rattle.ps_file_lines.specs.Cuts.{cut as cut_at};
 
 // The place of the first such byte.
 fn place_of(bytes: &[u8], at: u8) -> Option<usize>
@@ -11,7 +13,7 @@ fn place_of(bytes: &[u8], at: u8) -> Option<usize>
     bytes.iter().position(|byte| *byte == at)
 }
 
-// What stands before the first such byte; what stands behind it, where there is one.
+/// What stands before the first such byte; what stands behind it, where there is one.
 pub fn cut(bytes: &[u8], at: u8) -> (&[u8], Option<&[u8]>)
     ensures front { result.0.now ≡ (cut_at at bytes.now).0 }
     ensures rest { option_copied result.1 ≡ (cut_at at bytes.now).1 }

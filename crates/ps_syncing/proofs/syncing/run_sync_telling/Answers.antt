@@ -2,7 +2,7 @@ use Rattle.std.proofs.Common.{◌≡◌, ◌∙◌, Some, inl, inr, refl, sym}
 use Rattle.ps_syncing.specs.Syncing.{Outside}
 use Rattle.ps_syncing.specs.Words.{sync_of}
 use Rattle.ps_syncing.proofs.Ending.{Causes-files, Causes-run, HasDone-run}
-use Rattle.ps_syncing.proofs.syncing.run_sync.Goals as goal
+use Rattle.ps_syncing.proofs.syncing.run_sync_telling.Goals as goal
 
 pub returns-in-Err-prepare-clause-ends : goal.returns-in-Err-prepare-clause-ends
 returns-in-Err-prepare-clause-ends g c =

@@ -1,6 +1,6 @@
 use Rattle.std.proofs.Common.{sym, ap, ◌∙◌, Some}
-use Rattle.ps_script.proofs.Cutting.{cut_some, cut_none}
-use Rattle.ps_script.proofs.cuts.cut.Goals as goal
+use Rattle.ps_file_lines.proofs.Cutting.{cut_some, cut_none}
+use Rattle.ps_file_lines.proofs.cuts.cut.Goals as goal
 
 pub returns-in-Some-clause-front : goal.returns-in-Some-clause-front
 returns-in-Some-clause-front c = sym (cut_some c.args.at c.args.bytes.now c.in-Some.place (sym c.in-Some.ensures.value)).0
