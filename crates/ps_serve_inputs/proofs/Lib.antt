@@ -1,2 +1,2 @@
-mod Risen
+mod Low
 mod Stages

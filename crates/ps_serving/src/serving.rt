@@ -13,7 +13,9 @@ use crate::judging::judge;
 use crate::laws::totals_are_one;
 use crate::printing::{print_listening, print_totals};
 use crate::running::Pace;
+use crate::stacks::stack_of;
 use crate::threads::run;
+use ps_connections::Hears;
 use ps_data::Text;
 use ps_doors::Doors;
 use ps_files::Fault;
@@ -71,7 +73,7 @@ fn listen<'a, D: Doors, O: Sink>(
 // Serves a store that was fed, and prints the totals of its last history.
 fn serve_fed<
     'a,
-    R: Wait + time::Clock + Threads + Sync,
+    R: Wait + time::Clock + Threads + Sync + Hears,
     S: Source + Send + Drop,
     K: Sink + Send + Drop,
     C: Clock + Sync,
@@ -100,7 +102,7 @@ fn serve_fed<
 // Does what the words say.
 fn serve<
     'a,
-    R: Wait + time::Clock + Threads + Sync,
+    R: Wait + time::Clock + Threads + Sync + Hears,
     F: Files,
     S: Source + Send + Drop,
     K: Sink + Send + Drop,
@@ -134,6 +136,7 @@ fn serve<
         keys,
         until_drained: words.until_drained,
     };
+    let stack = stack_of(&rules);
     let (lock, seat) = open_fed(
         tools.rt,
         tools.alloc,
@@ -146,6 +149,7 @@ fn serve<
         tools,
         lock: &lock,
         site: &site,
+        stack,
     };
     serve_fed(&ground, seat, pace_of(words), doors, out)
 }
@@ -169,9 +173,9 @@ fn words_fault<'a>(fault: WordsFault) -> ServeFault<'a>
 /// where it was not, and once the writer and the compactor have ended too the totals are printed.
 ///
 /// A fault before the threads run ends it. Of several later ones the writer's decides, then the compactor's, then that of the doors, of the output, and that a connection ended for
-/// out of memory.
+/// out of memory. The runtime hears how each connection ended.
 pub fn run_serve<
-    R: Wait + time::Clock + Threads + Sync,
+    R: Wait + time::Clock + Threads + Sync + Hears,
     F: Files,
     S: Source + Send + Drop,
     K: Sink + Send + Drop,

@@ -11,7 +11,7 @@ ghost use Rattle.ps_serving.specs.Running.{WroteTo, ServesUpTo};
 use crate::ends::Ends;
 use crate::grounds::Ground;
 use crate::running::{Pace, Seats, run_all};
-use ps_connections::Service;
+use ps_connections::{Hears, Service};
 use ps_data::Memory;
 use ps_doors::{Doors, Lent, take_back};
 use ps_io::{Clock, Sink, Source};
@@ -21,9 +21,6 @@ use ps_store::Store;
 use std::sync::Wait;
 use std::thread::Threads;
 use std::time;
-
-// The bytes of a connection's stack.
-const STACK: usize = 8388608;
 
 // A seat for each thread.
 fn split(lock: &StoreLock<Store>, seat: Seat<Store>) -> Result<Seats, Memory>
@@ -44,7 +41,7 @@ fn split(lock: &StoreLock<Store>, seat: Seat<Store>) -> Result<Seats, Memory>
 
 // Runs the threads, each with a seat of its own, and gives back the seat of all.
 fn run_lent<
-    R: Wait + time::Clock + Threads + Sync,
+    R: Wait + time::Clock + Threads + Sync + Hears,
     S: Source + Send + Drop,
     K: Sink + Send + Drop,
     C: Clock + Sync,
@@ -71,7 +68,7 @@ fn run_lent<
         site: ground.site,
         clock: ground.tools.clock,
         bell: &bell,
-        stack: STACK,
+        stack: ground.stack,
     };
     let (seat, lent, ends) = run_all(&service, &rings, seats, Lent { doors }, pace);
     let Lent { doors } = lent;
@@ -81,7 +78,7 @@ fn run_lent<
 
 /// Runs the writer, the compactor and the connections over a store that was fed, each with a seat of its own, and gives back the seat of all.
 pub(crate) fn run<
-    R: Wait + time::Clock + Threads + Sync,
+    R: Wait + time::Clock + Threads + Sync + Hears,
     S: Source + Send + Drop,
     K: Sink + Send + Drop,
     C: Clock + Sync,
