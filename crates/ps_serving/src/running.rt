@@ -230,7 +230,10 @@ fn run_threads<
     thread::scope(
         thread::scope_env(),
         service.rt,
-        move |scope| -> ((Seat<Store>, WorkEnd), ((Seat<Store>, WorkEnd), (Seat<Store>, D, Ended)))
+        move |scope| -> (
+            (Seat<Store>, WorkEnd),
+            ((Seat<Store>, WorkEnd), (Seat<Store>, D, Ended)),
+        )
             requires connections { IsSeatOf service.now.lock.now seats.connections }
             requires writer { IsSeatOf service.now.lock.now seats.writer }
             requires compactor { IsSeatOf service.now.lock.now seats.compactor }
