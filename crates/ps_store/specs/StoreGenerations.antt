@@ -96,10 +96,10 @@ IsRowsOf rows source = (key : Key) → row_at rows key ≡ find key_cmp key sour
 
 -- an index has the rules; from a position on, rows stand by it as some changes left them; and what comes next ascends from what it noted
 -- last
-pub record IndexStandsFor (index : Index) (rules : RuleSet) (floor : ℕ) (changes waiting : List Timed) (head : ℕ) : Type 0 where
-  pub rules : index.rules ≡ rules
+pub record IndexStandsFor (index : Index) (by : RuleSet) (floor : ℕ) (changes waiting : List Timed) (head : ℕ) : Type 0 where
+  pub rules : index.rules ≡ by
   pub forgotten : index.forgotten ≤ floor
-  pub notes : SameFrom floor (notes_after rules.definitions [] changes) index.notes
+  pub notes : SameFrom floor (notes_after by.definitions [] changes) index.notes
   pub ascend : Ascend index.last waiting head
 
 -- ---- a generation that is being built
@@ -240,8 +240,8 @@ abbrev pub rows_made : List Made → List (Option (List Column))
 rows_made made = map (λ (m : Made). m.row) made
 
 -- its buckets have a mark, and its last ids are those that writes gave: where no operation came yet, the one before
-pub record IsMarked (mark : List ℕ) (last wrote : ℕ) (old new : Plan) : Type 0 where
+pub record IsMarked (mark : List ℕ) (newest wrote : ℕ) (old new : Plan) : Type 0 where
   pub entered : new.entered.items ≡ marked mark old.entered.items
-  pub ids : ids new.made.items ≡ map (λ (id : ℕ). if id == last then wrote else id) (ids old.made.items)
+  pub lasts : ids new.made.items ≡ map (λ (id : ℕ). if id == newest then wrote else id) (ids old.made.items)
   pub rows : rows_made new.made.items ≡ rows_made old.made.items
   pub last : new.last ≡ old.last
