@@ -1,3 +1,4 @@
+pub mod Abandoning
 pub mod Advancing
 pub mod Apart
 pub mod Batching
@@ -12,6 +13,7 @@ pub mod CourseReadings
 pub mod Cutting
 pub mod DueRows
 pub mod Endings
+pub mod EndingsNoted
 pub mod Filling
 pub mod Following
 pub mod Fronts
@@ -26,6 +28,7 @@ pub mod LogsStanding
 pub mod LongestRuns
 pub mod Maps
 pub mod Marks
+pub mod MarksIn
 pub mod Members
 pub mod Moments
 pub mod Numbering
@@ -34,6 +37,7 @@ pub mod OneMoment
 pub mod Ordered
 pub mod Orders
 pub mod Placing
+pub mod Plainly
 pub mod Planning
 pub mod Queries
 pub mod Queues
@@ -46,6 +50,7 @@ pub mod Sources
 pub mod Standings
 pub mod Stepping
 pub mod StoreStands
+pub mod Taken
 pub mod TakenPlaces
 pub mod Taking
 pub mod Telling

@@ -31,7 +31,7 @@ use Rattle.ps_store.specs.Originals.{Timed, key_of, entries_at, in_bucket}
 use Rattle.ps_store.specs.Readings.{building_of}
 use Rattle.ps_store.specs.Rows.{row_at}
 use Rattle.ps_store.specs.Runs.{Run, run_from}
-use Rattle.ps_store.specs.StoreGenerations.{BuildingStands}
+use Rattle.ps_store.specs.StoreGenerations.{StandsIn}
 use Rattle.ps_store.specs.StoreLogs.{log_at, first_ops}
 use Rattle.ps_store.specs.Stores.{IsKept, StoreStandsFor}
 use Rattle.ps_store.specs.Tails.{Ascend, notes_after, rows_after}
@@ -149,7 +149,7 @@ built_ledger l coming n = fold build_next l (take n coming.queue)
 -- what is built stands for a generation of a ledger, before a batch
 pub record IsBuilt (built : Building) (coming : Coming) (l : Ledger) (last : ℕ) : Type 0 where
   pub is_built : l.building ≡ Some coming
-  pub stands : BuildingStands built coming l
+  pub stands : StandsIn built coming l
   pub kept : IsKept built.by.limits l
   pub last_is : last ≡ l.last
 
@@ -159,7 +159,7 @@ pub record HasGrown (coming : Coming) (l : Ledger) (limit : ℕ) (batched : Batc
   pub some : 1 ≤ batched.changes
   pub count : batched.changes ≡ (run_of new.by.limits l coming limit).count
   pub is_built : (built_ledger l coming batched.changes).building ≡ Some after
-  pub stands : BuildingStands new after (built_ledger l coming batched.changes)
+  pub stands : StandsIn new after (built_ledger l coming batched.changes)
   pub kept : IsKept new.by.limits (built_ledger l coming batched.changes)
   pub last : batched.last.0 ≡ (built_ledger l coming batched.changes).last
   pub operations : l.last + batched.operations ≡ batched.last.0
@@ -168,7 +168,7 @@ pub record HasGrown (coming : Coming) (l : Ledger) (limit : ℕ) (batched : Batc
 -- or why it was not; that none is being built is not found here
 abbrev pub Grows : Coming → Ledger → ℕ → Building → Result Batched BuildFault → Type 0
 Grows coming l limit new (Ok batched) = HasGrown coming l limit batched new
-Grows coming l limit new (Err fault) = (fault ≢ building.NothingBuilding) × IsUnbuilt new.by.limits l fault × BuildingStands new coming l
+Grows coming l limit new (Err fault) = (fault ≢ building.NothingBuilding) × IsUnbuilt new.by.limits l fault × StandsIn new coming l
 
 -- the row of a queue's next change has more entries than one may have, or out of memory to name it
 abbrev pub IsWideAt : List Timed → ℕ → BuildFault → Type 0

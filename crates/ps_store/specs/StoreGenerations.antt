@@ -24,7 +24,7 @@ use Rattle.ps_store.specs.declared.plans.Made.{Made}
 use Rattle.ps_store.specs.declared.plans.Plan.{Plan}
 use Rattle.ps_store.specs.declared.rows.Rows.{Rows}
 use Rattle.ps_store.specs.declared.stores.Store.{Store}
-use Rattle.ps_store.specs.Generations.{mark_of, begins_with_digit, is_of, Coming, Ending, Switched, Abandoned, ending_of}
+use Rattle.ps_store.specs.Generations.{mark_of, begins_with_digit, is_of, Coming, Ended, Ending, Switched, Abandoned, ending_of}
 use Rattle.ps_store.specs.Ledgers.{Ledger, head_of, unwritten}
 use Rattle.ps_store.specs.Originals.{Timed, standing_entries}
 use Rattle.ps_store.specs.Rows.{row_at}
@@ -83,8 +83,8 @@ abbrev pub by_of : Store → Fixed
 by_of store = unwrap_or store.generations.by store.fixed
 
 -- the log of a bucket of a generation, none of any other
-abbrev pub log_in : ℕ → Ledger → List ℕ → List Op
-log_in number l bucket = if is_of number bucket then l.log bucket else []
+abbrev pub log_in : ℕ → (List ℕ → List Op) → List ℕ → List Op
+log_in number log bucket = if is_of number bucket then log bucket else []
 
 -- the log of a bucket whose generation did not end
 abbrev pub log_of : Ledger → List ℕ → List Op
@@ -106,15 +106,19 @@ pub record IndexStandsFor (index : Index) (by : RuleSet) (floor : ℕ) (changes 
 
 -- it has the number, the rules and the queue; its logs and rows are those of its lane; and rows stand by its index as the changes of its
 -- lane left them
-pub record BuildingStands (built : Building) (coming : Coming) (l : Ledger) : Type 0 where
+pub record BuildingStands (built : Building) (coming : Coming) (log : List ℕ → List Op) (position : ℕ) (waiting : List Timed) (head : ℕ) : Type 0 where
   pub number : built.number ≡ coming.lane.number
   pub mark : built.mark ≡ mark_of coming.lane.number
   pub rules : built.by.rules ≡ coming.lane.rules
-  pub logs : (bucket : List ℕ) → log_at built.logs bucket ≡ log_in coming.lane.number l bucket
+  pub logs : (bucket : List ℕ) → log_at built.logs bucket ≡ log_in coming.lane.number log bucket
   pub rows : IsRowsOf built.rows coming.lane.source
-  pub index : IndexStandsFor built.index coming.lane.rules l.position (changes_of coming.lane.steps) (coming.queue ++ unwritten l) (head_of l.fed)
+  pub index : IndexStandsFor built.index coming.lane.rules position (changes_of coming.lane.steps) (coming.queue ++ waiting) head
   pub queue : built.queue.items ≡ coming.queue
   pub narrow : (key : Key) → length (standing_entries coming.lane.rules.definitions coming.lane.source key) ≤ built.by.limits.entries
+
+-- so it is in a ledger
+abbrev pub StandsIn : Building → Coming → Ledger → Type 0
+StandsIn built coming l = BuildingStands built coming l.log l.position (unwritten l) (head_of l.fed)
 
 -- for how many more changes there is room
 abbrev pub queue_room : Building → ℕ
@@ -219,20 +223,26 @@ abbrev pub HavePlaces : Generations → Option Building → Type 0
 HavePlaces generations None = Unit {0}
 HavePlaces generations (Some built) = (place_in generations.endings generations.mark ≡ true) × (place_in generations.endings built.mark ≡ true)
 
-abbrev pub IsBuilding : Limits → Ledger → Option Building → Option Coming → Type 0
-IsBuilding limits l None None = Unit {0}
-IsBuilding limits l None (Some coming) = ⊥
-IsBuilding limits l (Some built) None = ⊥
-IsBuilding limits l (Some built) (Some coming) = BuildingStands built coming l × (built.by.limits ≡ limits)
+abbrev pub IsBuilding : Limits → (List ℕ → List Op) → ℕ → List Timed → ℕ → Option Building → Option Coming → Type 0
+IsBuilding limits log position waiting head None None = Unit {0}
+IsBuilding limits log position waiting head None (Some coming) = ⊥
+IsBuilding limits log position waiting head (Some built) None = ⊥
+IsBuilding limits log position waiting head (Some built) (Some coming) = BuildingStands built coming log position waiting head × (built.by.limits ≡ limits)
 
--- they are those of a ledger
-pub record GenerationsStand (limits : Limits) (generations : Generations) (l : Ledger) : Type 0 where
-  pub number : generations.number ≡ l.force.number
-  pub mark : generations.mark ≡ mark_of l.force.number
-  pub begun : generations.begun ≡ l.begun
-  pub building : IsBuilding limits l generations.building l.building
-  pub endings : (bucket : List ℕ) → ending_at generations bucket ≡ ending_of bucket l.ended
+-- their numbers, marks and endings, and what is being built, are these
+pub record GenerationsStand (limits : Limits) (generations : Generations) (number : ℕ) (building : Option Coming) (begun : ℕ) (ended : List Ended) (log : List ℕ → List Op) (position : ℕ)
+    (waiting : List Timed) (head : ℕ) : Type 0 where
+  pub number_is : generations.number ≡ number
+  pub mark_is : generations.mark ≡ mark_of number
+  pub begun_is : generations.begun ≡ begun
+  pub building_is : IsBuilding limits log position waiting head generations.building building
+  pub endings : (bucket : List ℕ) → ending_at generations bucket ≡ ending_of bucket ended
   pub places : HavePlaces generations generations.building
+
+-- those of a ledger
+abbrev pub HasGenerations : Limits → Generations → Ledger → Type 0
+HasGenerations limits generations l =
+    GenerationsStand limits generations l.force.number l.building l.begun l.ended l.log l.position (unwritten l) (head_of l.fed)
 
 -- ---- a plan of the generation in force
 

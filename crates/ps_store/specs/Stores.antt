@@ -42,7 +42,7 @@ use Rattle.ps_store.specs.Reach.{reached}
 use Rattle.ps_store.specs.Rows.{row_at}
 use Rattle.ps_store.specs.Readings.{committed_of}
 use Rattle.ps_store.specs.Runs.{Run, run_from}
-use Rattle.ps_store.specs.StoreGenerations.{by_of, log_in, IndexStandsFor, GenerationsStand, IsAlike, IsQueued}
+use Rattle.ps_store.specs.StoreGenerations.{by_of, log_in, IndexStandsFor, HasGenerations, IsAlike, IsQueued}
 use Rattle.ps_store.specs.StoreLogs.{log_at, has_ops, first_ops}
 use Rattle.ps_store.specs.Tails.{Tied, Ascend, EndsRise, last_end, ids, reach_after, rows_after, notes_after}
 use Rattle.ps_store.specs.Totals.{totals_of, with_changes}
@@ -82,7 +82,7 @@ pub record IsKept (limits : Limits) (l : Ledger) : Type 0 where
 pub record Stands (store : Store) (l : Ledger) : Type 0 where
   pub rules : l.force.rules ≡ (by_of store).rules
   pub by_limits : (by_of store).limits ≡ store.fixed.limits
-  pub logs : (bucket : List ℕ) → log_at store.logs bucket ≡ log_in l.force.number l bucket
+  pub logs : (bucket : List ℕ) → log_at store.logs bucket ≡ log_in l.force.number l.log bucket
   pub changes : store.tail.changes.items ≡ unwritten l
   pub reach : reached store.tail.reach ≡ l.reach
   pub rows : (key : Key) → row_at store.rows key ≡ find key_cmp key l.force.source
@@ -96,7 +96,7 @@ pub record Stands (store : Store) (l : Ledger) : Type 0 where
   pub head : store.head.0 ≡ head_of l.fed
   pub closed : store.closed ≡ l.closed
   pub numbers : NumbersStand store.fixed.limits.numbers store.numbers l.numbers (head_of l.fed)
-  pub generations : GenerationsStand store.fixed.limits store.generations l
+  pub generations : HasGenerations store.fixed.limits store.generations l
   pub kept : IsKept store.fixed.limits l
 
 -- the store stands for a history that is legal, under its first rules and its limits
