@@ -1,5 +1,6 @@
 pub mod Abandoning
 pub mod Advancing
+pub mod Alike
 pub mod Apart
 pub mod Batching
 pub mod Calls
@@ -31,6 +32,7 @@ pub mod Marks
 pub mod MarksIn
 pub mod Members
 pub mod Moments
+pub mod Noted
 pub mod Numbering
 pub mod OneGeneration
 pub mod OneMoment
@@ -50,6 +52,7 @@ pub mod Sources
 pub mod Standings
 pub mod Stepping
 pub mod StoreStands
+pub mod Switching
 pub mod Taken
 pub mod TakenPlaces
 pub mod Taking
