@@ -32,6 +32,7 @@ pub mod Marks
 pub mod MarksIn
 pub mod Members
 pub mod Moments
+pub mod Moving
 pub mod Noted
 pub mod Numbering
 pub mod OneGeneration
@@ -43,6 +44,7 @@ pub mod Plainly
 pub mod Planning
 pub mod Queries
 pub mod Queues
+pub mod Reached
 pub mod Reaching
 pub mod Reading
 pub mod Recording

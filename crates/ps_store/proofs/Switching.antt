@@ -42,39 +42,8 @@ use Rattle.ps_store.proofs.Moments.{after_all}
 use Rattle.ps_store.proofs.Noted.{noted_alike}
 use Rattle.ps_store.proofs.Placing.{all_reached, upto_low}
 use Rattle.ps_store.proofs.Queues.{AllUpTo}
-use Rattle.ps_store.proofs.Reaching.{reached_is, reached_above, none_before}
+use Rattle.ps_store.proofs.Reached.{committed_is}
 use Rattle.ps_store.proofs.Stepping.{source_changes}
-
--- ---- how many transactions are reached
-
-pub reached_count : (ts : List Transaction) (last p op w : ℕ) → Rises p ts
-    → length (transactions_upto (settled_from last p op w (map end_of ts)).position ts) + length (settled_from last p op w (map end_of ts)).left ≡ length ts
-reached_count [] last p op w h = refl
-reached_count (t ∷ ts) last p op w h = by (nat_le (length t.changes) w) (reached_count ts last t.position.0 last (w - length t.changes) h.1)
-  where
-    rest : Reached
-    rest = settled_from last t.position.0 last (w - length t.changes) (map end_of ts)
-
-    up : t.position.0 ≤ rest.position
-    up = subst (λ (n : ℕ). t.position.0 ≤ n) (sym (reached_is ts last t.position.0 last (w - length t.changes))) (reached_above ts t.position.0 (w - length t.changes) h.1)
-
-    counted : length (transactions_upto rest.position (t ∷ ts)) ≡ suc (length (transactions_upto rest.position ts))
-    counted = ap (λ (b : Bool). length (if b then t ∷ transactions_upto rest.position ts else transactions_upto rest.position ts)) (grind (arith, nat_tests, up))
-
-    length_ends : (xs : List Transaction) → length (map end_of xs) ≡ length xs
-    length_ends [] = refl
-    length_ends (x ∷ xs) = ap suc (length_ends xs)
-
-    by : (b : Bool) → length (transactions_upto rest.position ts) + length rest.left ≡ length ts
-        → length (transactions_upto (if b then rest else record { position = p; op = op; over = w; left = end_of t ∷ map end_of ts }).position (t ∷ ts))
-        + length (if b then rest else record { position = p; op = op; over = w; left = end_of t ∷ map end_of ts }).left ≡ length (t ∷ ts)
-    by true same = omega (arith, counted, same)
-    by false same = omega (arith, ap length (none_before (t ∷ ts) p p h (omega arith)), length_ends ts)
-
--- the fed transactions without those past what is reached
-pub committed_is : (l : Ledger) → IsWell l → length (transactions_upto l.reach.position l.fed) + length l.reach.left ≡ length l.fed
-committed_is l well =
-    (λ i. length (transactions_upto (well.place.position i) l.fed) + length (well.place.left i)) ∙ reached_count l.fed 0 0 0 l.written well.rises
 
 -- ---- what is in force then
 
@@ -166,7 +135,7 @@ module _ (fixed : Fixed) (old : Store) (history : List Event) (h : StoreStandsFo
     module _ (index : Index) (checkpoint : Checkpoint) (committed : ℕ)
         (rules : index.rules ≡ built.index.rules) (last : index.last ≡ built.index.last) (forgotten : index.forgotten ≡ max built.index.forgotten (reached old.tail.reach).position)
         (notes : SameFrom index.forgotten built.index.notes index.notes) (position : checkpoint.position.0 ≡ (reached old.tail.reach).position) (op : checkpoint.op ≡ id)
-        (counted : committed + length (reached old.tail.reach).left ≡ old.totals.transactions) where
+        (counted : committed ≡ old.totals.transactions - length (reached old.tail.reach).left) where
       abbrev store : Store
       store = record old { logs = built.logs; rows = built.rows; index = index; last = id; checkpoint = checkpoint; committed = committed; generations = new }
 

@@ -104,7 +104,7 @@ impl Store {
         self.index.forget(position);
         self.last = id;
         self.checkpoint = Checkpoint { position, op: id };
-        self.committed = self.totals.transactions - self.tail.reach.waiting();
+        self.committed = self.reached_count();
         Ok(self.checkpoint)
     }
 

@@ -1,6 +1,6 @@
 //! The store.
 
-ghost use Rattle.std.specs.Prelude.{◌≡◌, ◌+◌, ◌≤◌, ◌<◌, ◌∷◌, ◌++◌, [], take, length, List, OnOk, IfOk, IsSome, All};
+ghost use Rattle.std.specs.Prelude.{◌≡◌, ◌+◌, ◌-◌, ◌≤◌, ◌<◌, ◌∷◌, ◌++◌, [], take, length, List, OnOk, IfOk, IsSome, All};
 ghost use Rattle.ps_rows.specs.declared.changes.Change.{Change as ChangeSeen};
 ghost use Rattle.ps_rows.specs.Source.{Key};
 ghost use Rattle.ps_sql_eval.specs.Evaluated.{asker_of};
@@ -52,7 +52,8 @@ use std::mem;
 pub struct Checkpoint {
     /// The position of the last transaction of which, and of all before which, every change is written; 0 where none.
     pub position: Position,
-    /// The last id of the operations of the transactions up to there, 0 where none.
+    /// The last id that a write gave for a change of the transactions up to there, 0 where none; where a switch came later than
+    /// that id, its own.
     pub op: OpId,
 }
 
@@ -67,8 +68,8 @@ pub struct Wrote {
     pub last_op: OpId,
 }
 
-/// The store of a service: the transactions that were fed, their changes as operations of buckets, as far as they are
-/// written, and what of them clients are shown.
+/// The store of a service: the transactions that were fed, their changes as operations of the buckets of the generation in force,
+/// as far as they are written, and what of them clients are shown; and a generation that is being built by new rules, if one is.
 pub struct Store {
     pub(crate) fixed: Fixed,
     pub(crate) logs: Logs,
@@ -193,6 +194,15 @@ impl Store {
             Some(by) => by,
             None => &self.fixed,
         }
+    }
+
+    // How many of the fed transactions are reached.
+    pub(crate) fn reached_count(&self) -> u64
+        ensures { result ≡ self.now.totals.transactions - length (reached self.now.tail.reach).left }
+    {
+        self.totals
+            .transactions
+            .saturating_sub(self.tail.reach.waiting())
     }
 
     // Makes all the room that a plan wants, and copies its changes for a generation that is being built; the plan's buckets get
@@ -341,7 +351,7 @@ impl Store {
             position,
             op: OpId(self.checkpoint.op.0.max(self.tail.reach.op().0)),
         };
-        self.committed = self.totals.transactions - self.tail.reach.waiting();
+        self.committed = self.reached_count();
         Ok(self.checkpoint)
     }
 
