@@ -21,6 +21,7 @@ pub mod Fronts
 pub mod Generating
 pub mod Going
 pub mod Growing
+pub mod Homes
 pub mod Ids
 pub mod Keys
 pub mod Lanes
