@@ -42,6 +42,7 @@ pub mod Ordered
 pub mod Orders
 pub mod Placing
 pub mod Plainly
+pub mod PlanMarked
 pub mod Planning
 pub mod Queries
 pub mod Queues
