@@ -93,7 +93,10 @@ stands_fresh store limits are query_numbers logs rows changes reach rules notes 
   };
 }
   where
-    none_in : (b : Bool) → [] ≡ (if b then [] {A = Op} else [])
+    nothing : List Op
+    nothing = []
+
+    none_in : (b : Bool) → nothing ≡ (if b then nothing else nothing)
     none_in true = refl
     none_in false = refl
 

@@ -1,5 +1,5 @@
 -- A generation's changes are planned without its mark, and as if each id so far were of a Write.
-use Rattle.std.proofs.Common.{◌≡◌, ℕ, suc, ◌+◌, ◌≤◌, ◌<◌, max, Bool, true, false, Option, Some, None, List, [], ◌∷◌, ◌++◌, refl, sym, ap, ◌∙◌, subst, length, map, fold, arith, inl, inr}
+use Rattle.std.proofs.Common.{◌≡◌, ℕ, zero, suc, ◌+◌, ◌≤◌, ◌<◌, max, Bool, true, false, Option, Some, None, List, [], ◌∷◌, ◌++◌, refl, sym, ap, ◌∙◌, subst, length, map, fold, arith, inl, inr}
 use Rattle.std.specs.Prelude.{◌⊎◌, ◌==◌, nat_lt, if◌then◌else◌}
 use Rattle.std.proofs.lemmas.Bool.Decides.{nat_tests}
 use Rattle.ps_store.specs.declared.fixed.Limits.{Limits}
@@ -45,9 +45,6 @@ plain_next k b t h = record {
 }
 
 -- ---- what can be written
-
-refusal_by : Limits → ℕ → ℕ → Option Refusal
-refusal_by limits entries last = if nat_lt limits.entries entries then Some (TooWide (limits.entries + 1)) else if nat_lt limits.ops last then Some OpsFull else None
 
 plain_refusal : (limits : Limits) (k b : Ledger) (t : Timed) → IsPlain k b → refusal_of limits k t ≡ refusal_of limits b t
 plain_refusal limits k b t h =
@@ -96,7 +93,7 @@ newest_some last [] some = absurd (omega (arith, some))
 newest_some last (e ∷ es) some = refl
 
 some_or_none : (n : ℕ) → (n ≡ 0) ⊎ (0 < n)
-some_or_none 0 = inl refl
+some_or_none zero = inl refl
 some_or_none (suc n) = inr (omega arith)
 
 -- a Write's last id is at most the last one

@@ -39,13 +39,11 @@ pub record HasTaken (coming : Coming) (l : Ledger) (ts : List Timed) (m k : Ledg
   pub log : m.log ≡ k.log
   pub stays : Stays l m
 
-drop_nil : (n : ℕ) → drop n ([] {A = Timed}) ≡ []
-drop_nil zero = refl
-drop_nil (suc n) = refl
-
 drop_again : (n : ℕ) (ts : List Timed) → drop n (drop 1 ts) ≡ drop (suc n) ts
-drop_again n [] = drop_nil n
-drop_again n (t ∷ ts) = refl
+drop_again zero [] = refl
+drop_again (suc n) [] = refl
+drop_again zero (t ∷ ts) = refl
+drop_again (suc n) (t ∷ ts) = refl
 
 module _ (coming : Coming) (l k : Ledger) (t : Timed) (h : IsAs coming l k) where
   abbrev next : Coming
