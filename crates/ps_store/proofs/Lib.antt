@@ -26,6 +26,7 @@ pub mod Ids
 pub mod Keys
 pub mod Lanes
 pub mod Lawful
+pub mod LogsOf
 pub mod LogsStanding
 pub mod LongestRuns
 pub mod Maps
