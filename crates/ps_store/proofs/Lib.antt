@@ -2,6 +2,7 @@ pub mod Abandoning
 pub mod Advancing
 pub mod Alike
 pub mod Apart
+pub mod AsForce
 pub mod Batching
 pub mod Calls
 pub mod Coming
@@ -58,7 +59,6 @@ pub mod Standings
 pub mod Stepping
 pub mod StoreStands
 pub mod Switching
-pub mod Taken
 pub mod TakenPlaces
 pub mod Taking
 pub mod Telling

@@ -3,7 +3,7 @@ use Rattle.std.specs.Prelude.{Ok}
 use Rattle.ps_store.specs.Deploys.{Abandons}
 use Rattle.ps_store.specs.StoreGenerations.{Abandons as AreAbandoned}
 use Rattle.ps_store.proofs.Abandoning.{abandon_places, abandon_done, abandon_none, none_built}
-use Rattle.ps_store.proofs.deploys.Store.abandon.Goals as goal
+use Rattle.ps_store.proofs.stores.Store.abandon.Goals as goal
 
 pub abandon-requires : goal.abandon-requires
 abandon-requires c = abandon_places c.requires.0 c.args.self.now c.requires.1 c.requires.2

@@ -2,7 +2,7 @@ use Rattle.std.proofs.Common.{sym, ap, subst}
 use Rattle.std.specs.Prelude.{option_map}
 use Rattle.ps_store.specs.Generations.{Coming}
 use Rattle.ps_store.proofs.Abandoning.{none_built, number_is}
-use Rattle.ps_store.proofs.deploys.Store.building.Goals as goal
+use Rattle.ps_store.proofs.stores.Store.building.Goals as goal
 
 pub returns-in-Some : goal.returns-in-Some
 returns-in-Some c = λ fixed history h. sym (number_is fixed c.args.self.now history h c.in-Some.building.now c.in-Some.is)
