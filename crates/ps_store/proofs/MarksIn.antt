@@ -21,6 +21,9 @@ numbered_front : (text mark : List ℕ) → numbered_mark text ≡ Some mark →
 numbered_front [] mark h = absurd (cc)
 numbered_front (b ∷ bytes) mark h = by (is_ascii_digit b) (b == 35) refl (numbered_mark bytes) (λ more e. (numbered_front bytes more e).0) h
   where
+    turned : (b == 35) ≡ true → (35 == b) ≡ true
+    turned e = grind (arith, nat_tests)
+
     by : (digit hash : Bool) → (b == 35) ≡ hash → (found : Option (List ℕ)) → ((more : List ℕ) → found ≡ Some more → begins_with more bytes ≡ true)
         → (if digit then option_map (λ (m : List ℕ). b ∷ m) found else if hash then Some (35 ∷ []) else None) ≡ Some mark
         → (begins_with mark (b ∷ bytes) ≡ true) × (0 < length mark)
@@ -33,9 +36,6 @@ numbered_front (b ∷ bytes) mark h = by (is_ascii_digit b) (b == 35) refl (numb
         let same : (35 == b) ≡ true = turned e in
         subst (λ (m : List ℕ). (begins_with m (b ∷ bytes) ≡ true) × (0 < length m)) is (and_from (35 == b) true same refl, omega arith)
     by false false e found rest k = absurd (cc)
-
-    turned : (b == 35) ≡ true → (35 == b) ≡ true
-    turned e = grind (arith, nat_tests)
 
 -- a bucket of a generation has its mark in front
 pub mark_in_is : (number : ℕ) (bucket : List ℕ) → number ≤ greatest → is_of number bucket ≡ true → mark_in bucket ≡ Some (mark_of number)
