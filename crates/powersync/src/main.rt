@@ -11,7 +11,7 @@ use ps_commands::run_plain;
 use ps_data::Text;
 use ps_files::{Fault, say};
 use ps_io::{DiskFiles, Sink, StdSink, WallClock};
-use ps_serving::run_serve;
+use ps_serving::{Hears, run_serve};
 use ps_sockets::{TcpDoors, TcpLink};
 use ps_syncing::run_sync;
 use std::process::ExitCode;
@@ -45,7 +45,7 @@ fn tell<K: Sink, E: Sink>(text: &str, out: &mut K, err: &mut E) -> u8 {
 }
 
 // The service, over the system's sockets and its clock.
-fn serve<R: Wait + Threads + time::Clock + Sync, K: Sink, E: Sink>(
+fn serve<R: Wait + Threads + time::Clock + Sync + Hears, K: Sink, E: Sink>(
     rt: &HostRuntime,
     waits: &R,
     words: &[Text],
@@ -91,7 +91,7 @@ fn sync<R: Wait, K: Sink, E: Sink>(
     status
 }
 
-fn run<R: Wait + Threads + time::Clock + Sync>(rt: &HostRuntime, waits: &R) -> u8 {
+fn run<R: Wait + Threads + time::Clock + Sync + Hears>(rt: &HostRuntime, waits: &R) -> u8 {
     let words = words_of(rt);
     let words = words.as_slice();
     let stdout = rt.stdout();

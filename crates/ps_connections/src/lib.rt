@@ -3,6 +3,7 @@
 
 mod closing;
 mod ended;
+mod hearing;
 mod services;
 mod serving;
 mod starting;
@@ -10,5 +11,6 @@ mod taking;
 mod works;
 
 pub use ended::{Ended, Stop};
+pub use hearing::Hears;
 pub use services::Service;
 pub use serving::serve_connections;

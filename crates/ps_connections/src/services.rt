@@ -9,7 +9,7 @@ use std::alloc::Global;
 /// What all connections of a service share.
 #[derive(Drop)]
 pub struct Service<'s, R, C> {
-    /// The runtime.
+    /// The runtime, which hears how connections ended.
     pub rt: &'s R,
     /// Where memory is taken from.
     pub alloc: Global,

@@ -12,6 +12,7 @@ ghost use Rattle.ps_connections.specs.Workers.{AreWorkersOf};
 
 use crate::closing::close_all;
 use crate::ended::{Ended, Stop};
+use crate::hearing::Hears;
 use crate::services::Service;
 use crate::taking::take_connections;
 use crate::works::Worker;
@@ -26,7 +27,7 @@ use std::{thread, time};
 // Takes the connections, and returns once each worker has ended that runs in a thread. The doors are a value here, so that the scope's closure may hold them and
 // give them back.
 fn take_all<
-    R: Wait + time::Clock + Threads + Sync,
+    R: Wait + time::Clock + Threads + Sync + Hears,
     S: Source + Send + Drop,
     K: Sink + Send + Drop,
     C: Clock + Sync,
@@ -80,7 +81,7 @@ fn take_all<
 /// the order of their numbers. It gives back the seat, which has then seen what it had seen and more, the doors, and how it ended. Room for a worker is made before
 /// its connection is taken; where that is refused, no more are taken.
 pub fn serve_connections<
-    R: Wait + time::Clock + Threads + Sync,
+    R: Wait + time::Clock + Threads + Sync + Hears,
     S: Source + Send + Drop,
     K: Sink + Send + Drop,
     C: Clock + Sync,

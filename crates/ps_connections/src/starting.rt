@@ -7,6 +7,7 @@ ghost use Rattle.ps_workers.specs.Sharing.{fixed_of};
 ghost use Rattle.ps_connections.specs.Tasks.{HasAnswered};
 ghost use Rattle.ps_connections.specs.Workers.{IsAtWork};
 
+use crate::hearing::Hears;
 use crate::services::Service;
 use crate::works::{Done, Exits, Task, Worker, leave, work};
 use core::thread::Stack;
@@ -22,7 +23,7 @@ use std::time;
 pub(crate) fn start<
     's,
     E,
-    R: Wait + time::Clock + Threads + Sync,
+    R: Wait + time::Clock + Threads + Sync + Hears,
     S: Source + Send + Drop + 's,
     K: Sink + Send + Drop + 's,
     C: Clock + Sync,

@@ -6,6 +6,7 @@ ghost use Rattle.ps_connections.specs.Taken.{HasTaken};
 ghost use Rattle.ps_connections.specs.Workers.{AreSettled, AreWorkersOf};
 
 use crate::ended::Stop;
+use crate::hearing::Hears;
 use crate::services::Service;
 use crate::starting::start;
 use crate::works::{Exits, Worker};
@@ -59,7 +60,7 @@ fn settle_ended<R: Wait + Threads, S: Source + Drop, K: Sink + Drop, C: Clock>(
 pub(crate) fn take_connections<
     's,
     E,
-    R: Wait + time::Clock + Threads + Sync,
+    R: Wait + time::Clock + Threads + Sync + Hears,
     S: Source + Send + Drop + 's,
     K: Sink + Send + Drop + 's,
     C: Clock + Sync,

@@ -7,6 +7,7 @@ ghost use Rattle.ps_workers.specs.Sharing.{fixed_of};
 ghost use Rattle.ps_connections.specs.Tasks.{HasAnswered};
 ghost use Rattle.ps_connections.specs.Workers.{HasDone, IsAtWork, IsGiven, is_there};
 
+use crate::hearing::Hears;
 use crate::services::Service;
 use ps_io::{Clock, Sink, Source};
 use ps_lock::{Seat, StoreLock};
@@ -116,8 +117,8 @@ pub(crate) fn leave<R: Wait>(rt: &R, exits: &Exits, place: usize) {
     let _told = exits.lock(rt).push(place);
 }
 
-/// Answers a connection, and gives up both of its ends.
-pub(crate) fn work<R: Wait + time::Clock, S: Source, K: Sink, C: Clock>(
+/// Answers a connection, gives up both of its ends, and says how it ended.
+pub(crate) fn work<R: Wait + time::Clock + Hears, S: Source, K: Sink, C: Clock>(
     service: &Service<R, C>,
     seat: Seat<Store>,
     from: S,
@@ -146,6 +147,7 @@ pub(crate) fn work<R: Wait + time::Clock, S: Source, K: Sink, C: Clock>(
     from.end();
     to.end();
     let end = outcome.end;
+    service.rt.hear(outcome.status, end);
     Done {
         from,
         to,

@@ -1,2 +1,1 @@
-mod Risen
 mod Stages

@@ -6,12 +6,12 @@ use Rattle.ps_files.specs.declared.faults.Fault.{Fault}
 use Rattle.ps_files.specs.declared.faults.Fault.TheVariants.{Usage, Rules, Change, PastLimit, TooManyBuckets, Claims, Keys, TooLong, CannotRead, CannotWrite, Script, Memory}
 use Rattle.ps_files.specs.HeldFiles.{rules_limit, file_limit}
 use Rattle.ps_files.specs.Loading.{Loads, FindsRules, FindsKeys}
+use Rattle.ps_files.specs.ReadingRising.{FindsRising, IsRisingFault}
 use Rattle.ps_rows.specs.declared.changes.Transaction.{Transaction}
 use Rattle.ps_definitions.specs.RuleSets.{RuleSet}
 use Rattle.ps_token.specs.declared.key_lists.Key.{Key}
 use Rattle.ps_serve_words.specs.declared.words.ServeWords.{ServeWords}
 use Rattle.ps_serve_inputs.specs.Inputs.{Means, StopsInputs}
-use Rattle.ps_serve_inputs.specs.RisingFiles.{FindsRising, IsRisingFault}
 
 -- a count that rose later rose since
 pub loads_since : {X : Type 0} (held : Option Contents) (name : List ℕ) (limit before mid now : ℕ) (Finds : X → List ℕ → Type 0) (Refuses : Fault → List ℕ → Type 0) (fault : Fault)

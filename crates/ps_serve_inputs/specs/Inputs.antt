@@ -8,9 +8,9 @@ use Rattle.ps_token.specs.declared.key_lists.Key.{Key}
 use Rattle.ps_files.specs.declared.faults.Fault.{Fault}
 use Rattle.ps_files.specs.HeldFiles.{rules_limit, file_limit, HoldsWithin}
 use Rattle.ps_files.specs.Loading.{Loads, FindsRules, IsRulesFault, FindsKeys, IsKeysFault}
+use Rattle.ps_files.specs.ReadingRising.{FindsRising, IsRisingFault}
 use Rattle.ps_serve_words.specs.declared.words.ServeWords.{ServeWords}
 use Rattle.ps_serve_inputs.specs.declared.inputs.Inputs.{Inputs}
-use Rattle.ps_serve_inputs.specs.RisingFiles.{FindsRising, IsRisingFault}
 
 -- in the bytes of a file within a limit this is found
 abbrev pub Means : {X : Type 0} → Option Contents → List ℕ → ℕ → (X → List ℕ → Type 0) → X → Type 0

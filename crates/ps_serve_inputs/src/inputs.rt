@@ -4,9 +4,8 @@ ghost use Rattle.std.specs.Prelude.{◌≡◌, ◌≤◌};
 ghost use Rattle.ps_files.specs.Loading.{MissesNamed};
 ghost use Rattle.ps_serve_inputs.specs.Inputs.{LoadsInputs};
 
-use crate::rising::load_rising;
 use ps_definitions::Rules;
-use ps_files::{Fault, load_keys, load_rules};
+use ps_files::{Fault, load_keys, load_rising, load_rules};
 use ps_io::Files;
 use ps_rows::Transaction;
 use ps_serve_words::ServeWords;

@@ -3,10 +3,8 @@
 
 mod faults;
 mod inputs;
-mod rising;
 mod saying;
 
 pub use faults::ServeFault;
 pub use inputs::{Inputs, load_inputs};
-pub use rising::load_rising;
 pub use saying::say_serve;

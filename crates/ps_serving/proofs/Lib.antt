@@ -2,6 +2,7 @@ mod AllTotals
 mod Closing
 mod FedSoFar
 mod Fronts
+mod Passing
 mod Statuses
 mod Verdicts
 mod Whole

@@ -12,4 +12,5 @@ mod serving;
 mod threads;
 
 pub use laws::totals_are_one;
+pub use ps_connections::Hears;
 pub use serving::run_serve;

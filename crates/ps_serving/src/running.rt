@@ -9,7 +9,7 @@ ghost use Rattle.ps_workers.specs.Sharing.{fixed_of};
 ghost use Rattle.ps_serving.specs.Running.{WroteTo, ServesUpTo};
 
 use crate::ends::Ends;
-use ps_connections::{Ended, Service, serve_connections};
+use ps_connections::{Ended, Hears, Service, serve_connections};
 use ps_doors::{Bell, Doors};
 use ps_io::{Clock, Sink, Source};
 use ps_lock::{Seat, StoreLock};
@@ -94,7 +94,7 @@ fn close_behind<R: Wait + time::Clock, C>(service: &Service<R, C>, seat: Seat<St
 
 // Serves the connections, and closes the feed behind the last one.
 fn take<
-    R: Wait + time::Clock + Threads + Sync,
+    R: Wait + time::Clock + Threads + Sync + Hears,
     S: Source + Send + Drop,
     K: Sink + Send + Drop,
     C: Clock + Sync,
@@ -116,7 +116,7 @@ fn take<
 
 // The compactor beside the loop that takes connections.
 fn run_two<
-    R: Wait + time::Clock + Threads + Sync,
+    R: Wait + time::Clock + Threads + Sync + Hears,
     S: Source + Send + Drop,
     K: Sink + Send + Drop,
     C: Clock + Sync,
@@ -167,7 +167,7 @@ fn run_two<
 
 // The writer beside both.
 fn run_threads<
-    R: Wait + time::Clock + Threads + Sync,
+    R: Wait + time::Clock + Threads + Sync + Hears,
     S: Source + Send + Drop,
     K: Sink + Send + Drop,
     C: Clock + Sync,
@@ -229,7 +229,7 @@ fn run_threads<
 
 /// Runs the writer, the compactor and the loop that takes connections, and gives back the seat of all three. It waits for them.
 pub(crate) fn run_all<
-    R: Wait + time::Clock + Threads + Sync,
+    R: Wait + time::Clock + Threads + Sync + Hears,
     S: Source + Send + Drop,
     K: Sink + Send + Drop,
     C: Clock + Sync,

@@ -14,6 +14,7 @@ use crate::laws::totals_are_one;
 use crate::printing::{print_listening, print_totals};
 use crate::running::Pace;
 use crate::threads::run;
+use ps_connections::Hears;
 use ps_data::Text;
 use ps_doors::Doors;
 use ps_files::Fault;
@@ -22,7 +23,7 @@ use ps_lock::Seat;
 use ps_serve::Site;
 use ps_serve_inputs::{Inputs, ServeFault, load_inputs, say_serve};
 use ps_serve_words::{ServeWords, WordsFault, read_serve_words};
-use ps_store::{Store, ledgers_tell_events, ledgers_tell_histories};
+use ps_store::{Store, ledgers_tell_events, ledgers_tell_histories, ledgers_tell_ops};
 use ps_workers::totals_in_turn;
 use std::alloc::Global;
 use std::sync::Wait;
@@ -71,7 +72,7 @@ fn listen<'a, D: Doors, O: Sink>(
 // Serves a store that was fed, and prints the totals of its last history.
 fn serve_fed<
     'a,
-    R: Wait + time::Clock + Threads + Sync,
+    R: Wait + time::Clock + Threads + Sync + Hears,
     S: Source + Send + Drop,
     K: Sink + Send + Drop,
     C: Clock + Sync,
@@ -100,7 +101,7 @@ fn serve_fed<
 // Does what the words say.
 fn serve<
     'a,
-    R: Wait + time::Clock + Threads + Sync,
+    R: Wait + time::Clock + Threads + Sync + Hears,
     F: Files,
     S: Source + Send + Drop,
     K: Sink + Send + Drop,
@@ -124,6 +125,7 @@ fn serve<
 {
     ledgers_tell_events();
     ledgers_tell_histories();
+    ledgers_tell_ops();
     totals_are_one();
     let Inputs {
         rules,
@@ -169,9 +171,9 @@ fn words_fault<'a>(fault: WordsFault) -> ServeFault<'a>
 /// where it was not, and once the writer and the compactor have ended too the totals are printed.
 ///
 /// A fault before the threads run ends it. Of several later ones the writer's decides, then the compactor's, then that of the doors, of the output, and that a connection ended for
-/// out of memory.
+/// out of memory. The runtime hears how each connection ended. So in drained mode, once the address was printed, status 5 comes exactly where writing the change file is refused, but for 8.
 pub fn run_serve<
-    R: Wait + time::Clock + Threads + Sync,
+    R: Wait + time::Clock + Threads + Sync + Hears,
     F: Files,
     S: Source + Send + Drop,
     K: Sink + Send + Drop,
@@ -190,7 +192,8 @@ pub fn run_serve<
     err: &mut E,
 ) -> u8
     // Each status with its cause. With status 0: one history, which begins with the Feeds of the change file, over which every connection was answered, and whose
-    // totals were printed.
+    // totals were printed. In drained mode, once the threads run, status 5 comes where a change of the change file passes a limit, by the first one that does, and 0, 7
+    // and 10 where none does.
     ensures answers { AnswersServe (C.may_give clock.now) words.now
         (record { held = F.held files.old; faults = F.faults files.old }) (record { held = F.held files.new; faults = F.faults files.new })
         (record { opened = D.opened doors.old; coming = D.coming doors.old; closed = D.closed doors.old; faults = D.faults doors.old })

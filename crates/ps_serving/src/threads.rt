@@ -11,7 +11,7 @@ ghost use Rattle.ps_serving.specs.Running.{WroteTo, ServesUpTo};
 use crate::ends::Ends;
 use crate::grounds::Ground;
 use crate::running::{Pace, Seats, run_all};
-use ps_connections::Service;
+use ps_connections::{Hears, Service};
 use ps_data::Memory;
 use ps_doors::{Doors, Lent, take_back};
 use ps_io::{Clock, Sink, Source};
@@ -44,7 +44,7 @@ fn split(lock: &StoreLock<Store>, seat: Seat<Store>) -> Result<Seats, Memory>
 
 // Runs the threads, each with a seat of its own, and gives back the seat of all.
 fn run_lent<
-    R: Wait + time::Clock + Threads + Sync,
+    R: Wait + time::Clock + Threads + Sync + Hears,
     S: Source + Send + Drop,
     K: Sink + Send + Drop,
     C: Clock + Sync,
@@ -81,7 +81,7 @@ fn run_lent<
 
 /// Runs the writer, the compactor and the connections over a store that was fed, each with a seat of its own, and gives back the seat of all.
 pub(crate) fn run<
-    R: Wait + time::Clock + Threads + Sync,
+    R: Wait + time::Clock + Threads + Sync + Hears,
     S: Source + Send + Drop,
     K: Sink + Send + Drop,
     C: Clock + Sync,

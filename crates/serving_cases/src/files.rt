@@ -1,0 +1,126 @@
+//! The files of a service, and the connections that come to it.
+
+use case_words::{Stop, cut, number_in, push_spelled};
+use ps_data::{Items, Text};
+use ps_doors::Peer;
+use ps_io::{MemoryFile, MemoryFiles};
+use ps_token::{read_keys, sign};
+use std::alloc::Global;
+
+// The room of a connection's sink.
+const ROOM: usize = 65536;
+
+/// The files of a service, and the connections that come to it.
+#[derive(Drop)]
+pub struct Given {
+    rules: Vec<u8>,
+    changes: Vec<u8>,
+    keys: Vec<u8>,
+    /// The connections.
+    pub peers: Vec<Peer>,
+}
+
+/// Empty files, and no connections.
+pub fn new_given(alloc: Global) -> Given {
+    Given {
+        rules: Vec::new(alloc),
+        changes: Vec::new(alloc),
+        keys: Vec::new(alloc),
+        peers: Vec::new(alloc),
+    }
+}
+
+/// The call with that number, or none for `-`.
+pub fn failing(alloc: Global, word: &str) -> Result<Items<u64>, Stop> {
+    let mut calls = Vec::new(alloc);
+    if word != "-" {
+        calls.push(number_in(word)?)?;
+    }
+    Ok(Items::from_vec(calls))
+}
+
+fn push_line(text: &str, file: &mut Vec<u8>) -> Result<(), Stop> {
+    push_spelled(text, file)?;
+    Ok(file.push(b'\n')?)
+}
+
+/// A request with a token of that payload.
+pub fn request(
+    alloc: Global,
+    given: &Given,
+    path: &str,
+    payload: &str,
+    body: &str,
+) -> Result<Items<u8>, Stop> {
+    let keys = read_keys(alloc, given.keys.as_slice())?;
+    let kid = Text::from_str(alloc, "k1")?;
+    let payload = Text::from_str(alloc, payload)?;
+    let token = sign(alloc, &keys, &kid, &payload)?;
+    let mut request = Vec::new(alloc);
+    request.extend_from_slice(b"POST ")?;
+    request.extend_from_slice(path.as_bytes())?;
+    request.extend_from_slice(b" HTTP/1.1\r\nAuthorization: Token ")?;
+    request.extend_from_slice(token.bytes())?;
+    let length = format!(in alloc; "\r\nContent-Length: {}\r\n\r\n", body.len())?;
+    request.extend_from_slice(length.as_bytes())?;
+    request.extend_from_slice(body.as_bytes())?;
+    Ok(Items::from_vec(request))
+}
+
+// The connection that a line has come.
+fn peer_of(alloc: Global, given: &Given, rest: &str) -> Result<Peer, Stop> {
+    let (writes, rest) = cut(rest);
+    let (path, rest) = cut(rest);
+    let (payload, body) = cut(rest);
+    Ok(Peer {
+        bytes: request(alloc, given, path, payload, body)?,
+        failing_reads: Items::new(alloc),
+        room: ROOM,
+        failing_writes: failing(alloc, writes)?,
+    })
+}
+
+/// Adds to the files, or has a connection come.
+pub fn take_word(alloc: Global, given: &mut Given, word: &str, rest: &str) -> Result<(), Stop> {
+    match word {
+        "rules" => push_line(rest, &mut given.rules)?,
+        "change" => push_line(rest, &mut given.changes)?,
+        "keys" => given.keys.extend_from_slice(rest.as_bytes())?,
+        "forget" => {
+            given.rules.clear();
+            given.changes.clear();
+            given.keys.clear();
+        }
+        "peer" => {
+            let peer = peer_of(alloc, given, rest)?;
+            given.peers.push(peer)?;
+        }
+        _ => Err("no such case")?,
+    }
+    Ok(())
+}
+
+fn file(alloc: Global, name: &str, content: &[u8]) -> Result<MemoryFile, Stop> {
+    Ok(MemoryFile {
+        name: Text::from_str(alloc, name)?,
+        content: Items::from_vec(Vec::from_slice(alloc, content)?),
+    })
+}
+
+/// The files, under the names `rules`, `changes` and `keys`.
+pub fn files_of(alloc: Global, given: &Given) -> Result<MemoryFiles, Stop> {
+    let mut files = Vec::new(alloc);
+    files.push(file(alloc, "rules", given.rules.as_slice())?)?;
+    files.push(file(alloc, "changes", given.changes.as_slice())?)?;
+    files.push(file(alloc, "keys", given.keys.as_slice())?)?;
+    Ok(MemoryFiles::new(alloc, Items::from_vec(files), Items::new(alloc)))
+}
+
+/// The words of a command line, one behind each space.
+pub fn words_of(alloc: Global, line: &str) -> Result<Vec<Text>, Stop> {
+    let mut words = Vec::new(alloc);
+    'words: for word in line.split(' ') {
+        words.push(Text::from_str(alloc, word)?)?;
+    }
+    Ok(words)
+}
