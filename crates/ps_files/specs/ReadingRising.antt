@@ -2,10 +2,8 @@
 use Rattle.std.specs.Prelude.{◌≡◌, ℕ, ◌+◌, ◌≤◌, List, length, Option, Result, Ok, Err, Vec}
 use Rattle.std.specs.Borrow.{Bor}
 use Rattle.std.specs.declared.alloc.Global.{Global}
-use Rattle.std.specs.List.{All}
 use Rattle.ps_rows.specs.declared.changes.Transaction.{Transaction}
 use Rattle.ps_store.specs.Laws.{Rises, last_position}
-use Rattle.ps_store.specs.Limits.{greatest}
 use Rattle.ps_files.specs.declared.faults.Fault.{Fault}
 use Rattle.ps_files.specs.declared.faults.Fault.TheVariants.{Usage, Rules, Change, PastLimit, TooManyBuckets, Claims, Keys, TooLong, CannotRead, CannotWrite, Script, Memory}
 use Rattle.ps_files.specs.ChangeFiles.{rising_from, rising_transactions_of}
@@ -13,15 +11,13 @@ use Rattle.ps_files.specs.ReadingChanges.{lines_left, bytes_left}
 
 -- so far, the lines before a number gave these transactions, the last of which has this position
 pub record HasRisen (bytes : List ℕ) (number : ℕ) (rest : Option (Bor (List ℕ))) (last : ℕ) (done : List Transaction) : Type 0 where
-  pub low : All (λ (t : Transaction). t.position.0 ≤ greatest) done
   pub rises : Rises 0 done
   pub last_is : last ≡ last_position 0 done
   pub meaning : rising_transactions_of bytes ≡ rising_from done (number + 1) (lines_left rest)
   pub counted : number + bytes_left rest ≤ length bytes + 1
 
--- the transactions of a change file's bytes, whose positions rise and are not past the greatest
+-- the transactions of a change file's bytes, whose positions rise
 pub record FindsRising (transactions : Vec Transaction Global) (bytes : List ℕ) : Type 0 where
-  pub low : All (λ (t : Transaction). t.position.0 ≤ greatest) transactions.items
   pub rises : Rises 0 transactions.items
   pub read : rising_transactions_of bytes ≡ Ok transactions.items
 

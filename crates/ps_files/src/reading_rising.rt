@@ -39,7 +39,7 @@ fn read_all_rising<'a>(alloc: Global, changes: &[u8]) -> Result<Vec<Transaction>
     Ok(transactions)
 }
 
-/// Loads all transactions of a change file, whose positions rise from past 0 and are at most 9223372036854775807, whatever limits of a store they pass.
+/// Loads all transactions of a change file, whose positions rise from past 0, whatever limits of a store they pass.
 pub fn load_rising<'a, F: Files>(
     alloc: Global,
     files: &mut F,

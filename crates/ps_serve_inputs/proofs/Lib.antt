@@ -1,1 +1,2 @@
+mod Low
 mod Stages

@@ -25,4 +25,6 @@ pub(crate) struct Ground<'g, R, C> {
     pub(crate) lock: &'g StoreLock<Store>,
     /// The keys that tokens are signed with, and when a stream ends.
     pub(crate) site: &'g Site,
+    /// The bytes of a thread's stack.
+    pub(crate) stack: usize,
 }

@@ -1,6 +1,7 @@
 //! The command `serve`: a change file is fed into a store that threads share, and its connections are served beside a writer and a compactor.
 #![tactic(auto)]
 
+mod begun;
 mod ends;
 mod feeding;
 mod grounds;
@@ -9,6 +10,7 @@ mod laws;
 mod printing;
 mod running;
 mod serving;
+mod stacks;
 mod threads;
 
 pub use laws::totals_are_one;

@@ -8,7 +8,9 @@ ghost use Rattle.ps_serve_words.specs.Words.{IsInMillion};
 ghost use Rattle.ps_workers.specs.Sharing.{fixed_of};
 ghost use Rattle.ps_serving.specs.Running.{WroteTo, ServesUpTo};
 
+use crate::begun::{ToCompact, ToWrite, finish};
 use crate::ends::Ends;
+use core::thread::Stack;
 use ps_connections::{Ended, Hears, Service, serve_connections};
 use ps_doors::{Bell, Doors};
 use ps_io::{Clock, Sink, Source};
@@ -17,11 +19,13 @@ use ps_sockets::{Rings, RungBell};
 use ps_store::Store;
 use ps_workers::{OpenGate, WorkEnd, close_in_turn, compact_all, feed_and_write};
 use std::alloc::Global;
+use std::snapshot::Snapshot;
 use std::sync::Wait;
-use std::thread::{Threads, join};
-use std::time;
+use std::thread::{Scope, Threads};
+use std::{thread, time};
 
 /// The seats that the threads of a service begin with.
+#[derive(Drop)]
 pub(crate) struct Seats {
     /// That of the loop that takes connections.
     pub(crate) connections: Seat<Store>,
@@ -114,58 +118,84 @@ fn take<
     (seat, doors, ended)
 }
 
-// The compactor beside the loop that takes connections.
-fn run_two<
+// The writer and the compactor in threads of a scope, beside the loop that takes connections. Where no thread can be made their work is done behind the loop.
+fn run_beside<
+    's,
+    E,
     R: Wait + time::Clock + Threads + Sync + Hears,
     S: Source + Send + Drop,
     K: Sink + Send + Drop,
     C: Clock + Sync,
     D: Doors<In = S, Out = K> + Drop,
 >(
-    service: &Service<R, C>,
-    rings: &Rings,
-    compactor: Seat<Store>,
-    connections: Seat<Store>,
+    scope: &'s Scope<'s, E>,
+    service: &'s Service<'s, R, C>,
+    rings: &'s Rings,
+    seats: Seats,
     doors: D,
     pace: Pace,
-) -> ((Seat<Store>, WorkEnd), (Seat<Store>, D, Ended))
-    requires compactor { IsSeatOf service.now.lock.now compactor }
-    requires connections { IsSeatOf service.now.lock.now connections }
-    ensures compactor { IsSeatOf service.now.lock.now result.0.0 }
-    ensures connections { IsSeatOf service.now.lock.now result.1.0 }
-    ensures saw { IsPrefix (seen_by connections) (seen_by result.1.0) }
-    ensures place { D.place result.1.1 ≡ D.place doors }
-    ensures taken { HasTaken pace.most (D.opened doors) (D.opened result.1.1) (D.coming doors) (D.coming result.1.1)
-        (D.faults doors) (D.faults result.1.1) result.1.2.stop result.1.2.connections }
+) -> (
+    (Seat<Store>, WorkEnd),
+    ((Seat<Store>, WorkEnd), (Seat<Store>, D, Ended)),
+)
+    requires connections { IsSeatOf service.now.lock.now seats.connections }
+    requires writer { IsSeatOf service.now.lock.now seats.writer }
+    requires compactor { IsSeatOf service.now.lock.now seats.compactor }
+    requires batch { IsInMillion pace.batch }
+    ensures writer { IsSeatOf service.now.lock.now result.0.0 }
+    ensures wrote { WroteTo (fixed_of service.now.lock.now) (seen_by seats.writer) (seen_by result.0.0) result.0.1 }
+    ensures compactor { IsSeatOf service.now.lock.now result.1.0.0 }
+    ensures connections { IsSeatOf service.now.lock.now result.1.1.0 }
+    ensures saw { IsPrefix (seen_by seats.connections) (seen_by result.1.1.0) }
+    ensures place { D.place result.1.1.1 ≡ D.place doors }
+    ensures taken { HasTaken pace.most (D.opened doors) (D.opened result.1.1.1) (D.coming doors) (D.coming result.1.1.1)
+        (D.faults doors) (D.faults result.1.1.1) result.1.1.2.stop result.1.1.2.connections }
     ensures served { ServesUpTo (fixed_of service.now.lock.now) service.now.site.now (C.may_give service.now.clock.now)
-        (seen_by connections) (seen_by result.1.0) (D.opened doors) (D.closed doors) (D.closed result.1.1) result.1.2 }
+        (seen_by seats.connections) (seen_by result.1.1.0) (D.opened doors) (D.closed doors) (D.closed result.1.1.1) result.1.1.2 }
 {
+    let Seats {
+        connections,
+        writer,
+        compactor,
+    } = seats;
     let Pace {
         most,
-        batch: _,
+        batch,
         compact_at,
     } = pace;
     let rt = service.rt;
     let alloc = service.alloc;
     let lock = service.lock;
+    let to_write = ToWrite {
+        lock: Snapshot::of(lock),
+        seat: Snapshot::of(&writer),
+    };
+    let writing = move || -> (Seat<Store>, WorkEnd)
+        requires seat { IsSeatOf lock.now writer }
+        requires batch { IsInMillion batch }
+        ensures lock { IsSeatOf lock.entry.now result.0 }
+        ensures wrote { WroteTo (fixed_of lock.entry.now) (seen_by writer) (seen_by result.0) result.1 }
+    { write(rt, alloc, lock, rings, writer, batch) };
+    let to_compact = ToCompact {
+        lock: Snapshot::of(lock),
+    };
     let compacting = move || -> (Seat<Store>, WorkEnd)
         requires { IsSeatOf lock.now compactor }
         ensures { IsSeatOf lock.entry.now result.0 }
     { compact(rt, alloc, lock, rings, compactor, compact_at) };
-    let taking = move || -> (Seat<Store>, D, Ended)
-        requires { IsSeatOf service.now.lock.now connections }
-        ensures lock { IsSeatOf service.entry.now.lock.now result.0 }
-        ensures saw { IsPrefix (seen_by connections) (seen_by result.0) }
-        ensures place { D.place result.1 ≡ D.place doors }
-        ensures taken { HasTaken most (D.opened doors) (D.opened result.1) (D.coming doors) (D.coming result.1)
-            (D.faults doors) (D.faults result.1) result.2.stop result.2.connections }
-        ensures served { ServesUpTo (fixed_of service.entry.now.lock.now) service.entry.now.site.now (C.may_give service.entry.now.clock.now)
-            (seen_by connections) (seen_by result.0) (D.opened doors) (D.closed doors) (D.closed result.1) result.2 }
-    { take(service, connections, doors, most) };
-    join(rt, compacting, taking)
+    let written = Stack::new()
+        .stack_size(service.stack)
+        .spawn_scoped_with(scope, to_write, writing);
+    let compacted = Stack::new()
+        .stack_size(service.stack)
+        .spawn_scoped_with(scope, to_compact, compacting);
+    let taken = take(service, connections, doors, most);
+    let written = finish(rt, written);
+    let compacted = finish(rt, compacted);
+    (written, (compacted, taken))
 }
 
-// The writer beside both.
+// The writer, the compactor and the loop.
 fn run_threads<
     R: Wait + time::Clock + Threads + Sync + Hears,
     S: Source + Send + Drop,
@@ -197,34 +227,26 @@ fn run_threads<
     ensures served { ServesUpTo (fixed_of service.now.lock.now) service.now.site.now (C.may_give service.now.clock.now)
         (seen_by seats.connections) (seen_by result.1.1.0) (D.opened doors) (D.closed doors) (D.closed result.1.1.1) result.1.1.2 }
 {
-    let Seats {
-        connections,
-        writer,
-        compactor,
-    } = seats;
-    let batch = pace.batch;
-    let rt = service.rt;
-    let alloc = service.alloc;
-    let lock = service.lock;
-    let writing = move || -> (Seat<Store>, WorkEnd)
-        requires seat { IsSeatOf lock.now writer }
-        requires batch { IsInMillion batch }
-        ensures lock { IsSeatOf lock.entry.now result.0 }
-        ensures wrote { WroteTo (fixed_of lock.entry.now) (seen_by writer) (seen_by result.0) result.1 }
-    { write(rt, alloc, lock, rings, writer, batch) };
-    let taking = move || -> ((Seat<Store>, WorkEnd), (Seat<Store>, D, Ended))
-        requires compactor { IsSeatOf service.now.lock.now compactor }
-        requires connections { IsSeatOf service.now.lock.now connections }
-        ensures compactor { IsSeatOf service.entry.now.lock.now result.0.0 }
-        ensures connections { IsSeatOf service.entry.now.lock.now result.1.0 }
-        ensures saw { IsPrefix (seen_by connections) (seen_by result.1.0) }
-        ensures place { D.place result.1.1 ≡ D.place doors }
-        ensures taken { HasTaken pace.most (D.opened doors) (D.opened result.1.1) (D.coming doors) (D.coming result.1.1)
-            (D.faults doors) (D.faults result.1.1) result.1.2.stop result.1.2.connections }
-        ensures served { ServesUpTo (fixed_of service.entry.now.lock.now) service.entry.now.site.now (C.may_give service.entry.now.clock.now)
-            (seen_by connections) (seen_by result.1.0) (D.opened doors) (D.closed doors) (D.closed result.1.1) result.1.2 }
-    { run_two(service, rings, compactor, connections, doors, pace) };
-    join(rt, writing, taking)
+    thread::scope(
+        thread::scope_env(),
+        service.rt,
+        move |scope| -> ((Seat<Store>, WorkEnd), ((Seat<Store>, WorkEnd), (Seat<Store>, D, Ended)))
+            requires connections { IsSeatOf service.now.lock.now seats.connections }
+            requires writer { IsSeatOf service.now.lock.now seats.writer }
+            requires compactor { IsSeatOf service.now.lock.now seats.compactor }
+            requires batch { IsInMillion pace.batch }
+            ensures writer { IsSeatOf service.entry.now.lock.now result.0.0 }
+            ensures wrote { WroteTo (fixed_of service.entry.now.lock.now) (seen_by seats.writer) (seen_by result.0.0) result.0.1 }
+            ensures compactor { IsSeatOf service.entry.now.lock.now result.1.0.0 }
+            ensures connections { IsSeatOf service.entry.now.lock.now result.1.1.0 }
+            ensures saw { IsPrefix (seen_by seats.connections) (seen_by result.1.1.0) }
+            ensures place { D.place result.1.1.1 ≡ D.place doors }
+            ensures taken { HasTaken pace.most (D.opened doors) (D.opened result.1.1.1) (D.coming doors) (D.coming result.1.1.1)
+                (D.faults doors) (D.faults result.1.1.1) result.1.1.2.stop result.1.1.2.connections }
+            ensures served { ServesUpTo (fixed_of service.entry.now.lock.now) service.entry.now.site.now (C.may_give service.entry.now.clock.now)
+                (seen_by seats.connections) (seen_by result.1.1.0) (D.opened doors) (D.closed doors) (D.closed result.1.1.1) result.1.1.2 }
+        { run_beside(scope, service, rings, seats, doors, pace) },
+    )
 }
 
 /// Runs the writer, the compactor and the loop that takes connections, and gives back the seat of all three. It waits for them.

@@ -13,6 +13,7 @@ use crate::judging::judge;
 use crate::laws::totals_are_one;
 use crate::printing::{print_listening, print_totals};
 use crate::running::Pace;
+use crate::stacks::stack_of;
 use crate::threads::run;
 use ps_connections::Hears;
 use ps_data::Text;
@@ -136,6 +137,7 @@ fn serve<
         keys,
         until_drained: words.until_drained,
     };
+    let stack = stack_of(&rules);
     let (lock, seat) = open_fed(
         tools.rt,
         tools.alloc,
@@ -148,6 +150,7 @@ fn serve<
         tools,
         lock: &lock,
         site: &site,
+        stack,
     };
     serve_fed(&ground, seat, pace_of(words), doors, out)
 }

@@ -22,9 +22,6 @@ use std::sync::Wait;
 use std::thread::Threads;
 use std::time;
 
-// The bytes of a connection's stack.
-const STACK: usize = 8388608;
-
 // A seat for each thread.
 fn split(lock: &StoreLock<Store>, seat: Seat<Store>) -> Result<Seats, Memory>
     requires { IsSeatOf lock.now seat }
@@ -71,7 +68,7 @@ fn run_lent<
         site: ground.site,
         clock: ground.tools.clock,
         bell: &bell,
-        stack: STACK,
+        stack: ground.stack,
     };
     let (seat, lent, ends) = run_all(&service, &rings, seats, Lent { doors }, pace);
     let Lent { doors } = lent;

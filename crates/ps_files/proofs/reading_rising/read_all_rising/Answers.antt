@@ -11,7 +11,7 @@ lines-preserved c =
     let so_far = rw c.in-Some.is at c.lines.invariant in
     rw c.in_ok-push.ensures.items
     (risen_more c.args.changes.now c.lines.number c.in-Some.bytes c.split_line.result.0.now c.split_line.result.1 c.lines.last c.lines.transactions.items so_far c.split_line.ensures c.in_ok-transaction.transaction
-    (sym c.is_blank.ensures ∙ c.if-is_blank.false) c.in_ok-transaction.ensures.read c.in_ok-transaction.ensures.position)
+    (sym c.is_blank.ensures ∙ c.if-is_blank.false) c.in_ok-transaction.ensures.read)
 
 pub returns-in_err-transaction : goal.returns-in_err-transaction
 returns-in_err-transaction c =

@@ -1,4 +1,5 @@
 use Rattle.std.proofs.lemmas.Result.{err_from_is_err_and}
+use Rattle.ps_serve_inputs.proofs.Low.{read_low}
 use Rattle.ps_serve_inputs.proofs.Stages.{stops_at_changes}
 use Rattle.ps_serve_inputs.proofs.inputs.load_inputs.Goals as goal
 
@@ -9,3 +10,6 @@ returns-in_err-transactions-clause-loads g c =
     (g.F.Files.faults c.args.files.now) (g.F.Files.faults c.load_rules.new.files) (g.F.Files.faults c.load_keys.new.files) (g.F.Files.faults c.load_rising.new.files)
     c.in_ok-rules.rules c.in_ok-keys.keys c.in_err-transactions.field-0.0 c.in_ok-rules.ensures.held c.in_ok-keys.ensures.held c.in_ok-rules.ensures.faults c.in_ok-keys.ensures.faults
     c.in_ok-rules.ensures.loads c.in_ok-keys.ensures.loads c.in_err-transactions.ensures.loads)
+
+pub returns-clause-low : goal.returns-clause-low
+returns-clause-low g c = let found = c.in_ok-transactions.ensures.loads in read_low c.lines_are_spelled.ensures found.0 c.in_ok-transactions.transactions.items found.2.read
