@@ -1,5 +1,5 @@
 -- A store may go to another thread, as may all that it holds. The proof goes up from its expressions, since one search from the store down to them is too long.
-use denote.Param.Send.{IsSend, sendable}
+use denote.Param.Send.{IsSend, IsSync, sendable}
 use Rattle.std.proofs.Crossing.{crosses}
 use Rattle.ps_data.proofs.lists.Items.TheSendSync as items
 use Rattle.ps_data.proofs.texts.Text.TheSendSync as texts
@@ -8,7 +8,7 @@ use Rattle.ps_data.proofs.ids.OpId.TheSendSync as ops
 use Rattle.ps_data.proofs.boxes.Boxed.TheSendSync as boxes
 use Rattle.ps_queries.proofs.expressions.Function.TheSendSync as functions
 use Rattle.ps_queries.proofs.expressions.Operator.TheSendSync as operators
-use Rattle.ps_queries.proofs.expressions.Expr.TheLaws.TheKnot.{send-Expr}
+use Rattle.ps_queries.proofs.expressions.Expr.TheLaws.TheKnot.{send-Expr, sync-Expr}
 use Rattle.ps_queries.specs.contracts.expressions.Expr as Expr
 use Rattle.ps_queries.specs.contracts.queries.Output as Output
 use Rattle.ps_queries.specs.contracts.queries.ParameterQuery as ParameterQuery
@@ -23,7 +23,7 @@ use Rattle.ps_definitions.proofs.warnings.Warning.TheSendSync as warnings
 use Rattle.ps_params.specs.contracts.indexes.ParameterIndex as ParameterIndex
 use Rattle.ps_params.proofs.kept.Kept.TheSendSync as kept
 use Rattle.ps_write_cp.proofs.numbers.WriteCheckpoints.TheSendSync as numbers
-use Rattle.ps_store.specs.contracts.fixed.Fixed as Fixed
+use Rattle.ps_store.specs.contracts.fixed.Shared as Shared
 use Rattle.ps_store.specs.contracts.stores.Store as Store
 use Rattle.ps_store.proofs.fixed.Limits.TheSendSync as limits
 use Rattle.ps_store.proofs.logs.Logs.TheSendSync as logs
@@ -65,8 +65,39 @@ rules = search (sendable, definition, warnings.the_send, items.the_send, tables.
 index_field : IsSend ParameterIndex.the_field.row
 index_field = search (sendable, rules, kept.the_send, positions.the_field_send) depth 20
 
-fixed_field : IsSend Fixed.the_field.row
-fixed_field = search (sendable, rules, limits.the_field_send) depth 20
+-- the rules are shared, so that they may be looked at from several threads too
+expr_shared : IsSync Expr.the_row
+expr_shared = search (sendable, sync-Expr, texts.the_sync, functions.the_field_sync, operators.the_field_sync, items.the_sync, boxes.the_sync) depth 20
+
+expr_field_shared : IsSync Expr.the_field.row
+expr_field_shared = search (sendable, sync-Expr, texts.the_sync, functions.the_field_sync, operators.the_field_sync, items.the_sync, boxes.the_sync) depth 20
+
+output_shared : IsSync Output.the_row
+output_shared = search (sendable, expr_field_shared, texts.the_sync) depth 20
+
+parameter_query_shared : IsSync ParameterQuery.the_row
+parameter_query_shared = search (sendable, crosses, output_shared, expr_shared, items.the_sync, texts.the_sync) depth 20
+
+data_query_field_shared : IsSync DataQuery.the_field.row
+data_query_field_shared = search (sendable, crosses, output_shared, expr_shared, items.the_sync, texts.the_sync) depth 20
+
+match_shared : IsSync Match.the_row
+match_shared = search (sendable, expr_field_shared, texts.the_sync) depth 20
+
+branch_shared : IsSync Branch.the_row
+branch_shared = search (sendable, match_shared, expr_shared, items.the_sync) depth 20
+
+planned_shared : IsSync Planned.the_row
+planned_shared = search (sendable, data_query_field_shared, branch_shared, items.the_sync) depth 20
+
+definition_shared : IsSync Definition.the_row
+definition_shared = search (sendable, planned_shared, parameter_query_shared, items.the_sync, texts.the_sync) depth 20
+
+rules_shared : IsSync Rules.the_row
+rules_shared = search (sendable, definition_shared, warnings.the_sync, items.the_sync, tables.the_field_sync) depth 20
+
+shared_field : IsSend Shared.the_field.row
+shared_field = search (sendable, crosses, rules, rules_shared, limits.the_field_send) depth 20
 
 pub store_send : IsSend Store.the_row
-store_send = search (sendable, fixed_field, index_field, logs.the_field_send, rows.the_field_send, tails.the_field_send, totals.the_field_send, checkpoints.the_field_send, positions.the_field_send, ops.the_field_send, numbers.the_send) depth 20
+store_send = search (sendable, shared_field, index_field, logs.the_field_send, rows.the_field_send, tails.the_field_send, totals.the_field_send, checkpoints.the_field_send, positions.the_field_send, ops.the_field_send, numbers.the_send) depth 20
