@@ -38,7 +38,7 @@ impl Diary {
         }
     }
 
-    /// At want of memory nothing has changed.
+    /// After out of memory nothing has changed.
     pub fn note(&mut self, number: u64) -> Result<(), Memory>
         ensures noted { IfOk result (λ _. self.new ≡ self.old ++ number ∷ []) }
         ensures same { IfErr result (λ _. self.new ≡ self.old) }
@@ -66,7 +66,7 @@ impl Kept for Diary {
     ghost stands = { λ _ diary history. diary ≡ numbers_of history };
 }
 
-/// Notes a number in one turn. Where memory is wanting it adds nothing.
+/// Notes a number in one turn. Where it is out of memory it adds nothing.
 #[tactic(auto, using(crate::proofs::Appends::numbers_of_append))]
 pub fn note<R: Wait>(
     rt: &R,

@@ -24,7 +24,7 @@ has_wide_change definitions changes = list_any (is_wide definitions) changes
 abbrev pub has_wide : List Definition → List Transaction → Bool
 has_wide definitions transactions = list_any (λ (t : Transaction). has_wide_change definitions t.changes) transactions
 
--- too wide is answered exactly where something is, but for want of memory
+-- too wide is answered exactly where something is, but for out of memory
 abbrev pub TellsWide : {X : Type 0} → Bool → Result X AuditFault → Type 0
 TellsWide wide (Ok x) = wide ≡ false
 TellsWide wide (Err (TooWide count)) = (wide ≡ true) × (count ≡ 1001)

@@ -58,7 +58,7 @@ fn refused(alloc: Global) -> Verdict
 /// lines of the stream, each with or without its line feed. The plain client takes them, and the first that fails decides: one that is no
 /// line or does not come next, a complete line at which totals differ, or one for which no position of the transactions fits, as
 /// `Judged` says. Write checkpoints are not judged. The transactions' positions rise from past 0. Fails with `TooWide` exactly where the
-/// row of a change has more than 1,000 entries; else there may be want of memory.
+/// row of a change has more than 1,000 entries; else it may be out of memory.
 pub fn audit(
     alloc: Global,
     rules: &Rules,

@@ -9,7 +9,7 @@ pub enum PlaceFault {
         /// One more than were asked for: no entry past it was counted.
         count: u32,
     },
-    /// Want of memory.
+    /// Out of memory.
     Memory,
 }
 

@@ -106,7 +106,7 @@ longest = 16777216
 abbrev pub short : List ℕ → Result (List ℕ) ChangeFault
 short bytes = if nat_le (length bytes) longest then Ok bytes else Err (LineTooLong (length bytes))
 
--- what is too long is refused so, and no want of memory stands in its place: this refusal needs none
+-- what is too long is refused so, and no answer of out of memory stands in its place: this refusal needs none
 abbrev pub RefusesLong : {X : Type 0} → List ℕ → Result X ChangeFault → Type 0
 RefusesLong bytes result = longest < length bytes → result ≡ Err (LineTooLong (length bytes))
 

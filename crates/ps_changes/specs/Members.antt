@@ -13,7 +13,7 @@ abbrev pub or_fault : {A : Type 0} → ChangeFault → Option A → Result A Cha
 or_fault fault (Some x) = Ok x
 or_fault fault None = Err fault
 
--- what was read is what is meant, or the fault is; want of memory says nothing
+-- what was read is what is meant, or the fault is; out of memory says nothing
 abbrev pub Reads : {X : Type 0} → Result X ChangeFault → Result X ChangeFault → Type 0
 Reads (Ok x) meant = meant ≡ Ok x
 Reads (Err (LineTooLong seen)) meant = meant ≡ Err (LineTooLong seen)

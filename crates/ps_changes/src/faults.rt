@@ -18,7 +18,7 @@ pub enum ChangeFault {
     BadPosition,
     /// A number in a row, at any depth, is no whole number of signed 64 bits.
     BadValue,
-    /// Want of memory.
+    /// Out of memory.
     Memory,
 }
 

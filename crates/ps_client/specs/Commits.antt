@@ -61,7 +61,7 @@ FaultsOnlyWhere holds (Err Memory) = Unit {0}
 
 -- ---- what is answered
 
--- this event is told, but for want of memory, and for the keeper, whose count of faults rose then
+-- this event is told, but for out of memory, and for the keeper, whose count of faults rose then
 abbrev pub SaysEvent : Event → Result Event ClientFault → ℕ → ℕ → Type 0
 SaysEvent event (Ok own) before now = own ≡ event
 SaysEvent event (Err OutOfOrder) before now = ⊥

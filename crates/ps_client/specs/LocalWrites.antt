@@ -48,7 +48,7 @@ keeping kept client = record client { kept = kept }
 
 -- ---- faults
 
--- a fault of the keeper or want of memory, and no other
+-- a fault of the keeper or out of memory, and no other
 abbrev pub IsBelow : ClientFault → Type 0
 IsBelow OutOfOrder = ⊥
 IsBelow (BadLine fault) = ⊥

@@ -43,7 +43,7 @@ pub record IsTaken (took : Took) (old : Kept) (event : Event) (new : PlainClient
   pub client : new ≡ showing new.kept.shown took.client
   pub shown : Shows event old new.kept.shown
 
--- want of memory and a keeper's fault may come at any line; each other fault is the plain client's
+-- out of memory and a keeper's fault may come at any line; each other fault is the plain client's
 abbrev pub IsFault : Took → ClientFault → Type 0
 IsFault took Memory = Unit {0}
 IsFault took KeeperFault = Unit {0}
@@ -57,7 +57,7 @@ pub record IsRefusal (took : Took) (old new : Kept) (own : ClientFault) : Type 0
   pub fault : IsFault took own
   pub kept : new ≡ old
 
--- bytes that are no line are refused as they are read; else there is want of memory alone
+-- bytes that are no line are refused as they are read; else there is out of memory alone
 abbrev pub IsReadFault : Result Line LineFault → ClientFault → Type 0
 IsReadFault meant OutOfOrder = ⊥
 IsReadFault meant (BadLine fault) = meant ≡ Err fault

@@ -132,7 +132,7 @@ impl<K: Keeper> Client<K> {
 
     /// Takes a line of the stream, with or without its closing line feed. All that it changes of what is kept is one commit of the
     /// keeper. Fails with `BadLine` where the bytes are no line, with `OutOfOrder` where the line does not come next, with
-    /// `KeeperFault` where the keeper failed, and for want of memory. The keeper is asked for a commit, and
+    /// `KeeperFault` where the keeper failed, and when out of memory. The keeper is asked for a commit, and
     /// can fail, only where a checkpoint is applied or refused, buckets go, or operations come. After a fault the stream is over and what is kept is as before.
     pub fn take_line(&mut self, alloc: Global, line: &[u8]) -> Result<Event, ClientFault>
         ensures taken { Answers (line_taken (state self.old) line.now) (state self.old) (state self.new) result }
@@ -144,7 +144,7 @@ impl<K: Keeper> Client<K> {
         ensures name { name_of self.new ≡ name_of self.old }
         // The keeper's fault comes only where the plain client's answer is one that commits.
         ensures commits { FaultsOnlyWhere (Commits (EditsIf (state self.old).kept (line_of line.now)) (line_taken (state self.old) line.now).answer) result }
-        // Where the plain client says something, so does this one, but for want of memory and for its keeper.
+        // Where the plain client says something, so does this one, but for out of memory and for its keeper.
         ensures says { Says (line_taken (state self.old) line.now).answer result (K.faults (keeper_of self.old)) (K.faults (keeper_of self.new)) }
         // What is no text is no line, whatever memory there is.
         ensures no_text { ¬ (IsUtf8 (without_feed line.now)) → result ≡ Err (BadLine BadJson) }
@@ -202,7 +202,7 @@ impl<K: Keeper> Client<K> {
 
     /// Keeps a local write until it is uploaded, and shows its row: a PUT's data is the compact JSON object of its
     /// columns and `id`, and a DELETE takes the row away. No checkpoint is applied until it covers the write. The
-    /// change's table is not empty. Fails with `KeeperFault` where the keeper failed, and for want of memory, and with
+    /// change's table is not empty. Fails with `KeeperFault` where the keeper failed, and when out of memory, and with
     /// nothing else. After a fault nothing has changed.
     pub fn write_local(&mut self, alloc: Global, change: Change) -> Result<(), ClientFault>
         requires { change.table ≢ [] }
@@ -240,7 +240,7 @@ impl<K: Keeper> Client<K> {
     }
 
     /// The oldest local write was uploaded, and waits no more. Fails with `QueueEmpty` exactly where none waits, with
-    /// `KeeperFault` where the keeper failed, and for want of memory. After a fault nothing has changed.
+    /// `KeeperFault` where the keeper failed, and when out of memory. After a fault nothing has changed.
     pub fn uploaded(&mut self, alloc: Global) -> Result<(), ClientFault>
         ensures ok { OnOk result (state self.new ≡ keeping (popped (state self.old).kept) (state self.old)) }
         ensures err { OnErr result (state self.new ≡ state self.old) }
@@ -261,7 +261,7 @@ impl<K: Keeper> Client<K> {
 
     /// A checkpoint must have reached this write checkpoint's number before it is applied. The number is at most
     /// 9223372036854775807. Fails with `QueueWaiting` exactly where local writes still wait for their upload, with
-    /// `KeeperFault` where the keeper failed, and for want of memory. After a fault nothing has changed.
+    /// `KeeperFault` where the keeper failed, and when out of memory. After a fault nothing has changed.
     pub fn set_write_checkpoint(&mut self, alloc: Global, number: u64) -> Result<(), ClientFault>
         requires { number ≤ greatest }
         ensures ok { OnOk result (state self.new ≡ keeping (aimed number (state self.old).kept) (state self.old)) }

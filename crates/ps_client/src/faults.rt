@@ -22,7 +22,7 @@ pub enum ClientFault {
         /// How many.
         length: u64,
     },
-    /// Want of memory.
+    /// Out of memory.
     Memory,
 }
 

@@ -6,7 +6,7 @@ use std::alloc::{AllocError, AllocFailed};
 pub enum KeepFault {
     /// The keeper failed: its count of faults rose in this call.
     Failed,
-    /// Want of memory.
+    /// Out of memory.
     Memory,
 }
 

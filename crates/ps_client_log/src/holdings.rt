@@ -165,7 +165,7 @@ impl Holdings {
     }
 }
 
-/// The state after edits, which can be made one after another. Fails only for want of memory. Takes time and memory in line with the state
+/// The state after edits, which can be made one after another. Fails only when out of memory. Takes time and memory in line with the state
 /// and the edits.
 pub fn edited(alloc: Global, state: State, edits: &[Edit]) -> Result<State, Memory>
     requires sound { IsSoundState state }

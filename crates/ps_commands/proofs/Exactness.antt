@@ -456,7 +456,7 @@ module _ (held : Contents) (words : List (List ℕ)) (command : Command) (is : c
   answer_of read_before read_now write_before write_now read written (Script line why) c s = script_answer line why c s
   answer_of read_before read_now write_before write_now read written Memory c s = want_answer c s
 
--- a command that reads no file fails by the output or for want of memory
+-- a command that reads no file fails by the output or when out of memory
 module _ (words : List (List ℕ)) (old new : Option (List ℕ)) (status : ℕ) where
   abbrev ReadsNone : Command → Type 0
   ReadsNone (check name) = ⊥

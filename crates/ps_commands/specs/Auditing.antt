@@ -80,7 +80,7 @@ pub record JudgesSo (rules : RuleSet) (transactions : List Transaction) (asker :
 abbrev pub wide_limit : Limit
 wide_limit = Entries 1001
 
--- the lines are judged, or a change is too wide; of want of memory nothing is said
+-- the lines are judged, or a change is too wide; where it is out of memory nothing is said
 abbrev pub JudgesFile : RuleSet → List Transaction → Asker → List ℕ → Result Verdict Fault → Type 0
 JudgesFile rules transactions asker stream (Ok verdict) = JudgesSo rules transactions asker stream verdict
 JudgesFile rules transactions asker stream (Err Usage) = ⊥

@@ -722,19 +722,19 @@ refusal_status missing = 8
 refusal_status exceeds = 5
 refusal_status (refused fault) = status_of fault
 
--- all lines of the script are played, or the first that is refused ends it, or memory was wanting
+-- all lines of the script are played, or the first that is refused ends it, or it was out of memory
 abbrev pub IsPlayed : Game → Option (List ℕ) → Option (List ℕ) → ℕ → Type 0
 IsPlayed game old new status =
     ((status ≡ 0) × (text : List ℕ) × GivesAll game text × Gains old new text)
     ⊎ ((status ≡ 9) × (line : ℕ) × (why : ScriptCause) × (text : List ℕ) × GivesUntil game line why text × Gains old new text)
     ⊎ ((status ≡ 8) × ((new ≡ old) ⊎ ((text : List ℕ) × GivesSome game text × Gains old new text)))
 
--- that is the verdict on the lines: its status and its text, or memory was wanting
+-- that is the verdict on the lines: its status and its text, or it was out of memory
 abbrev pub IsJudgedSo : Case → List (List ℕ) → Option (List ℕ) → Option (List ℕ) → ℕ → Type 0
 IsJudgedSo case lines old new status =
     ((verdict : Verdict) × IsVerdict case lines verdict × (status ≡ verdict_status verdict) × Gains old new (verdict_text verdict)) ⊎ ((status ≡ 8) × (new ≡ old))
 
--- the status and the output are those that the files mean, or memory was wanting
+-- the status and the output are those that the files mean, or it was out of memory
 abbrev pub IsAnswer : Result Meant Refusal → Option (List ℕ) → Option (List ℕ) → ℕ → Type 0
 IsAnswer (Ok (plays game)) old new status = IsPlayed game old new status
 IsAnswer (Ok (judges case lines)) old new status = IsJudgedSo case lines old new status

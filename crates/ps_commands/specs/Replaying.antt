@@ -63,7 +63,7 @@ GivesUntil game number why text = PlaysUntil (fixed_of game) (start_of game) gam
 
 -- ---- a call
 
--- a fault of a line that has this number; want of memory is of none
+-- a fault of a line that has this number; out of memory is of none
 abbrev pub stopped_by : ℕ → ScriptFault → Fault
 stopped_by number scripts.BadEvent = Script number BadEvent
 stopped_by number scripts.UnknownClient = Script number UnknownClient

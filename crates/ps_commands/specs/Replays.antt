@@ -63,7 +63,7 @@ pub record WritesFront (fixed : Fixed) (play : Play) (script : List ℕ) (out : 
   pub printed : GainsFront out.old out.new text
   pub rose : Rose out.before out.now
 
--- memory was wanting: the sink took the texts of some first lines
+-- it was out of memory: the sink took the texts of some first lines
 pub record EndsEarly (fixed : Fixed) (play : Play) (script : List ℕ) (out : Output) : Type 0 where
   pub text : List ℕ
   pub plays : PlaysSome fixed play script text
@@ -149,7 +149,7 @@ abbrev pub items_of : Result (Vec ℕ Global) ScriptFault → Result (List ℕ) 
 items_of (Ok text) = Ok text.items
 items_of (Err fault) = Err fault
 
--- a fault of a line that has this number; want of memory is of none
+-- a fault of a line that has this number; out of memory is of none
 abbrev pub refused_at : ℕ → ScriptFault → ReplayFault
 refused_at number BadEvent = Refused number BadEvent
 refused_at number UnknownClient = Refused number UnknownClient

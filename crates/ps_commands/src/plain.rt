@@ -265,7 +265,7 @@ pub fn run_plain<F: Files, K: Sink, E: Sink>(
     ensures known { (result ≤ 9) ⊎ (result ≡ 15) }
 
     // Nothing is printed unless all went well, but for a verdict No and for the front that a failed write leaves. `replay` prints as it goes: what it printed
-    // before a refused line, or before memory was wanting, are the texts of the lines before. A first file that is too long is refused
+    // before a refused line, or before it was out of memory, are the texts of the lines before. A first file that is too long is refused
     // before memory can be wanting.
     ensures kept { result ≢ 0 → result ≢ 7 → result ≢ 8 → result ≢ 9 → result ≢ 15 → K.taken out.new ≡ K.taken out.old }
     ensures first { result ≡ 8 → BeginsWithin (F.held files.old) words.now }
@@ -284,7 +284,7 @@ pub fn run_plain<F: Files, K: Sink, E: Sink>(
         (record { old = E.taken err.old; new = E.taken err.new; before = E.faults err.old; now = E.faults err.new }) words.now result }
 
     // Where files tell what they hold, or none is read, and no count rose, status and output are those that the words and files mean, or
-    // memory was wanting.
+    // it was out of memory.
     ensures exact { ¬ (Rose (F.faults files.old) (F.faults files.new)) → ¬ (Rose (K.faults out.old) (K.faults out.new))
         → IsExact (F.held files.old) words.now (K.taken out.old) (K.taken out.new) result }
 {

@@ -13,7 +13,7 @@ pub enum ReplayFault {
     },
     /// The sink failed.
     CannotWrite,
-    /// Want of memory.
+    /// Out of memory.
     Memory,
 }
 

@@ -106,9 +106,9 @@ streams_so fixed history asker own stream (Streaming at session waiting) some st
   stands = subst (λ (o : Option Stream). LinkStandsFor fixed history asker o (Streaming at session waiting)) some stands;
 }
 
--- ---- want of memory
+-- ---- out of memory
 
--- where the event may come, want of memory is an answer
+-- where the event may come, out of memory is an answer
 pub acted_or : {P : Effect → Type 0} (fixed : Fixed) (play : Play) (event : ScriptEvent) (name : List ℕ) (store : Store) (own : Reader) (done : Result Effect Memory)
     → refusal play event ≡ None → IfOk done P → ((effect : Effect) → P effect → CameTo fixed play event name store own effect) → Acts fixed play event name store own (faulted done)
 acted_or fixed play event name store own (Ok effect) may came gives = gives effect came

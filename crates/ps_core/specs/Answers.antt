@@ -45,7 +45,7 @@ IsRefusing faults.QueueEmpty = ⊥
 IsRefusing (faults.QueueWaiting length) = ⊥
 IsRefusing faults.Memory = ⊥
 
--- and besides there is want of memory alone, where the keeper never fails
+-- and besides there is out of memory alone, where the keeper never fails
 abbrev pub CanFault : ClientFault → Type 0
 CanFault faults.OutOfOrder = Unit {0}
 CanFault (faults.BadLine fault) = Unit {0}

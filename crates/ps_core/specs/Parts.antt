@@ -99,7 +99,7 @@ pub record CameTo (fixed : Fixed) (play : Play) (event : ScriptEvent) (name : Li
   pub named : outcome.play.readers name ≡ Some reader
   pub reader_stands : ReaderStandsFor fixed outcome.play.history own reader
 
--- what the client of a name answers to an event; memory is wanting only for one that may come
+-- what the client of a name answers to an event; it is out of memory only for one that may come
 abbrev pub Acts : Fixed → Play → ScriptEvent → List ℕ → Store → Reader → Result Effect ScriptFault → Type 0
 Acts fixed play event name store own (Ok effect) = CameTo fixed play event name store own effect
 Acts fixed play event name store own (Err BadEvent) = ⊥
@@ -111,7 +111,7 @@ abbrev pub faulted : Result Effect values.Memory → Result Effect ScriptFault
 faulted (Ok effect) = Ok effect
 faulted (Err want) = Err Memory
 
--- a fault of a client that is want of memory
+-- a fault of a client that is out of memory
 abbrev pub IsWant : ClientFault → Type 0
 IsWant faults.OutOfOrder = ⊥
 IsWant (faults.BadLine fault) = ⊥
@@ -120,7 +120,7 @@ IsWant faults.QueueEmpty = ⊥
 IsWant (faults.QueueWaiting length) = ⊥
 IsWant faults.Memory = Unit {0}
 
--- what becomes of lines that wait where the oldest of data is altered; memory is wanting only where there is one
+-- what becomes of lines that wait where the oldest of data is altered; it is out of memory only where there is one
 abbrev pub Alters : List Made → List Sent → List Sent → Result Unit ScriptFault → Type 0
 Alters made old new (Ok done) = (has_data made ≡ true) × AreWaiting new (altered_oldest made)
 Alters made old new (Err BadEvent) = ⊥

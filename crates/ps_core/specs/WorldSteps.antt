@@ -30,7 +30,7 @@ pub record Refused (fixed : Fixed) (play : Play) (event : ScriptEvent) (new : Wo
   pub refusal_is : refusal play event ≡ Some fault
   pub stands : WorldStandsFor fixed new play
 
--- what a step does, but for the world that want of memory leaves, and for how clients are led; memory is wanting only for an event that
+-- what a step does, but for the world that is left when out of memory, and for how clients are led; that comes only for an event that
 -- may come
 abbrev pub Goes : Fixed → Play → ScriptEvent → World → Result Effect ScriptFault → Type 0
 Goes fixed play event new (Ok effect) = Went fixed play event new effect
@@ -39,7 +39,7 @@ Goes fixed play event new (Err UnknownClient) = Refused fixed play event new Unk
 Goes fixed play event new (Err WrongPhase) = Refused fixed play event new WrongPhase
 Goes fixed play event new (Err Memory) = refusal play event ≡ None
 
--- after want of memory the world has failed; no event that may not come is answered so
+-- after out of memory the world has failed; no event that may not come is answered so
 abbrev pub Steps : Fixed → Play → ScriptEvent → World → Result Effect ScriptFault → Type 0
 Steps fixed play event new (Ok effect) = Gave fixed play event new effect
 Steps fixed play event new (Err BadEvent) = Refused fixed play event new BadEvent

@@ -74,6 +74,6 @@ pub record WorldStandsFor (fixed : Fixed) (world : World) (play : Play) : Type 0
   pub low : AreLow play.left
   pub readers : (name : List ℕ) → OneStandsFor fixed play.history (get (slice_cmp nat_cmp) world.readers name) (play.readers name)
 
--- a world stands for a play, or has failed for want of memory
+-- a world stands for a play, or has failed, out of memory
 abbrev pub IsWorld : World → Type 0
 IsWorld world = (world.failed ≡ true) ⊎ ((fixed : Fixed) × (play : Play) × WorldStandsFor fixed world play)

@@ -31,7 +31,7 @@ pub(crate) enum Visit<'a> {
     Rows,
 }
 
-// Want of memory as a fault of the script.
+// Out of memory as a fault of the script.
 fn or_fault(done: Result<Effect, Memory>) -> Result<Effect, ScriptFault>
     ensures { result ≡ faulted done }
 {

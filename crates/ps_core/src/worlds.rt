@@ -215,7 +215,7 @@ impl World {
 
     /// Does an event, and gives its effect: docs/FORMATS.md, "Scripts". Fails with `BadEvent` for a count out of its range and for a
     /// local write without a table, with `UnknownClient` where no client has the name, with `WrongPhase` where the event may not come
-    /// now, all with nothing changed and whatever memory there is; and for want of memory, where the event may come: the world has failed
+    /// now, all with nothing changed and whatever memory there is; and when out of memory, where the event may come: the world has failed
     /// then, and each later event fails so.
     pub fn step(&mut self, alloc: Global, event: &ScriptEvent) -> Result<Effect, ScriptFault>
         requires { IsWorld self.old }

@@ -22,7 +22,7 @@ use ps_store::{FeedFault, Store, places_are_fronts};
 use ps_write_cp::NumberFault;
 use std::alloc::Global;
 
-// Want of memory, the one fault that may come.
+// Out of memory, the one fault that may come.
 fn want(fault: ClientFault) -> Memory
     requires { IsWant fault }
 {

@@ -25,7 +25,7 @@ use Rattle.ps_due_rows.specs.FirstCopies.{taken_at, copied_from}
 
 -- ---- faults
 
--- a fault of lines is that of what they mean; of want of memory nothing is said
+-- a fault of lines is that of what they mean; where it is out of memory nothing is said
 abbrev pub IsLineFault : {X : Type 0} → Result X Fault → Fault → Type 0
 IsLineFault meant Usage = ⊥
 IsLineFault meant (Rules line column why) = ⊥

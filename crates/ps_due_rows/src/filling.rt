@@ -156,7 +156,7 @@ fn finish<'a>(filling: Filling, number: u64) -> Result<Store, Fault<'a>>
 
 /// Fills a new store of the rules, under the usual limits, by the lines of a first copy, and commits it at the end. Blank lines are skipped
 /// and counted. Fails by the first line that is refused: with `PastLimit` where it passes a limit, and else with `Change`; where no end
-/// comes, with the number behind the last line. The file has fewer than 2^63 bytes. For want of memory it fails with `Memory`.
+/// comes, with the number behind the last line. The file has fewer than 2^63 bytes. Out of memory, it fails with `Memory`.
 pub fn fill_store<'a>(alloc: Global, rules: Rules, bytes: &[u8]) -> Result<Store, Fault<'a>>
     requires { length bytes.now < 2 ^ 63 }
     ensures { Feeds rules (first_copy_of rules bytes.now) result }

@@ -20,7 +20,7 @@ use ps_showing::want_of_memory;
 use ps_streams::{clients_answer_right, clients_are_led};
 use std::alloc::Global;
 
-// Hands a line to the client. The answer to it is good, so there is no fault but want of memory.
+// Hands a line to the client. The answer to it is good, so there is no fault but out of memory.
 pub fn hand(
     alloc: Global,
     client: &mut Client<VolatileKeeper>,

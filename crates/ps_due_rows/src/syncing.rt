@@ -65,7 +65,7 @@ fn rows_of(
 
 /// The rows that a client shows that holds nothing and takes one whole checkpoint of a store, line by line, each written to
 /// its bytes and read from them: exactly those that are due to the asker at the checkpoint's position. `TooManyBuckets`
-/// exactly where the asker has more buckets than the limit; else there may be want of memory.
+/// exactly where the asker has more buckets than the limit; else it may be out of memory.
 pub fn synced_rows(alloc: Global, store: &Store, asker: Asker) -> Result<Items<Shown>, TakeFault>
     requires { (fixed : FixedSeen) × (history : List EventSeen) × StoreStandsFor fixed store.now history }
     ensures { (fixed : FixedSeen) (history : List EventSeen) → StoreStandsFor fixed store.now history

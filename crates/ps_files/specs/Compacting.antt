@@ -45,7 +45,7 @@ compact_text rules transactions = reports_text (reports_of (committed_ledger rul
 
 -- ---- calls
 
--- a bucket's log was compacted; of want of memory nothing is said
+-- a bucket's log was compacted; where it is out of memory nothing is said
 abbrev pub CompactsOne : Fixed → List Event → List ℕ → Store → Result Report Memory → Type 0
 CompactsOne fixed history bucket new (Ok report) =
     (report ≡ report_of (ledger_of fixed.rules history).op ((ledger_of fixed.rules history).log bucket))

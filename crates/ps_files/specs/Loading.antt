@@ -105,7 +105,7 @@ IsKeysFault CannotWrite bytes = ⊥
 IsKeysFault (Script place cause) bytes = ⊥
 IsKeysFault Memory bytes = ⊥
 
--- a line with a token is that of the key of the kid; no key has it; want of memory says nothing
+-- a line with a token is that of the key of the kid; no key has it; out of memory says nothing
 abbrev pub SignsLine : List Key → List ℕ → List ℕ → Result (List ℕ) SignFault → Type 0
 SignsLine keys kid payload (Ok line) = (key : Key) × (key_of kid keys ≡ Some key) × (line ≡ signed_token key kid payload ++ codes "\n")
 SignsLine keys kid payload (Err UnknownKey) = key_of kid keys ≡ None

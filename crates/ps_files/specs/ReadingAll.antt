@@ -35,7 +35,7 @@ IsTransactionsFault CannotWrite bytes = ⊥
 IsTransactionsFault (Script line why) bytes = ⊥
 IsTransactionsFault Memory bytes = ⊥
 
--- a change file's bytes are read as they are meant; of want of memory nothing is said
+-- a change file's bytes are read as they are meant; where it is out of memory nothing is said
 abbrev pub ReadsAll : List ℕ → Result (Vec Transaction Global) Fault → Type 0
 ReadsAll bytes (Ok transactions) = FindsTransactions transactions bytes
 ReadsAll bytes (Err Usage) = ⊥

@@ -35,7 +35,7 @@ IsRisingFault CannotWrite bytes = ⊥
 IsRisingFault (Script line why) bytes = ⊥
 IsRisingFault Memory bytes = ⊥
 
--- a change file's bytes are read as they are meant; of want of memory nothing is said
+-- a change file's bytes are read as they are meant; where it is out of memory nothing is said
 abbrev pub ReadsAllRising : List ℕ → Result (Vec Transaction Global) Fault → Type 0
 ReadsAllRising bytes (Ok transactions) = FindsRising transactions bytes
 ReadsAllRising bytes (Err Usage) = ⊥

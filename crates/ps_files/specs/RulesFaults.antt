@@ -68,7 +68,7 @@ cause_text MixedOutput = codes "mixed-output"
 
 -- ---- reading
 
--- a rules file is read as it is meant; of want of memory nothing is said
+-- a rules file is read as it is meant; where it is out of memory nothing is said
 abbrev pub ReadsRules : Result RuleSet Fault → Result RuleSet Fault → Type 0
 ReadsRules (Ok rules) meant = meant ≡ Ok rules
 ReadsRules (Err (Rules line column why)) meant = meant ≡ Err (Rules line column why)

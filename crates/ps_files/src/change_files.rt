@@ -27,7 +27,7 @@ const BATCH: u32 = 1000;
 /// Writes the changes of a change file, whose positions rise, into a new store of the rules, under the usual limits. Each line is fed,
 /// written in batches and committed before the next is read.
 /// Fails by the first line that is refused: with `PastLimit` where it passes a limit, and else with `Change`. What the lines before it
-/// wrote is dropped. The file has fewer than 2^63 bytes. For want of memory it fails with `Memory`.
+/// wrote is dropped. The file has fewer than 2^63 bytes. Out of memory, it fails with `Memory`.
 pub fn write_changes<'a>(alloc: Global, rules: Rules, changes: &[u8]) -> Result<Store, Fault<'a>>
     requires { length changes.now < 2 ^ 63 }
     ensures { Writes rules (transactions_of rules changes.now) result }

@@ -40,7 +40,7 @@ fn compact_one(alloc: Global, store: &mut Store, bucket: &Text) -> Result<Report
 }
 
 /// Compacts each bucket of a store once, at the checkpoint's op and in the order of their names, and gives the reports.
-/// Fails where memory is wanting; some buckets are compacted then.
+/// Fails where it is out of memory; some buckets are compacted then.
 pub fn compact_all(alloc: Global, store: &mut Store) -> Result<Items<Compacted>, Memory>
     requires { (fixed : FixedSeen) × (history : List EventSeen) × StoreStandsFor fixed store.old history }
     ensures { IfOk result (λ reports. (fixed : FixedSeen) (history : List EventSeen) → StoreStandsFor fixed store.old history → reports ≡ reports_of (ledger_of fixed.rules history)) }

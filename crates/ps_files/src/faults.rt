@@ -145,7 +145,7 @@ pub enum Fault<'a> {
         /// Why.
         why: ScriptCause,
     },
-    /// Want of memory.
+    /// Out of memory.
     Memory,
 }
 

@@ -24,7 +24,7 @@ pub(crate) struct Version {
 pub(crate) type Live = BTreeMap<(Text, Text), Version>;
 
 /// The source at a position: each row that lives after all changes of the transactions up to it, in order. A transaction
-/// of 4294967296 changes or more is answered as want of memory.
+/// of 4294967296 changes or more is answered as out of memory.
 pub fn source_at(
     alloc: Global,
     transactions: &[Transaction],

@@ -23,7 +23,7 @@ pub enum BodyFault {
     CutShort,
     /// The source failed: its count of faults rose in this call.
     ReadFault,
-    /// Want of memory. Nothing was read.
+    /// Out of memory. Nothing was read.
     Memory,
 }
 
@@ -69,7 +69,7 @@ fn fill<S: Source>(from: &mut S, into: &mut [u8]) -> Result<(), BodyFault>
 
 /// Reads the body of a request, and takes exactly the stated length of bytes from the source.
 ///
-/// The first fault that applies is answered, in the order in which `BodyFault` lists them; want of memory comes before any
+/// The first fault that applies is answered, in the order in which `BodyFault` lists them; out of memory comes before any
 /// byte is read. After every answer the source has handed out a first part of what was left.
 pub fn read_body<S: Source>(alloc: Global, head: &Head, from: &mut S) -> Result<Vec<u8>, BodyFault>
     ensures answer { ReadsBody head.now (S.input from.old) (S.input from.new) (S.faults from.old) (S.faults from.new) result }

@@ -38,7 +38,7 @@ pub enum HeadFault {
     CutShort,
     /// The source failed: its count of faults rose in this call.
     ReadFault,
-    /// Want of memory.
+    /// Out of memory.
     Memory,
 }
 

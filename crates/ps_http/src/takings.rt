@@ -92,7 +92,7 @@ fn refusal(bytes: &[u8], otherwise: HeadFault) -> HeadFault
 
 /// Reads the head of a request, and takes exactly its bytes from the source, one at a time.
 ///
-/// After every answer, want of memory among them, the source has handed out a first part of what was left, of at most
+/// After every answer, out of memory among them, the source has handed out a first part of what was left, of at most
 /// 16,384 bytes. Fails with `BadHead` where what was taken can be no head, and else with `CutShort` where the input
 /// ended, `ReadFault` where the source failed, `HeadTooLong` where no head ended within 16,384 bytes, and `Memory`.
 /// Empty lines before the first line are skipped (RFC 9112, section 2.2).

@@ -23,7 +23,7 @@ or_fault fault None = Err fault
 abbrev pub within : {A : Type 0} → Bool → A → Result A LineFault
 within holds x = if holds then Ok x else Err BadNumber
 
--- what was read is what is meant, or the fault is; want of memory says nothing
+-- what was read is what is meant, or the fault is; out of memory says nothing
 abbrev pub Reads : {X : Type 0} → Result X LineFault → Result X LineFault → Type 0
 Reads (Ok x) meant = meant ≡ Ok x
 Reads (Err BadJson) meant = meant ≡ Err BadJson

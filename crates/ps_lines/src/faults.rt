@@ -10,7 +10,7 @@ pub enum LineFault {
     BadShape,
     /// A number is out of form or out of range, or ids do not rise as they must.
     BadNumber,
-    /// Want of memory.
+    /// Out of memory.
     Memory,
 }
 

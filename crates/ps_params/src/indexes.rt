@@ -73,7 +73,7 @@ impl ParameterIndex {
         })
     }
 
-    /// Makes room for more notes. No answer changes, also where memory is wanting.
+    /// Makes room for more notes. No answer changes, also where it is out of memory.
     pub fn reserve(&mut self, alloc: Global, more: usize) -> Result<(), Memory>
         ensures rules { self.new.rules ≡ self.old.rules }
         ensures last { self.new.last ≡ self.old.last }

@@ -46,7 +46,7 @@ CountsIf true old new now = Reports old new now
 abbrev pub Counts : Seen → Seen → Option Download → Type 0
 Counts old new now = CountsIf (is_due old.so_far now) old new now
 
--- a line was counted; or memory was wanting for it, and nothing is known any more
+-- a line was counted; or it was out of memory for it, and nothing is known any more
 abbrev pub HeedsIf : Bool → Seen → Seen → List ℕ → Type 0
 HeedsIf false old new line = new ≡ old
 HeedsIf true old new line = Counts old new (after_read (line_of line) old.so_far) ⊎ (new ≡ record old { so_far = None })

@@ -25,7 +25,7 @@ abbrev pub sql : {A : Type 0} → ℕ → ℕ → Result A SqlFault → Result A
 sql line column (Ok x) = Ok x
 sql line column (Err fault) = Err (faults.Sql fault line column)
 
--- what a function answers is what reading gives; of want of memory nothing is said
+-- what a function answers is what reading gives; where it is out of memory nothing is said
 abbrev pub Reads : {X : Type 0} → Result X RulesFault → Result X RulesFault → Type 0
 Reads (Ok x) meant = meant ≡ Ok x
 Reads (Err (faults.Yaml fault)) meant = meant ≡ Err (faults.Yaml fault)
@@ -39,7 +39,7 @@ Reads (Err (faults.TooManyBranches line column)) meant = meant ≡ Err (faults.T
 Reads (Err (faults.UnmatchedParameter line column)) meant = meant ≡ Err (faults.UnmatchedParameter line column)
 Reads (Err faults.Memory) meant = Unit {0}
 
--- a query's fault with its place, but for want of memory
+-- a query's fault with its place, but for out of memory
 abbrev pub placed_fault : ℕ → ℕ → SqlFault → RulesFault
 placed_fault line column sql_faults.Memory = faults.Memory
 placed_fault line column (sql_faults.BadToken at) = faults.Sql (sql_faults.BadToken at) line column

@@ -69,7 +69,7 @@ pub enum RulesFault {
         /// From 1, in bytes.
         column: u32,
     },
-    /// Want of memory.
+    /// Out of memory.
     Memory,
 }
 

@@ -9,7 +9,7 @@ use Rattle.ps_script.specs.Verbs.{verb_of}
 use Rattle.ps_file_lines.specs.Cuts.{cut}
 use Rattle.ps_script.specs.Words.{is_name}
 
--- what fails a test is no event, and no want of memory stands in place of that
+-- what fails a test is no event, and no answer of out of memory stands in place of that
 abbrev pub RefusesUnless : {X : Type 0} → Bool → Result X ScriptFault → Type 0
 RefusesUnless test result = test ≡ false → result ≡ Err BadEvent
 

@@ -38,7 +38,7 @@ name_of bytes = if is_name bytes then text_of bytes else None
 
 -- ---- answers
 
--- what was read is what is meant; where nothing is meant, it is no event; want of memory says nothing
+-- what was read is what is meant; where nothing is meant, it is no event; out of memory says nothing
 abbrev pub Reads : {X : Type 0} → Result X ScriptFault → Option X → Type 0
 Reads (Ok x) meant = meant ≡ Some x
 Reads (Err BadEvent) meant = meant ≡ None

@@ -10,7 +10,7 @@ pub enum ScriptFault {
     UnknownClient,
     /// The event may not come now: a client has its name already, or it wants what is not there.
     WrongPhase,
-    /// Want of memory.
+    /// Out of memory.
     Memory,
 }
 

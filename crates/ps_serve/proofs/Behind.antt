@@ -89,7 +89,7 @@ own_stream claims body = own_read (lines.body_of body) (λ (read : StreamBody). 
 own_of : {A : Type 0} (x : Result A Refusal) (refusal : Refusal) → AreOwn x → x ≡ Err refusal → IsOwn refusal
 own_of x refusal own is = subst (λ r. AreOwn r) is own
 
--- a refusal is that which is meant, or want of memory
+-- a refusal is that which is meant, or out of memory
 told : {A : Type 0} (wanting : Type 0) (refusal : Refusal) (meant : Result A Refusal) → ReadsOr wanting (Err refusal) meant → ((refusal ≡ Memory) × wanting) ⊎ (meant ≡ Err refusal)
 told wanting Cut meant is = inr is
 told wanting BadRequest meant is = inr is

@@ -1,4 +1,4 @@
--- A stream that is wanted drained ends so, or for want of memory, where nothing else can end it.
+-- A stream that is wanted drained ends so, or out of memory, where nothing else can end it.
 use Rattle.std.proofs.Common.{◌≡◌, ℕ, ◌≤◌, ◌<◌, ◌⊎◌, inl, inr, Bool, true, List, Option, Ok, Err, refl, arith, length}
 use Rattle.std.specs.Prelude.{Result}
 use Rattle.ps_io.specs.Counts.{Rose}
@@ -19,7 +19,7 @@ use Rattle.ps_serve.specs.Answers.{IsWritten}
 use Rattle.ps_serve.specs.SharedAnswers.{AreFewThroughout, DoesSoAt, DrainsSo, StreamsAt}
 use Rattle.ps_serve.specs.SharedStreams.{AreTooManyAt, EndsSo}
 
--- want of memory is told, or its write failed
+-- out of memory is told, or its write failed
 told : (text : List ℕ) (old new : Option (List ℕ)) (before now status : ℕ) (end : End) → IsWritten Memory 503 text old new before now status end → ¬ Rose before now
     → (end ≡ Drained) ⊎ (end ≡ Memory)
 told text old new before now status Answered it quiet = inr it.end_is

@@ -44,11 +44,11 @@ pub record IsGone (wanted_status : ℕ) (text : List ℕ) (old new : Option (Lis
   pub front : GainsFront old new text
   pub rose : Rose before now
 
--- want of memory was told, or nothing was written
+-- out of memory was told, or nothing was written
 abbrev pub IsWant : Option (List ℕ) → Option (List ℕ) → ℕ → Type 0
 IsWant old new status = ((status ≡ 0) × (new ≡ old)) ⊎ ((status ≡ 503) × Gains old new (refusal_text 503))
 
--- a text was written with a status, and the connection ended as was wanted; or the write failed; or memory was wanting
+-- a text was written with a status, and the connection ended as was wanted; or the write failed; or it was out of memory
 abbrev pub IsWritten : End → ℕ → List ℕ → Option (List ℕ) → Option (List ℕ) → ℕ → ℕ → ℕ → End → Type 0
 IsWritten wanted wanted_status text old new before now status Answered = IsWhole wanted wanted_status text old new status Answered
 IsWritten wanted wanted_status text old new before now status Refused = IsWhole wanted wanted_status text old new status Refused

@@ -86,7 +86,7 @@ abbrev pub or_bad : {A E : Type 0} → Refusal → Result A E → Result A Refus
 or_bad refusal (Ok x) = Ok x
 or_bad refusal (Err fault) = Err refusal
 
--- what was answered is what is meant; of want of memory something is said
+-- what was answered is what is meant; where it is out of memory something is said
 abbrev pub ReadsOr : {X : Type 0} → Type 0 → Result X Refusal → Result X Refusal → Type 0
 ReadsOr wanting (Ok x) meant = meant ≡ Ok x
 ReadsOr wanting (Err Cut) meant = meant ≡ Err Cut
@@ -100,6 +100,6 @@ ReadsOr wanting (Err TooLarge) meant = meant ≡ Err TooLarge
 ReadsOr wanting (Err TooManyBuckets) meant = meant ≡ Err TooManyBuckets
 ReadsOr wanting (Err Memory) meant = wanting
 
--- the same, where want of memory says nothing
+-- the same, where out of memory says nothing
 abbrev pub Reads : {X : Type 0} → Result X Refusal → Result X Refusal → Type 0
 Reads result meant = ReadsOr (Unit {0}) result meant

@@ -84,7 +84,7 @@ module _ (fixed : Fixed) (low : ℕ) (history : List Event) where
 
   -- ---- streams
 
-  -- the request was refused, since the first take was, or for want of memory
+  -- the request was refused, since the first take was, or it is out of memory
   pub record IsRefusedSo (refusal : Refusal) (cause : Type 0) (old new : Option (List ℕ)) (before now : ℕ) (outcome : Outcome) : Type 0 where
     pub cause_is : cause
     pub refused : Refuses refusal old new before now outcome.status outcome.end
@@ -123,7 +123,7 @@ module _ (fixed : Fixed) (low : ℕ) (history : List Event) where
   abbrev pub AreFewThroughout : Asker → Type 0
   AreFewThroughout asker = (place : ℕ) → low ≤ place → place ≤ length history → length (names_of (ledger_at fixed.rules history place) asker) ≤ fixed.limits.buckets
 
-  -- a stream that was asked for, where that is wanted, ends drained or for want of memory, if the clock gives no moment that is not before the
+  -- a stream that was asked for, where that is wanted, ends drained or out of memory, if the clock gives no moment that is not before the
   -- token's end, there are never too many buckets, and no write failed
   abbrev pub DrainsSo : (ℕ → Type 0) → Bool → ℕ → ℕ → End → Result Asked Refusal → Type 0
   DrainsSo may_give until_drained before now end (Ok (asked.Stream asker positions exp)) =

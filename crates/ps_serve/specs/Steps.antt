@@ -41,7 +41,7 @@ Puts text old new before now (Err CutRequest) = ⊥
 Puts text old new before now (Err (TooMany count)) = ⊥
 Puts text old new before now (Err Memory) = ⊥
 
--- a text was written, and the items are those after it; or a first part, and they are those before it; or memory was wanting, and all is as before
+-- a text was written, and the items are those after it; or a first part, and they are those before it; or it was out of memory, and all is as before
 abbrev pub Writes : List ℕ → List Served → List Served → List Served → List Served → Option (List ℕ) → Option (List ℕ) → ℕ → ℕ → Result (Unit {0}) End → Type 0
 Writes text before_line after_line served served' old new before now (Ok done) = (served' ≡ after_line) × Gains old new text
 Writes text before_line after_line served served' old new before now (Err Answered) = ⊥

@@ -58,7 +58,7 @@ fn answer<K: Sink, C: Clock>(
 /// The request is read, and the first that applies is answered: a head that is none with 400 or one that is too long with 413;
 /// another path with 404, another method with 405, no accepted token with 401; for a POST no length with 411, too long a body
 /// with 413; a body or a query that is not of its form with 400. Then the store: where the feed is closed, or positions or
-/// numbers are used up, 409; where the asker has more buckets than the limit, 422. Want of memory is 503.
+/// numbers are used up, 409; where the asker has more buckets than the limit, 422. Out of memory is 503.
 /// Where the input ends or fails inside the request, nothing is written.
 ///
 /// A stream is one checkpoint: it ends `Drained` where that shows all that will ever be, and else `Answered`.

@@ -21,6 +21,6 @@ pub enum End {
         /// How many the asker had.
         count: u64,
     },
-    /// Want of memory.
+    /// Out of memory.
     Memory,
 }

@@ -69,7 +69,7 @@ fn verified(
     }
 }
 
-/// Who asks for what. The first that applies of `NotFound`, `NotAllowed`, `Unauthorized`; want of memory only where the path and the
+/// Who asks for what. The first that applies of `NotFound`, `NotAllowed`, `Unauthorized`; out of memory only where the path and the
 /// method are right and a token is named.
 pub fn admit(alloc: Global, keys: &Keys, head: &Head, now: u64) -> Result<Pass, Refusal>
     ensures { ReadsOr (IsOpen head.now) result (admitted keys.now now head.now) }

@@ -22,7 +22,7 @@ pub enum Refusal {
     TooLarge,
     /// The asker has more buckets than the limit: 422.
     TooManyBuckets,
-    /// Want of memory: 503.
+    /// Out of memory: 503.
     Memory,
 }
 

@@ -38,7 +38,7 @@ fn tell<K: Sink>(alloc: Global, status: u16, to: &mut K) -> (u16, End)
     }
 }
 
-// Tells want of memory, where there is enough for that.
+// Tells out of memory, where there is enough for that.
 fn want<K: Sink>(alloc: Global, to: &mut K) -> (u16, End)
     ensures written { IsWritten ends.Memory 503 (refusal_text 503) (K.taken to.old) (K.taken to.new) (K.faults to.old) (K.faults to.new) result.0 result.1 }
     ensures faults { K.faults to.old ≤ K.faults to.new }

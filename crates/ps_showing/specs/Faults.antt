@@ -1,8 +1,8 @@
--- Faults of a client that are want of memory.
+-- Faults of a client that are out of memory.
 use Rattle.ps_client.specs.declared.faults.ClientFault.{ClientFault}
 use Rattle.ps_client.specs.declared.faults.ClientFault.TheVariants.{OutOfOrder, BadLine, KeeperFault, QueueEmpty, QueueWaiting, Memory}
 
--- a fault of a client that is want of memory
+-- a fault of a client that is out of memory
 abbrev pub IsWant : ClientFault → Type 0
 IsWant OutOfOrder = ⊥
 IsWant (BadLine fault) = ⊥

@@ -1,11 +1,11 @@
-//! A client's fault, where it can be nothing but want of memory.
+//! A client's fault, where it can be nothing but out of memory.
 
 ghost use Rattle.ps_showing.specs.Faults.{IsWant};
 
 use ps_client::ClientFault;
 use ps_data::Memory;
 
-/// Want of memory, the one fault that it may be.
+/// Out of memory, the one fault that it may be.
 pub fn want_of_memory(fault: ClientFault) -> Memory
     requires { IsWant fault }
 {

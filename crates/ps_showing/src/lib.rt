@@ -1,4 +1,4 @@
-//! What is shown of a client: its rows, as they are printed, and a fault of it that is want of memory.
+//! What is shown of a client: its rows, as they are printed, and a fault of it that is out of memory.
 #![tactic(auto)]
 
 mod faults;

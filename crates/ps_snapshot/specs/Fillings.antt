@@ -45,7 +45,7 @@ ended_by (Some end) = Ended
 abbrev pub filled_of : FirstCopy → Filled
 filled_of copy = ended_by copy.end
 
--- the fault of a failure; or memory was wanting to name it
+-- the fault of a failure; or there is no memory to name it
 abbrev pub AnswersAgain : Failure → Result Filled FillFault → Type 0
 AnswersAgain failure (Ok filled) = ⊥
 AnswersAgain failure (Err fault) = (fault ≡ fault_of_failure failure) ⊎ (fault ≡ Memory)

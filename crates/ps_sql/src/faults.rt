@@ -23,7 +23,7 @@ pub enum SqlFault {
         /// The byte of the query, from 0.
         at: u32,
     },
-    /// Want of memory.
+    /// Out of memory.
     #[error("out of memory")]
     Memory,
 }

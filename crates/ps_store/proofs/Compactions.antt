@@ -193,7 +193,7 @@ module _ (fixed : Fixed) (old : Store) (history : List Event) (h : StoreStandsFo
     }),
   )
 
-  -- whichever fault is told, it is the want of memory
+  -- whichever fault is told, it is out of memory
   pub compact_faults : (log_length_of l name ≡ 0 → ⊥) → (logs : Logs) → ((bucket : List ℕ) → log_at logs bucket ≡ log_at old.logs bucket)
       → (result : Result Report CompactFault) → IsErrAnd result (λ fault. fault ≡ compacting.Memory) → Compacts fixed history name (record old { logs = logs }) result
   compact_faults some logs same (Ok report) is = absurd is

@@ -144,7 +144,7 @@ pub record IsFilled (old : Store) (plan : Plan) (new : Store) : Type 0 where
   pub closed : new.closed ≡ old.closed
   pub numbers : new.numbers ≡ old.numbers
 
--- the row of the next change has more entries than one may have, or memory is wanting to name it
+-- the row of the next change has more entries than one may have, or there is no memory to name it
 abbrev pub IsTooWide : Store → ℕ → WriteFault → Type 0
 IsTooWide store count fault =
     (fault ≡ writing.Memory)

@@ -17,7 +17,7 @@ pub enum FeedFault {
         /// The position of the last fed transaction, 0 where none.
         head: Position,
     },
-    /// Want of memory.
+    /// Out of memory.
     Memory,
 }
 
@@ -51,7 +51,7 @@ pub enum WriteFault {
         /// The last id that was given, 0 where none.
         last: OpId,
     },
-    /// Want of memory.
+    /// Out of memory.
     Memory,
 }
 
@@ -71,7 +71,7 @@ impl From<Memory> for WriteFault {
 pub enum CompactFault {
     /// The bucket never had an operation.
     NoBucket,
-    /// Want of memory.
+    /// Out of memory.
     Memory,
 }
 

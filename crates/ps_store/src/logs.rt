@@ -133,7 +133,7 @@ impl Logs {
         Ok(())
     }
 
-    /// Makes room for the operations of each bucket that is named. No operation changes, also where memory is wanting.
+    /// Makes room for the operations of each bucket that is named. No operation changes, also where it is out of memory.
     pub(crate) fn reserve_all(
         &mut self,
         alloc: Global,

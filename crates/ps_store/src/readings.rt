@@ -10,7 +10,7 @@ pub enum TakeFault {
         /// How many the asker has.
         count: u64,
     },
-    /// Want of memory.
+    /// Out of memory.
     Memory,
 }
 

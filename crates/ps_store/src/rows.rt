@@ -90,7 +90,7 @@ impl Rows {
         }
     }
 
-    /// Makes a place for a row. No row changes, also where memory is wanting.
+    /// Makes a place for a row. No row changes, also where it is out of memory.
     pub(crate) fn make_place(&mut self, key: RowKey) -> Result<(), Memory>
         ensures rows { (other : Key) → row_at self.new other ≡ row_at self.old other }
         ensures places { (other : Key) → has_place self.old other ≡ true → has_place self.new other ≡ true }

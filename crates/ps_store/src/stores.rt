@@ -175,7 +175,7 @@ impl Store {
         self.closed = true;
     }
 
-    // Makes all the room that a plan wants. Nothing that is held changes, also where memory is wanting.
+    // Makes all the room that a plan wants. Nothing that is held changes, also where it is out of memory.
     fn grow(&mut self, alloc: Global, plan: &Plan) -> Result<(), Memory>
         ensures same { IsSame self.old self.new }
         ensures room { OnOk result (HasRoom self.new.logs plan.now.entered.items) }
@@ -395,7 +395,7 @@ impl Store {
     }
 
     /// Makes a write checkpoint of a user's client at the position of the last fed transaction, 0 where none, and gives its number: one more
-    /// than the client's last one, first 1. `NumberFull` exactly where the last one is the limit of numbers, and before any want of memory.
+    /// than the client's last one, first 1. `NumberFull` exactly where the last one is the limit of numbers, and before any answer of out of memory.
     pub fn write_checkpoint(
         &mut self,
         alloc: Global,
@@ -453,7 +453,7 @@ impl Store {
     }
 }
 
-// Makes a place for the row of each of the first changes. No row changes, also where memory is wanting.
+// Makes a place for the row of each of the first changes. No row changes, also where it is out of memory.
 fn make_places(
     alloc: Global,
     rows: &mut Rows,

@@ -38,7 +38,7 @@ impl Tail {
         }
     }
 
-    /// Makes room for a transaction of so many changes. What is held stays, also where memory is wanting.
+    /// Makes room for a transaction of so many changes. What is held stays, also where it is out of memory.
     pub(crate) fn reserve(&mut self, more: usize) -> Result<(), Memory>
         ensures changes { self.new.changes.items ≡ self.old.changes.items }
         ensures reach { reached self.new.reach ≡ reached self.old.reach }

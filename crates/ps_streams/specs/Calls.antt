@@ -81,7 +81,7 @@ IsRightEvent course at old new (Held why) = Unit {0}
 IsRightEvent course at old new (Refused buckets) = ⊥
 IsRightEvent course at old new (Expiring seconds) = Unit {0}
 
--- no line is refused: a keeper's fault and want of memory are all that may come between
+-- no line is refused: a keeper's fault and out of memory are all that may come between
 abbrev pub IsRightFault : ClientFault → Type 0
 IsRightFault OutOfOrder = ⊥
 IsRightFault (BadLine fault) = ⊥

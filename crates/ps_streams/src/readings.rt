@@ -23,8 +23,8 @@ pub trait Readings {
     /// This may come to the history until the next call answers.
     ghost may_come: { Self → List EventSeen → Type 0 };
 
-    /// The checkpoint as it is for an asker. `TooManyBuckets` exactly where the asker has more buckets than the limit; else there may be
-    /// want of memory.
+    /// The checkpoint as it is for an asker. `TooManyBuckets` exactly where the asker has more buckets than the limit; else it may be
+    /// out of memory.
     fn take(&mut self, alloc: Global, asker: &Asker) -> Result<Taken, TakeFault>
         requires { (fixed : FixedSeen) × (history : List EventSeen) × stands self.old fixed history }
         ensures { (fixed : FixedSeen) (history : List EventSeen) → stands self.old fixed history

@@ -28,7 +28,7 @@ fewer bytes line (Some after) splits = omega (arith, splits.1)
 pub bytes_left-less : (bytes line : List ℕ) (rest : Option (Bor (List ℕ))) → SplitsLine bytes line rest → bytes_left rest < length bytes + 1
 bytes_left-less bytes line rest splits = omega (arith, fewer bytes line rest splits)
 
--- what is said unless memory was wanting
+-- what is said unless it was out of memory
 pub UnlessMemory-so : (fault : ChangeFault) (A B : Type 0) → (A → B) → UnlessMemory fault A → UnlessMemory fault B
 UnlessMemory-so (LineTooLong seen) A B so said = so said
 UnlessMemory-so BadJson A B so said = so said

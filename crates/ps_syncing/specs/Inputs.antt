@@ -32,7 +32,7 @@ changes_from done number (line ∷ lines) = if is_blank line then changes_from d
 unfoldable pub changes_of : List ℕ → Result (List Change) Refused
 changes_of bytes = changes_from [] 1 (lines_of bytes)
 
--- what was read is what is meant; of a refusal for want of memory nothing is said
+-- what was read is what is meant; of a refusal for being out of memory nothing is said
 abbrev pub UnlessMemory : ChangeFault → Type 0 → Type 0
 UnlessMemory (LineTooLong seen) holds = holds
 UnlessMemory BadJson holds = holds

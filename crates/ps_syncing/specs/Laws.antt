@@ -77,7 +77,7 @@ AlteredAtThirteen = WhereEnds 13 (λ o words e. NamesSo words (λ named. IsFaile
 
 -- ---- exactly there
 
--- it ends with that status; or the faults of the files rose, or memory was wanting
+-- it ends with that status; or the faults of the files rose, or it was out of memory
 abbrev pub EndsAt : ℕ → Outside → ℕ → Type 0
 EndsAt wanted o status = (status ≡ wanted) ⊎ (((status ≡ 6) × Rose o.read_before o.read_now) ⊎ (status ≡ 8))
 
@@ -103,7 +103,7 @@ FourForNoToken = EndsWhere 4 (λ o named. RefusesToken o.held named)
 abbrev pub FiveForALength : Type 0
 FiveForALength = EndsWhere 5 (λ o named. ((seen : ℕ) × ExceedsFile o.held named seen) ⊎ ((limit : Limit) × RefusesUpload o.held named (PastLimit limit)))
 
--- nothing but want of memory could have ended it before all was done
+-- nothing but out of memory could have ended it before all was done
 abbrev pub HasNoCause : Outside → Named → Type 0
 HasNoCause o named = (stop : Stop) → stop ≢ Shared Memory → Causes o named stop → ⊥
 

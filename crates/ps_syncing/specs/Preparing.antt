@@ -42,7 +42,7 @@ FindsToken token bytes = token_in bytes ≡ Some token
 abbrev pub HasNoToken : Stop → List ℕ → Type 0
 HasNoToken stop bytes = (stop ≡ Token) × (token_in bytes ≡ None)
 
--- the token of bytes was copied, or they hold none, or memory was wanting
+-- the token of bytes was copied, or they hold none, or it was out of memory
 abbrev pub ReadsTokenSo : List ℕ → Result (List ℕ) Stop → Type 0
 ReadsTokenSo bytes (Ok token) = FindsToken token bytes
 ReadsTokenSo bytes (Err stop) = HasNoToken stop bytes ⊎ (stop ≡ Shared Memory)
@@ -54,7 +54,7 @@ FindsChanges changes bytes = changes_of bytes ≡ Ok changes
 abbrev pub HasBadLine : Stop → List ℕ → Type 0
 HasBadLine stop bytes = (refused : Refused) × (stop ≡ Shared (line_fault refused.line refused.fault)) × (changes_of bytes ≡ Err refused)
 
--- the changes of bytes were read, or a line is refused, or memory was wanting
+-- the changes of bytes were read, or a line is refused, or it was out of memory
 abbrev pub ReadsUploadSo : List ℕ → Result (List Change) Stop → Type 0
 ReadsUploadSo bytes (Ok changes) = FindsChanges changes bytes
 ReadsUploadSo bytes (Err stop) = HasBadLine stop bytes ⊎ (stop ≡ Shared Memory)

@@ -196,7 +196,7 @@ RefusesWords words stop = (sync_of words ≡ None) × (stop ≡ Shared Usage)
 abbrev pub IsCaused : Outside → List (List ℕ) → Stop → Type 0
 IsCaused o words stop = (named : Named) × (sync_of words ≡ Some named) × Causes o named stop
 
--- why `sync` did not do what it was asked: its words, what they name, or memory was wanting
+-- why `sync` did not do what it was asked: its words, what they name, or it was out of memory
 abbrev pub StopsBy : Outside → List (List ℕ) → Stop → Type 0
 StopsBy o words stop = (Unprinted o × RefusesWords words stop) ⊎ (IsCaused o words stop ⊎ (Unprinted o × (stop ≡ Shared Memory)))
 

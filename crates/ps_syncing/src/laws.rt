@@ -3,7 +3,7 @@
 ghost use Rattle.ps_syncing.specs.Laws.{DoneAtZero, NoWordsAtOne, LineAtThree, TokenAtFour, LimitAtFive, UnreadAtSix, UnwrittenAtSeven, LostAtTen, UnansweredAtEleven, StatusAtTwelve, AlteredAtThirteen};
 ghost use Rattle.ps_syncing.specs.Laws.{OneForOtherWords, ThreeForALine, FourForNoToken, FiveForALength, ZeroForNoCause};
 
-/// A law: wherever `sync` ends with a status, that status's cause holds. With status 8 memory was wanting, which needs no cause.
+/// A law: wherever `sync` ends with a status, that status's cause holds. With status 8 it was out of memory, which needs no cause.
 pub fn statuses_have_their_causes()
     ensures done { DoneAtZero }
     ensures words { NoWordsAtOne }
@@ -19,7 +19,7 @@ pub fn statuses_have_their_causes()
 {}
 
 /// A law: where the words are none of `sync`, or a file that tells what it holds is refused, `sync` ends with that refusal's status, unless the faults of the
-/// files rose or memory was wanting. And where the words are those of `sync` and no other status has its cause, all is done, or memory was wanting.
+/// files rose or it was out of memory. And where the words are those of `sync` and no other status has its cause, all is done, or it was out of memory.
 pub fn statuses_come_exactly_there()
     ensures words { OneForOtherWords }
     ensures line { ThreeForALine }

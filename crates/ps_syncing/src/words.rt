@@ -88,7 +88,7 @@ fn named_by(alloc: Global, matches: &ArgMatches<'_>) -> Result<Option<Named>, Me
     }))
 }
 
-// Words that are refused, or for which memory is wanting.
+// Words that are refused, or for which there is no memory.
 fn refused(error: &Error) -> Result<Option<Named>, Memory>
     ensures none { IfOk result (λ named. named ≡ None) }
     ensures cause { IfOk result (λ _. kind_of error.now ≢ ErrorKind.OutOfMemory) }

@@ -27,7 +27,7 @@ abbrev pub seen_by : {X Y E : Type 0} → (X → Y) → Result X E → Result Y 
 seen_by view (Ok x) = Ok (view x)
 seen_by view (Err fault) = Err fault
 
--- what was read is what is meant, or the fault is; want of memory says nothing
+-- what was read is what is meant, or the fault is; out of memory says nothing
 abbrev pub ReadsKeys : {X : Type 0} → Result X KeysFault → Result X KeysFault → Type 0
 ReadsKeys (Ok x) meant = meant ≡ Ok x
 ReadsKeys (Err keys.BadJson) meant = meant ≡ Err keys.BadJson

@@ -8,7 +8,7 @@ pub enum KeysFault {
     BadJson,
     /// A member is missing or of the wrong kind, `k` is no base64url without padding, or a kid stands twice.
     BadShape,
-    /// Want of memory.
+    /// Out of memory.
     Memory,
 }
 
@@ -17,7 +17,7 @@ pub enum KeysFault {
 pub enum SignFault {
     /// No key has that kid.
     UnknownKey,
-    /// Want of memory.
+    /// Out of memory.
     Memory,
 }
 
@@ -38,7 +38,7 @@ pub enum TokenFault {
     },
     /// Its `sub` is no string.
     NoSubject,
-    /// Want of memory.
+    /// Out of memory.
     Memory,
 }
 

@@ -18,7 +18,7 @@ pub enum ValueFault {
     NotWhole,
     /// A number is from 2^63 to 2^64 - 1.
     TooBig,
-    /// Want of memory.
+    /// Out of memory.
     Memory,
 }
 

@@ -19,6 +19,6 @@ pub enum WorkEnd {
         /// The last id that was given, 0 where none.
         last: OpId,
     },
-    /// Want of memory.
+    /// Out of memory.
     Memory,
 }

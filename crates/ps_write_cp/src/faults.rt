@@ -6,7 +6,7 @@ use std::alloc::{AllocError, AllocFailed};
 pub enum NumberFault {
     /// The last number of the user's client is the greatest that may be given.
     NumberFull { last: u64 },
-    /// Want of memory.
+    /// Out of memory.
     Memory,
 }
 

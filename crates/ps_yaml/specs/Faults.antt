@@ -8,7 +8,7 @@ abbrev pub ◌>>=◌ : {A B : Type 0} → Result A YamlFault → (A → Result B
 (Ok x) >>= f = f x
 (Err fault) >>= f = Err fault
 
--- what a function returned, seen by a view, is what reading gives; of want of memory nothing is said
+-- what a function returned, seen by a view, is what reading gives; where it is out of memory nothing is said
 abbrev pub Reads : {X Y : Type 0} → (X → Y) → Result X YamlFault → Result Y YamlFault → Type 0
 Reads view (Ok x) meant = meant ≡ Ok (view x)
 Reads view (Err (BadIndent line column)) meant = meant ≡ Err (BadIndent line column)

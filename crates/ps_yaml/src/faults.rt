@@ -41,7 +41,7 @@ pub enum YamlFault {
         /// From 1, in bytes.
         column: u32,
     },
-    /// Want of memory.
+    /// Out of memory.
     #[error("out of memory")]
     Memory,
 }

@@ -3,7 +3,7 @@ use std::fmt::Debug;
 /// Why a script is not played to its end. It has no `Debug`, so that every error that has it becomes one.
 #[derive(Drop)]
 pub enum Stop {
-    /// Want of memory, or a line of this program that is not read.
+    /// Out of memory, or a line of this program that is not read.
     Broken,
     /// What came is not what has to come.
     Differs {

@@ -82,7 +82,7 @@ struct Found {
     wide: u64,
 }
 
-// What is found so many times on a row; None where memory is wanting.
+// What is found so many times on a row; None where it is out of memory.
 fn find(
     alloc: Global,
     rules: &Rules,
