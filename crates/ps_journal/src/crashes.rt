@@ -1,6 +1,6 @@
 //! What a crash leaves of a disk, for tests.
-ghost use Rattle.std.specs.Prelude.{◌≡◌, ◌⊎◌, ◌+◌, ◌<◌, ◌≤◌, ◌↔◌, true, false, IsTrue, IfOk, IfSome, length};
-ghost use Rattle.ps_journal.specs.Moments.{IsApart, furthest, MayLeave};
+ghost use Rattle.std.specs.Prelude.{◌≡◌, ◌⊎◌, ◌+◌, ◌<◌, ◌≤◌, ◌↔◌, true, false, IsTrue, None, IfOk, IfSome, length, min};
+ghost use Rattle.ps_journal.specs.Moments.{IsApart, furthest, IsOfNoLength, MayLeave};
 
 use crate::{Moment, Span};
 use ps_data::Memory;
@@ -32,7 +32,8 @@ fn is_apart(place: u64, spans: &[Span]) -> bool
 // How long the longest content is that a crash at this moment leaves, up to 2^64 - 1.
 #[tactic(auto, using(crate::proofs::Spans::furthest_at))]
 fn longest_left(moment: &Moment) -> u64
-    ensures { result ≤ furthest (length moment.now.sure) moment.now.spans }
+    ensures most { result ≤ furthest (length moment.now.sure) moment.now.spans }
+    ensures least { min (furthest (length moment.now.sure) moment.now.spans) 18446744073709551615 ≤ result }
 {
     let mut longest = moment.sure.len() as u64;
     'spans: for span in moment.spans.as_slice() {
@@ -48,7 +49,9 @@ pub fn left_by_crash(
     moment: &Moment,
     bytes: &[u8],
 ) -> Result<Option<Vec<u8>>, Memory>
-    ensures { IfOk result (λ found. IfSome found (λ left. MayLeave moment.now left.items)) }
+    ensures left { IfOk result (λ found. IfSome found (λ left. MayLeave moment.now left.items)) }
+    ensures itself { IfOk result (λ found. MayLeave moment.now bytes.now → IfSome found (λ left. left.items ≡ bytes.now)) }
+    ensures none { IfOk result (λ found. found ≡ None → IsOfNoLength moment.now (length bytes.now)) }
 {
     let sure = moment.sure.as_slice();
     if bytes.len() < sure.len() || bytes.len() as u64 > longest_left(moment) {
