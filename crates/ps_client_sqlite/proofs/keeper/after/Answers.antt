@@ -31,4 +31,4 @@ returns-clause-reached c =
     let state = c.in_ok-state.state in
     let writes = c.in_ok-writes.writes.items in
     subst (λ (lines : List Queued). with_writes (stored_of kept lines) writes ≡ stored_of state c.in_ok-waiting.waiting) c.as_slice-2.ensures
-    (subst (λ (lines : List Queued). with_writes (stored_of kept _) writes ≡ stored_of state lines) c.as_slice-3.ensures c.in_ok-writes.ensures.reached)
+    (subst (λ (lines : List Queued). with_writes (stored_of kept c.as_slice-2.result.now) writes ≡ stored_of state lines) c.as_slice-3.ensures c.in_ok-writes.ensures.reached)
