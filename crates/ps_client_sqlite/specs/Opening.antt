@@ -5,6 +5,8 @@ use Rattle.sqlite.specs.State.{State, HasCleanDisk}
 use Rattle.sqlite.specs.declared.error.ErrorCode.TheVariants.{OutOfMemory}
 use Rattle.sqlite.specs.declared.error.Error.{Error}
 use Rattle.sqlite.specs.declared.error.Error.TheVariants.{SqliteFailure}
+use Rattle.ps_client_lines.specs.declared.faults.RowsFault.{RowsFault}
+use Rattle.ps_client_lines.specs.declared.faults.RowsFault.TheVariants as rows
 use Rattle.ps_client_tables.specs.Schemas.{no_schema}
 use Rattle.ps_client_tables.specs.Steps.{IsClient, IsFresh}
 use Rattle.ps_client_sqlite.specs.declared.faults.StoreFault.{StoreFault}
@@ -27,3 +29,8 @@ abbrev pub IsRefused : Error → StoreFault → Type 0
 IsRefused error Failed = error ≢ SqliteFailure OutOfMemory
 IsRefused error (BadState table) = ⊥
 IsRefused error Memory = error ≡ SqliteFailure OutOfMemory
+
+-- rows that are no state are told with their table
+abbrev pub fault_of_rows : RowsFault → StoreFault
+fault_of_rows (rows.BadState table) = BadState table
+fault_of_rows rows.Memory = Memory

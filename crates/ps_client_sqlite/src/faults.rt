@@ -1,7 +1,7 @@
 //! Why a store was not opened.
 
 ghost use Rattle.std.specs.Prelude.{◌≡◌};
-ghost use Rattle.ps_client_sqlite.specs.Opening.{IsRefused};
+ghost use Rattle.ps_client_sqlite.specs.Opening.{IsRefused, fault_of_rows};
 
 use ps_client_lines::RowsFault;
 use ps_data::Memory;
@@ -42,7 +42,9 @@ pub fn refused(error: &Error) -> StoreFault
 }
 
 // What rows that are no state are to one who opens a store.
-pub fn of_rows(fault: RowsFault) -> StoreFault {
+pub fn of_rows(fault: RowsFault) -> StoreFault
+    ensures { result ≡ fault_of_rows fault }
+{
     match fault {
         RowsFault::BadState { table } => StoreFault::BadState { table },
         RowsFault::Memory => StoreFault::Memory,
