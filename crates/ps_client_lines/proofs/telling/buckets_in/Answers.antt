@@ -20,5 +20,5 @@ returns-in-Err-clause-blames c = blamed (BlamesBuckets c.args.rows.now) 1 c.in-E
 
 pub returns-in-Err-bucket_states-clause-blames : goal.returns-in-Err-bucket_states-clause-blames
 returns-in-Err-bucket_states-clause-blames c =
-    blamed (BlamesBuckets c.args.rows.now) 2 c.in-Err-bucket_states.refusal c.at_table.result c.at_table.ensures
+    blamed (BlamesBuckets c.args.rows.now) 2 c.in-Err-bucket_states.refusal c.at_table-in-Err-bucket_states.result c.at_table-in-Err-bucket_states.ensures
     (inr (refl, (c.in-Ok.lines.items, c.in-Ok.ensures.rows ∙ c.as_slice.ensures))) tt

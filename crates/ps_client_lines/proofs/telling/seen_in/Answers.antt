@@ -10,5 +10,5 @@ returns-in-Err-clause-blames c = blamed (BlamesSeen c.args.rows.now) 4 c.in-Err.
 
 pub returns-in-Err-shown_list-clause-blames : goal.returns-in-Err-shown_list-clause-blames
 returns-in-Err-shown_list-clause-blames c =
-    blamed (BlamesSeen c.args.rows.now) 5 c.in-Err-shown_list.refusal c.at_table.result c.at_table.ensures
+    blamed (BlamesSeen c.args.rows.now) 5 c.in-Err-shown_list.refusal c.at_table-in-Err-shown_list.result c.at_table-in-Err-shown_list.ensures
     (inr (refl, (c.in-Ok.target, subst (λ (rows : List Row). AreAimRows c.in-Ok.target rows) c.as_slice.ensures c.in-Ok.ensures.rows, c.in-Ok.ensures.sound))) tt
