@@ -92,3 +92,7 @@ numbers_if_pushed old text change (Err e) pushes next anew = tt
 pub numbers_popped : (lines : List Queued) → numbers_of (drop 1 lines) ≡ drop 1 (numbers_of lines)
 numbers_popped [] = refl
 numbers_popped (line ∷ lines) = refl
+
+pub changes_popped : (lines : List Queued) → changes_of (drop 1 lines) ≡ drop 1 (changes_of lines)
+changes_popped [] = refl
+changes_popped (line ∷ lines) = refl
