@@ -117,7 +117,19 @@ fn tables_after(alloc: Global, steps: &str) -> Result<String, Stop> {
     }
 }
 
-/// Takes steps, which `|` parts, over a database on a disk that stops at each call in turn. For each call of the last step it says which tables a crash leaves.
+// How the last step ended, and which tables a crash leaves then.
+fn left(is_taken: bool, tables: &str, before: &str, after: &str) -> &'static str {
+    match (is_taken, tables == before, tables == after) {
+        (false, true, _) => "failed before; ",
+        (false, false, true) => "failed after; ",
+        (false, false, false) => "failed neither; ",
+        (true, _, true) => "taken after; ",
+        (true, _, false) => "taken and not after; ",
+    }
+}
+
+/// Takes steps, which `|` parts, over a database on a disk that stops at each call in turn. For the calls of the last step it says how the
+/// step ended and which tables a crash leaves, where that is not as for the call before.
 pub fn write_crashes(alloc: Global, steps: &str, out: &mut String) -> Result<(), Stop> {
     let Some((first, _last)) = steps.rsplit_once('|') else {
         return Err("there are two steps at least".into());
@@ -125,6 +137,7 @@ pub fn write_crashes(alloc: Global, steps: &str, out: &mut String) -> Result<(),
     let before = tables_after(alloc, first)?;
     let after = tables_after(alloc, steps)?;
     let count = steps.split('|').count() as u64;
+    let mut said = "";
     'calls: for calls in 0..CALLS {
         let Some(run) = make_run(alloc, calls, steps)? else {
             continue;
@@ -132,20 +145,14 @@ pub fn write_crashes(alloc: Global, steps: &str, out: &mut String) -> Result<(),
         if run.taken + 1 < count {
             continue;
         }
+        let is_taken = run.taken == count;
         let tables = tables_in(alloc, run.files)?;
-        out.push_str(if run.taken == count {
-            "taken"
-        } else {
-            "failed"
-        })?;
-        if tables.as_str() == before.as_str() {
-            out.push_str(" before; ")?;
-        } else if tables.as_str() == after.as_str() {
-            out.push_str(" after; ")?;
-        } else {
-            out.push_str(" neither; ")?;
+        let says = left(is_taken, tables.as_str(), before.as_str(), after.as_str());
+        if says != said {
+            out.push_str(says)?;
+            said = says;
         }
-        if run.taken == count {
+        if is_taken {
             return Ok(());
         }
     }

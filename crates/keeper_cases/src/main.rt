@@ -9,8 +9,8 @@
 //! - `tables` prints the rows of all tables.
 //! - `sql TEXT` runs a statement on the database, opens its tables, and prints how that ends.
 //!
-//! `crash COUNT SQL..` has COUNT local writes made over a database on a disk in memory, then a stream that is applied, and stops all calls of the disk's log from
-//! some call on: for each such call of the stream's last commit it prints whether the tables then hold the state before that commit or the one after it.
+//! `crash STEP|STEP..` takes steps over a database on a disk in memory, and stops all calls of the disk's log from some call on. For each such call of the last step
+//! it says how that step ended, and whether a crash then leaves the tables as they were before that step or as they are after it; what is said once is not repeated.
 //!
 //! A line that begins with `#` is a heading, and is printed as it stands.
 #![tactic(auto)]

@@ -13,3 +13,4 @@ pub mod Makings
 pub mod Bounds
 pub mod Lines
 pub mod Waiting
+pub mod Blamed

@@ -247,7 +247,8 @@ fn add_shown(
     add_shown_writes(writes, changes)
 }
 
-/// The row writes that make the second state of the first, in the order of the tables. Only rows in which they differ are written.
+/// The row writes that make the second state of the first, in the order of the tables. Only rows in which they differ are written. Fails only
+/// for want of memory.
 pub fn difference(
     alloc: Global,
     old: &State,

@@ -18,11 +18,10 @@ ghost use Rattle.ps_client_sqlite.specs.Editing.{numbers_after_all};
 ghost use Rattle.ps_client_sqlite.specs.Keeping.{connection_of, state_of, writes_of, faults_of, Counts, CountsAt, IsBlamed, IsFrom, LeavesEdited, Stands};
 
 use crate::copies::{queue_copy, state_copy};
-use crate::faults::of_rows;
-use crate::reading::{read_again, read_tables};
+use crate::reading::{read_again, read_state};
 use crate::writing::write_all;
 use crate::{RowWrite, StoreFault, after_edits, difference, with_tables};
-use ps_client_lines::{Queued, state_in};
+use ps_client_lines::Queued;
 use ps_client_log::{Edit, KeepFault, Keeper, State, edited};
 use ps_data::{Items, Memory};
 use sqlite::{Alter, Connection, Error, ErrorCode};
@@ -103,23 +102,20 @@ fn read<S: Alter + Drop>(
     ensures uncounted { IfOk result (λ keeper. faults_of keeper ≡ 0) }
 {
     let mut connection = connection;
-    let rows = match read_tables(alloc, &mut connection) {
-        Ok(rows) => rows,
-        Err(fault) => return Err(fault),
-    };
-    match state_in(alloc, &rows) {
+    match read_state(alloc, &mut connection) {
         Ok(told) => Ok(SqliteKeeper {
             connection,
             kept: told.0,
             writes: told.1,
             faults: 0,
         }),
-        Err(fault) => Err(of_rows(fault)),
+        Err(fault) => Err(fault),
     }
 }
 
 impl<S: Alter + Drop> SqliteKeeper<S> {
-    /// Keeps what the tables of a database hold, which are made where it has none.
+    /// Keeps what the tables of a database hold, as `read_state` reads it; they are made where it has none. Fails with `Failed` where a statement is refused or the
+    /// database has other tables than a client's, with `BadState` as `read_state` does, and with `Memory`.
     pub fn open(alloc: Global, connection: Connection<S>) -> Result<SqliteKeeper<S>, StoreFault>
         ensures stands { IfOk result (λ keeper. Stands (state_of keeper) (writes_of keeper) (state S.Store (connection_of keeper))) }
         ensures rows { IfOk result (λ keeper. HasCleanDisk (state S.Store (connection_of keeper)) → IsTrue (state S.Store (connection_of keeper)).is_open
@@ -163,7 +159,8 @@ fn after(alloc: Global, kept: &State, queue: &Items<Queued>, edits: &[Edit]) -> 
 }
 
 impl<S: Alter> SqliteKeeper<S> {
-    /// Keeps another state, which these row writes make of what the tables hold: all of them in one transaction, or none.
+    /// Keeps another state, which these row writes make of what the tables hold: all of them in one transaction, or none. Fails with `Failed`, which is
+    /// counted, where a statement is refused for another cause than memory, and with `Memory`.
     pub fn turn(
         &mut self,
         next: State,
@@ -199,7 +196,7 @@ impl<S: Alter> SqliteKeeper<S> {
     }
 
     /// Makes all the edits, one after another, by one transaction that writes only the rows that change; or none. The new state is computed
-    /// before anything is written, in time and memory in line with the state and the edits.
+    /// before anything is written, in time and memory in line with the state and the edits. Fails as `turn` does; nothing has changed then.
     pub fn make(&mut self, alloc: Global, edits: &[Edit]) -> Result<(), KeepFault>
         requires { CanMakeAll (kept_of (state_of self.old)) edits.now }
         ensures ok { OnOk result (kept_of (state_of self.new) ≡ with_edits (kept_of (state_of self.old)) edits.now) }
@@ -219,7 +216,8 @@ impl<S: Alter> SqliteKeeper<S> {
         self.turn(state, queue, writes.as_slice())
     }
 
-    /// The state that it keeps. The tables are read again, and it fails where they have a row that is none of a state.
+    /// The state that it keeps. The tables are read again: it fails with `Failed`, which is counted, where a statement is refused for another cause
+    /// than memory or they have a row that is none of a state, and with `Memory`.
     pub fn tell(&mut self, alloc: Global) -> Result<State, KeepFault>
         ensures told { IfOk result (λ told. told ≡ state_of self.old) }
         ensures same { state_of self.new ≡ state_of self.old }
@@ -238,7 +236,7 @@ impl<S: Alter> SqliteKeeper<S> {
         }
     }
 
-    /// Its connection.
+    /// Gives its connection back.
     pub fn into_connection(self) -> Connection<S>
         ensures { result ≡ connection_of self }
     {

@@ -19,5 +19,6 @@ pub use faults::StoreFault;
 pub use keeper::SqliteKeeper;
 pub use numbering::pushed;
 pub use opening::with_tables;
+pub use reading::read_state;
 pub use writes::RowWrite;
 pub use writing::write_all;
