@@ -1,5 +1,5 @@
 -- Local writes that are added, and that leave.
-use Rattle.std.proofs.Common.{◌≡◌, ◌≢◌, ◌⊎◌, inl, inr, ℕ, suc, ℤ, pos, ◌+◌, ◌-◌, ◌+ℤ◌, Bool, true, false, true≢false, cond, Option, Some, None, option_map, length, length-append, List, [], ◌∷◌, ◌++◌, drop, get_or, All, Result, Ok, Err, IfOk, refl, sym, ap, subst, ◌∙◌, arith}
+use Rattle.std.proofs.Common.{◌≡◌, ◌≢◌, ◌⊎◌, inl, ℕ, suc, ℤ, pos, ◌+◌, ◌-◌, ◌+ℤ◌, Bool, true, false, true≢false, cond, Option, Some, None, option_map, length, length-append, List, [], ◌∷◌, ◌++◌, drop, get_or, All, Result, Ok, Err, IfOk, refl, sym, ap, subst, ◌∙◌, arith}
 use Rattle.std.specs.List.{AllByRecursion, slice_get}
 use Rattle.std.specs.Option.{option_map_or}
 use Rattle.std.specs.Ordering.{int_eq}

@@ -1,5 +1,5 @@
 -- Changes are noted until they make the new rows of the old ones.
-use Rattle.std.proofs.Common.{◌≡◌, ◌≢◌, Bool, true, false, true≢false, not, cond, Decides, List, [], ◌∷◌, ◌++◌, Option, Some, None, IfSome, is_some, fold, All, ◌⊎◌, inl, inr, refl, sym, ap, subst, ◌∙◌}
+use Rattle.std.proofs.Common.{◌≡◌, ◌≢◌, Bool, true, false, true≢false, not, cond, Decides, List, [], ◌∷◌, ◌++◌, Option, Some, None, IfSome, is_some, All, ◌⊎◌, inl, inr, refl, sym, ap, subst, ◌∙◌}
 use Rattle.std.specs.Option.{option_or}
 use Rattle.std.specs.List.{AllByRecursion, IsDistinct}
 use Rattle.std.specs.Map.{lookup, keys_of, update}

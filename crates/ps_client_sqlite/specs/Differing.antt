@@ -1,5 +1,5 @@
 -- How what keys have changes.
-use Rattle.std.specs.Prelude.{◌≡◌, ◌≢◌, Bool, List, Option, None, Some, IfSome, fold}
+use Rattle.std.specs.Prelude.{◌≡◌, ◌≢◌, Bool, List, Option, None, fold}
 use Rattle.std.specs.Map.{update, update_all}
 use Rattle.std.specs.List.{All}
 

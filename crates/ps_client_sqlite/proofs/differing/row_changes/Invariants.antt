@@ -1,4 +1,3 @@
-use Rattle.std.proofs.Common.{◌≡◌}
 use Rattle.indexmap.specs.IndexMap.{get}
 use Rattle.ps_client_sqlite.specs.Differing.{rows_at}
 use Rattle.ps_client_sqlite.proofs.Notings.{Noting, Dropping}
