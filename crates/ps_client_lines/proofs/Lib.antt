@@ -1,3 +1,4 @@
 pub mod Listing
 pub mod Sound
 pub mod Keys
+pub mod Blaming

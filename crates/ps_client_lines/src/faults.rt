@@ -1,6 +1,7 @@
 //! Why rows are no state.
 
 ghost use Rattle.std.specs.Prelude.{◌≡◌};
+ghost use Rattle.ps_client_lines.specs.Refusing.{fault_at};
 
 use ps_data::Memory;
 use std::alloc::{AllocError, AllocFailed};
@@ -65,7 +66,9 @@ impl<T: Drop> From<AllocFailed<T>> for Refusal {
 }
 
 // What a refusal of the rows of a table is.
-pub fn at_table(refusal: Refusal, table: u8) -> RowsFault {
+pub fn at_table(refusal: Refusal, table: u8) -> RowsFault
+    ensures { result ≡ fault_at table refusal }
+{
     match refusal {
         Refusal::Bad => RowsFault::BadState { table },
         Refusal::Memory => RowsFault::Memory,

@@ -1,10 +1,11 @@
 //! The state that the rows of all tables are.
 
-ghost use Rattle.std.specs.Prelude.{◌≡◌, map, IfOk};
+ghost use Rattle.std.specs.Prelude.{◌≡◌, map, IfOk, IfErr};
 ghost use Rattle.std.specs.List.{All, IsDistinct};
 ghost use Rattle.ps_changes.specs.LongLines.{IsLongChange};
 ghost use Rattle.ps_client_log.specs.Soundness.{IsSoundState, IsSoundTarget, same_row};
 ghost use Rattle.ps_client_lines.specs.Rows.{bucket_rows, entry_rows, queue_rows, shown_rows};
+ghost use Rattle.ps_client_lines.specs.Refusing.{Blames, BlamesBuckets, BlamesQueue, BlamesSeen};
 ghost use Rattle.ps_client_lines.specs.Holding.{AreAimRows, AreRowsOf, AreRising, AreSoundBuckets};
 
 use crate::faults::at_table;
@@ -31,6 +32,7 @@ fn buckets_in(alloc: Global, rows: &Rows) -> Result<Items<BucketState>, RowsFaul
     ensures buckets { IfOk result (λ states. bucket_rows states ≡ rows.now.buckets) }
     ensures entries { IfOk result (λ states. entry_rows states ≡ rows.now.entries) }
     ensures sound { IfOk result AreSoundBuckets }
+    ensures blames { IfErr result (BlamesBuckets rows.now) }
 {
     let lines = match bucket_lines(alloc, rows.buckets.as_slice()) {
         Ok(lines) => lines,
@@ -47,6 +49,7 @@ fn writes_in(alloc: Global, rows: &Rows) -> Result<Items<Queued>, RowsFault>
     ensures rows { IfOk result (λ queue. queue_rows queue ≡ rows.now.queue) }
     ensures rising { IfOk result AreRising }
     ensures texts { IfOk result (All (λ line. IsLongChange line.text line.change)) }
+    ensures blames { IfErr result BlamesQueue }
 {
     match queue_in(alloc, rows.queue.as_slice()) {
         Ok(queue) => Ok(queue),
@@ -60,6 +63,7 @@ fn seen_in(alloc: Global, rows: &Rows) -> Result<(Target, Items<Shown>), RowsFau
     ensures target { IfOk result (λ seen. IsSoundTarget seen.0) }
     ensures shown { IfOk result (λ seen. shown_rows seen.1 ≡ rows.now.shown) }
     ensures objects { IfOk result (λ seen. IsDistinct same_row seen.1) }
+    ensures blames { IfErr result (BlamesSeen rows.now) }
 {
     let target = match aim_in(rows.aim.as_slice()) {
         Ok(target) => target,
@@ -77,6 +81,8 @@ pub fn state_in(alloc: Global, rows: &Rows) -> Result<(State, Items<Queued>), Ro
     ensures rows { IfOk result (λ told. AreRowsOf told.0 told.1 rows.now) }
     ensures sound { IfOk result (λ told. IsSoundState told.0) }
     ensures rising { IfOk result (λ told. AreRising told.1) }
+    // The rows of the tables before the one that is named are those of a state.
+    ensures blames { IfErr result (Blames rows.now) }
 {
     let buckets = buckets_in(alloc, rows)?;
     let writes = writes_in(alloc, rows)?;

@@ -6,4 +6,11 @@ pub mod Turning
 pub mod Cells
 pub mod Stated
 pub mod Standing
+pub mod Edited
 pub mod Ranks
+pub mod Notings
+pub mod Makings
+pub mod Bounds
+pub mod Lines
+pub mod Waiting
+pub mod Blamed

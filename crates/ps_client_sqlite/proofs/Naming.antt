@@ -83,7 +83,7 @@ keys_equal a b h =
     let subkey = texts_equal a.subkey b.subkey parts.1 in
     λ i. record { kind = kind i; id = id i; subkey = subkey i }
 
-entry_equal : (a b : List ℕ × Key) → same_place a.0 a.1 b.0 b.1 ≡ true → a ≡ b
+pub entry_equal : (a b : List ℕ × Key) → same_place a.0 a.1 b.0 b.1 ≡ true → a ≡ b
 entry_equal a b h =
     let parts = and_parts _ _ h in
     let bucket = texts_equal a.0 b.0 parts.0 in

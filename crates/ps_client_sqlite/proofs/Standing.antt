@@ -6,8 +6,7 @@ use Rattle.sqlite.specs.State.{State as Connected, HasCleanDisk, IsUnchanged}
 use Rattle.ps_client_log.specs.declared.states.State.{State}
 use Rattle.ps_client_log.specs.Soundness.{IsSoundState}
 use Rattle.ps_client_lines.specs.declared.lines.Queued.{Queued}
-use Rattle.ps_client_lines.specs.declared.rows.Rows.{Rows}
-use Rattle.ps_client_lines.specs.Holding.{AreRowsOf, AreRising}
+use Rattle.ps_client_lines.specs.Holding.{AreQueued, AreRising}
 use Rattle.ps_client_tables.specs.Schemas.{no_schema}
 use Rattle.ps_client_tables.specs.Tables.{Tables, tables_in}
 use Rattle.ps_client_tables.specs.Steps.{IsClient, tables_of}
@@ -15,27 +14,25 @@ use Rattle.ps_client_sqlite.specs.declared.writes.RowWrite.{RowWrite}
 use Rattle.ps_client_sqlite.specs.Stored.{Stored, Holds, with_writes}
 use Rattle.ps_client_sqlite.specs.Steps.{Kept, LeavesOr}
 use Rattle.ps_client_sqlite.specs.Stating.{stored_of}
-use Rattle.ps_client_sqlite.specs.Reading.{AreTablesRead}
 use Rattle.ps_client_sqlite.specs.Opening.{Settles, IsOfCommit}
 use Rattle.ps_client_sqlite.specs.Keeping.{Keeping, connection_of, state_of, writes_of, Stands, IsFrom}
 use Rattle.ps_client_sqlite.proofs.Turning.{client_then, tables_then}
-use Rattle.ps_client_sqlite.proofs.Stated.{stated}
 
 -- the state that was read from the tables of a settled database
-pub read_stands : (old new : Connected) (rows : Rows) (state : State) (writes : List Queued) → Settles old → new.in_transaction ≡ false → AreRowsOf state writes rows → IsSoundState state → AreRising writes
-    → (HasCleanDisk new → HasCleanDisk old) → (HasCleanDisk new → IsTrue old.is_open) → (HasCleanDisk new → IsClient old → IsUnchanged old new) → (HasCleanDisk new → IsClient old → AreTablesRead (tables_of old) rows)
+pub read_stands : (old new : Connected) (state : State) (writes : List Queued) → Settles old → new.in_transaction ≡ false → IsSoundState state → AreQueued writes state.queue → AreRising writes
+    → (HasCleanDisk new → HasCleanDisk old) → (HasCleanDisk new → IsTrue old.is_open) → (HasCleanDisk new → IsClient old → IsUnchanged old new) → (HasCleanDisk new → IsClient old → Holds (stored_of state writes) (tables_of old))
     → Stands state writes new
-read_stands old new rows state writes settled outside are sound rising clean opened same read = record {
+read_stands old new state writes settled outside sound queued rising clean opened same read = record {
   outside = outside;
   sound = sound;
-  queued = are.changes;
+  queued = queued;
   rising = rising;
   keeps = λ disk alive.
       let was = settled (clean disk) (opened disk) in
       let unchanged = same disk was.client in
       record {
         client = client_then old new unchanged was.client;
-        rows = subst (Holds (stored_of state writes)) (sym (tables_then old new unchanged)) (stated (tables_of old) rows state writes (read disk was.client) are sound rising);
+        rows = subst (Holds (stored_of state writes)) (sym (tables_then old new unchanged)) (read disk was.client);
         settled = unchanged.0.now_is ∙ was.settled ∙ sym unchanged.0.committed_is;
       };
 }

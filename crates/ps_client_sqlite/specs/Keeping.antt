@@ -1,10 +1,11 @@
 -- What a keeper over a database keeps.
-use Rattle.std.specs.Prelude.{◌≡◌, ◌≢◌, ◌⊎◌, ℕ, false, List, Result, Ok, Err}
+use Rattle.std.specs.Prelude.{◌≡◌, ◌≢◌, ◌⊎◌, ℕ, false, List, IsTrue, Result, Ok, Err}
 use Rattle.sqlite.specs.declared.error.ErrorCode.TheVariants.{OutOfMemory}
 use Rattle.sqlite.specs.declared.error.Error.{Error}
 use Rattle.sqlite.specs.declared.error.Error.TheVariants.{SqliteFailure}
 use Rattle.sqlite.specs.Effect.{IsDatabase}
-use Rattle.sqlite.specs.State.{State as Connected}
+use Rattle.sqlite.specs.State.{State as Connected, HasCleanDisk}
+use Rattle.sqlite.specs.Tree.{Trees}
 use Rattle.sqlite.specs.Held.{Held}
 use Rattle.ps_io.specs.Counts.{Rose}
 use Rattle.ps_client_log.specs.declared.states.State.{State}
@@ -16,7 +17,8 @@ use Rattle.ps_client_lines.specs.Holding.{AreQueued, AreRising}
 use Rattle.ps_client_tables.specs.Schemas.{no_schema}
 use Rattle.ps_client_tables.specs.Tables.{tables_in, no_rows}
 use Rattle.ps_client_sqlite.specs.Stored.{Holds}
-use Rattle.ps_client_sqlite.specs.Steps.{Kept}
+use Rattle.ps_client_log.specs.Kept.{Kept, kept_of}
+use Rattle.ps_client_sqlite.specs.Steps.{Kept as IsKept}
 use Rattle.ps_client_sqlite.specs.Stating.{stored_of}
 
 -- a keeper is its connection, the state and the local writes with their numbers and texts, as they are held in memory, and its count of faults
@@ -42,7 +44,7 @@ pub record Stands (state : State) (writes : List Queued) (s : Connected) : Type 
   pub sound : IsSoundState state
   pub queued : AreQueued writes state.queue
   pub rising : AreRising writes
-  pub keeps : Kept (stored_of state writes) s
+  pub keeps : IsKept (stored_of state writes) s
 
 -- the tables that the last commit left hold the state, or it left a database without tables, and the state is of no rows
 abbrev pub IsFrom : Connected → State → List Queued → Type 0
@@ -61,3 +63,8 @@ Counts (Err fault) before now = CountsAt fault before now
 abbrev pub IsBlamed : Error → KeepFault → Type 0
 IsBlamed error Failed = error ≢ SqliteFailure OutOfMemory
 IsBlamed error Memory = error ≡ SqliteFailure OutOfMemory
+
+-- a crash leaves what it could leave before, or tables that hold a state that keeps this
+abbrev pub LeavesEdited : Connected → Connected → Kept → Type 0
+LeavesEdited old new kept = HasCleanDisk new → IsTrue old.is_open → (db : Trees) → new.may_leave db
+    → old.may_leave db ⊎ ((state : State) × (writes : List Queued) × (kept_of state ≡ kept) × Holds (stored_of state writes) (tables_in db))

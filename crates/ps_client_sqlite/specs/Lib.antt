@@ -5,3 +5,6 @@ pub mod Stating
 pub mod Opening
 pub mod Keeping
 pub mod Numbering
+pub mod Differing
+pub mod Writing
+pub mod Editing

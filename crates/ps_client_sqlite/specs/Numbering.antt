@@ -1,6 +1,7 @@
 -- The numbers of local writes.
-use Rattle.std.specs.Prelude.{◌≡◌, ℕ, zero, suc, ℤ, pos, ◌-◌, ◌+ℤ◌, List, [], ◌∷◌, ◌++◌, map, length, slice_get}
+use Rattle.std.specs.Prelude.{◌≡◌, ℕ, zero, suc, ℤ, pos, ◌+◌, ◌-◌, ◌+ℤ◌, if◌then◌else◌, List, [], ◌∷◌, ◌++◌, map, length, slice_get}
 use Rattle.std.specs.Option.{option_map_or}
+use Rattle.std.specs.Ordering.{int_eq}
 use Rattle.ps_rows.specs.declared.changes.Change.{Change}
 use Rattle.ps_client_lines.specs.declared.lines.Queued.{Queued}
 use Rattle.ps_client_lines.specs.Holding.{AreRising}
@@ -28,3 +29,11 @@ pub record Pushes (old new : List Queued) (text : List ℕ) (change : Change) : 
   pub changes : changes_of new ≡ changes_of old ++ change ∷ []
   pub texts : texts_of new ≡ texts_of old ++ text ∷ []
   pub rising : AreRising new
+
+-- the last of numbers, 0 where there is none
+abbrev pub last_of : List ℤ → ℤ
+last_of numbers = option_map_or (λ n. n) (slice_get numbers (length numbers - 1)) (pos 0)
+
+-- one number more: the one after the last, or, where the last is the greatest of 64 bits, all the numbers from 1 on
+abbrev pub numbered : List ℤ → List ℤ
+numbered numbers = if int_eq (last_of numbers) (pos 9223372036854775807) then first_numbers (length numbers + 1) else numbers ++ (last_of numbers +ℤ pos 1) ∷ []

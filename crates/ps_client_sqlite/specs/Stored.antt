@@ -1,5 +1,5 @@
 -- What a client's tables hold, by the primary key of each row.
-use Rattle.std.specs.Prelude.{◌≡◌, ◌⊎◌, ◌≤◌, ℕ, ℤ, pos, Bool, true, ◌&&◌, if◌then◌else◌, List, [], ◌∷◌, map, filter, fold, Option, Some, None, option_map, option_to_list, bytes_eq}
+use Rattle.std.specs.Prelude.{◌≡◌, ◌≢◌, ◌⊎◌, ◌≤◌, ℕ, ℤ, pos, Bool, true, ◌&&◌, if◌then◌else◌, List, [], ◌∷◌, map, filter, fold, Option, Some, None, option_map, option_to_list, bytes_eq}
 use Rattle.std.specs.Ordering.{int_eq}
 use Rattle.std.specs.List.{AllByRecursion}
 use Rattle.sqlite.specs.declared.types.Value.TheVariants.{Int, Text}
@@ -124,3 +124,15 @@ IsWritable (DropQueued seq) = Unit {0}
 IsWritable (PutAim target) = IsSoundTarget target
 IsWritable (PutShown row) = Unit {0}
 IsWritable (DropShown kind id) = Unit {0}
+
+-- the row that it writes is not as it was
+abbrev pub Differs : Stored → RowWrite → Type 0
+Differs stored (PutBucket name position added) = stored.bucket name ≢ Some (position.0, added.0)
+Differs stored (DropBucket name) = stored.bucket name ≢ None
+Differs stored (PutEntry bucket held) = stored.entry bucket held.key ≢ Some held
+Differs stored (DropEntry bucket key) = stored.entry bucket key ≢ None
+Differs stored (PutQueued seq text) = stored.queued seq ≢ Some text
+Differs stored (DropQueued seq) = stored.queued seq ≢ None
+Differs stored (PutAim target) = stored.target ≢ target
+Differs stored (PutShown row) = stored.shown row.kind row.id ≢ Some row.content
+Differs stored (DropShown kind id) = stored.shown kind id ≢ None

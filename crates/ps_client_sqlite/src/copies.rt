@@ -2,12 +2,13 @@
 
 ghost use Rattle.std.specs.Prelude.{◌≡◌, IfOk};
 
+use ps_client_lines::Queued;
 use ps_client_log::{BucketState, Held, State};
 use ps_data::{Items, Memory, copy_all};
 use std::alloc::Global;
 
 // An equal entry.
-fn held_copy(alloc: Global, held: &Held) -> Result<Held, Memory>
+pub fn held_copy(alloc: Global, held: &Held) -> Result<Held, Memory>
     ensures { IfOk result (λ copy. copy ≡ held.now) }
 {
     Ok(Held {
@@ -62,4 +63,19 @@ pub fn state_copy(alloc: Global, kept: &State) -> Result<State, Memory>
         target: kept.target,
         shown: copy_all(alloc, kept.shown.as_slice())?,
     })
+}
+
+// Equal local writes, in order.
+pub fn queue_copy(alloc: Global, queue: &[Queued]) -> Result<Items<Queued>, Memory>
+    ensures { IfOk result (λ copies. copies ≡ queue.now) }
+{
+    let mut copies = Items::new(alloc);
+    'queue: for line in queue {
+        copies.push(Queued {
+            seq: line.seq,
+            text: line.text.copy(alloc)?,
+            change: line.change.copy(alloc)?,
+        })?;
+    }
+    Ok(copies)
 }

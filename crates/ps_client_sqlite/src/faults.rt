@@ -1,7 +1,7 @@
 //! Why a store was not opened.
 
 ghost use Rattle.std.specs.Prelude.{◌≡◌};
-ghost use Rattle.ps_client_sqlite.specs.Opening.{IsRefused};
+ghost use Rattle.ps_client_sqlite.specs.Opening.{IsRefused, NamesNone, fault_of_rows};
 
 use ps_client_lines::RowsFault;
 use ps_data::Memory;
@@ -33,7 +33,8 @@ impl From<Memory> for StoreFault {
 
 // What a refused statement is to one who opens a store.
 pub fn refused(error: &Error) -> StoreFault
-    ensures { IsRefused error.now result }
+    ensures cause { IsRefused error.now result }
+    ensures unnamed { NamesNone result }
 {
     match error {
         Error::SqliteFailure(ErrorCode::OutOfMemory) => StoreFault::Memory,
@@ -42,7 +43,9 @@ pub fn refused(error: &Error) -> StoreFault
 }
 
 // What rows that are no state are to one who opens a store.
-pub fn of_rows(fault: RowsFault) -> StoreFault {
+pub fn of_rows(fault: RowsFault) -> StoreFault
+    ensures { result ≡ fault_of_rows fault }
+{
     match fault {
         RowsFault::BadState { table } => StoreFault::BadState { table },
         RowsFault::Memory => StoreFault::Memory,

@@ -1,31 +1,36 @@
 //! A keeper of a client's state over a database.
 
-ghost use Rattle.std.specs.Prelude.{◌≡◌, false, IsTrue, IfOk, OnOk, OnErr};
+ghost use Rattle.std.specs.Prelude.{◌≡◌, ◌≤◌, false, None, Some, IsTrue, IfOk, OnOk, OnErr};
 ghost use Rattle.std.specs.List.{All};
 ghost use Rattle.sqlite.specs.Held.{state};
 ghost use Rattle.sqlite.specs.State.{HasCleanDisk};
-ghost use Rattle.ps_client_log.specs.Soundness.{IsSoundState};
+ghost use Rattle.ps_client_log.specs.Kept.{kept_of};
+ghost use Rattle.ps_client_log.specs.Soundness.{IsSound, IsSoundState};
+ghost use Rattle.ps_client_log.specs.Keeping.{RoseWhereFailed};
+ghost use Rattle.ps_client_log.specs.Edits.{CanMakeAll, with_edits};
 ghost use Rattle.ps_client_lines.specs.Holding.{AreQueued, AreRising};
 ghost use Rattle.ps_client_sqlite.specs.Stored.{IsWritable, with_writes};
 ghost use Rattle.ps_client_sqlite.specs.Steps.{LeavesOr};
 ghost use Rattle.ps_client_sqlite.specs.Stating.{stored_of};
 ghost use Rattle.ps_client_sqlite.specs.Opening.{Settles};
-ghost use Rattle.ps_client_sqlite.specs.Keeping.{connection_of, state_of, writes_of, faults_of, Counts, CountsAt, IsBlamed, IsFrom, Stands};
+ghost use Rattle.ps_client_sqlite.specs.Numbering.{numbers_of};
+ghost use Rattle.ps_client_sqlite.specs.Editing.{numbers_after_all};
+ghost use Rattle.ps_client_sqlite.specs.Keeping.{connection_of, state_of, writes_of, faults_of, Counts, CountsAt, IsBlamed, IsFrom, LeavesEdited, Stands};
 
-use crate::copies::state_copy;
-use crate::faults::of_rows;
-use crate::reading::{read_again, read_tables};
+use crate::copies::{queue_copy, state_copy};
+use crate::reading::{read_again, read_state};
 use crate::writing::write_all;
-use crate::{RowWrite, StoreFault, with_tables};
-use ps_client_lines::{Queued, state_in};
-use ps_client_log::{KeepFault, State};
-use ps_data::Items;
+use crate::{RowWrite, StoreFault, after_edits, difference, with_tables};
+use ps_client_lines::Queued;
+use ps_client_log::{Edit, KeepFault, Keeper, State, edited};
+use ps_data::{Items, Memory};
 use sqlite::{Alter, Connection, Error, ErrorCode};
 use std::alloc::Global;
 use std::marker::Model;
 
 /// Keeps a client's state in a database. Contracts see the connection, the state and the local writes with their numbers and texts as they
 /// are held in memory, and the count of faults.
+#[derive(Drop)]
 pub struct SqliteKeeper<S: Alter> {
     connection: Connection<S>,
     kept: State,
@@ -66,7 +71,8 @@ fn fault_of(error: &Error) -> KeepFault
 
 // The count of faults after one.
 fn counted(fault: KeepFault, faults: u64) -> u64
-    ensures { CountsAt fault faults result }
+    ensures counted { CountsAt fault faults result }
+    ensures faults { faults ≤ result }
 {
     match fault {
         KeepFault::Failed => faults.saturating_add(1),
@@ -96,23 +102,20 @@ fn read<S: Alter + Drop>(
     ensures uncounted { IfOk result (λ keeper. faults_of keeper ≡ 0) }
 {
     let mut connection = connection;
-    let rows = match read_tables(alloc, &mut connection) {
-        Ok(rows) => rows,
-        Err(fault) => return Err(fault),
-    };
-    match state_in(alloc, &rows) {
+    match read_state(alloc, &mut connection) {
         Ok(told) => Ok(SqliteKeeper {
             connection,
             kept: told.0,
             writes: told.1,
             faults: 0,
         }),
-        Err(fault) => Err(of_rows(fault)),
+        Err(fault) => Err(fault),
     }
 }
 
 impl<S: Alter + Drop> SqliteKeeper<S> {
-    /// Keeps what the tables of a database hold, which are made where it has none.
+    /// Keeps what the tables of a database hold, as `read_state` reads it; they are made where it has none. Fails with `Failed` where a statement is refused or the
+    /// database has other tables than a client's, with `BadState` as `read_state` does, and with `Memory`.
     pub fn open(alloc: Global, connection: Connection<S>) -> Result<SqliteKeeper<S>, StoreFault>
         ensures stands { IfOk result (λ keeper. Stands (state_of keeper) (writes_of keeper) (state S.Store (connection_of keeper))) }
         ensures rows { IfOk result (λ keeper. HasCleanDisk (state S.Store (connection_of keeper)) → IsTrue (state S.Store (connection_of keeper)).is_open
@@ -124,8 +127,40 @@ impl<S: Alter + Drop> SqliteKeeper<S> {
     }
 }
 
+// A state that is to be kept, its local writes with their numbers and texts, and the row writes that make it.
+struct Next {
+    state: State,
+    queue: Items<Queued>,
+    writes: Vec<RowWrite>,
+}
+
+// What edits make of a state.
+fn after(alloc: Global, kept: &State, queue: &Items<Queued>, edits: &[Edit]) -> Result<Next, Memory>
+    requires sound { IsSoundState kept.now }
+    requires queued { AreQueued queue.now kept.now.queue }
+    requires rising { AreRising queue.now }
+    requires can { CanMakeAll (kept_of kept.now) edits.now }
+    ensures edited { IfOk result (λ next. kept_of next.state ≡ with_edits (kept_of kept.now) edits.now) }
+    ensures sound { IfOk result (λ next. IsSoundState next.state) }
+    ensures queued { IfOk result (λ next. AreQueued next.queue next.state.queue) }
+    ensures rising { IfOk result (λ next. AreRising next.queue) }
+    ensures numbers { IfOk result (λ next. numbers_of next.queue ≡ numbers_after_all (numbers_of queue.now) edits.now) }
+    ensures writable { IfOk result (λ next. All IsWritable next.writes.items) }
+    ensures reached { IfOk result (λ next. with_writes (stored_of kept.now queue.now) next.writes.items ≡ stored_of next.state next.queue) }
+{
+    let state = edited(alloc, state_copy(alloc, kept)?, edits)?;
+    let waiting = after_edits(alloc, queue_copy(alloc, queue.as_slice())?, edits)?;
+    let writes = difference(alloc, kept, queue.as_slice(), &state, waiting.as_slice())?;
+    Ok(Next {
+        state,
+        queue: waiting,
+        writes,
+    })
+}
+
 impl<S: Alter> SqliteKeeper<S> {
-    /// Keeps another state, which these row writes make of what the tables hold: all of them in one transaction, or none.
+    /// Keeps another state, which these row writes make of what the tables hold: all of them in one transaction, or none. Fails with `Failed`, which is
+    /// counted, where a statement is refused for another cause than memory, and with `Memory`.
     pub fn turn(
         &mut self,
         next: State,
@@ -142,6 +177,7 @@ impl<S: Alter> SqliteKeeper<S> {
         ensures err { OnErr result (state_of self.new ≡ state_of self.old) }
         ensures err_writes { OnErr result (writes_of self.new ≡ writes_of self.old) }
         ensures counted { Counts result (faults_of self.old) (faults_of self.new) }
+        ensures faults { faults_of self.old ≤ faults_of self.new }
         ensures stands { Stands (state_of self.new) (writes_of self.new) (state S.Store (connection_of self.new)) }
         ensures crash { LeavesOr (state S.Store (connection_of self.old)) (state S.Store (connection_of self.new)) (stored_of next queue) }
     {
@@ -159,12 +195,35 @@ impl<S: Alter> SqliteKeeper<S> {
         }
     }
 
-    /// The state that it keeps. The tables are read again, and it fails where they have a row that is none of a state.
-    pub fn load(&mut self, alloc: Global) -> Result<State, KeepFault>
+    /// Makes all the edits, one after another, by one transaction that writes only the rows that change; or none. The new state is computed
+    /// before anything is written, in time and memory in line with the state and the edits. Fails as `turn` does; nothing has changed then.
+    pub fn make(&mut self, alloc: Global, edits: &[Edit]) -> Result<(), KeepFault>
+        requires { CanMakeAll (kept_of (state_of self.old)) edits.now }
+        ensures ok { OnOk result (kept_of (state_of self.new) ≡ with_edits (kept_of (state_of self.old)) edits.now) }
+        ensures numbers { OnOk result (numbers_of (writes_of self.new) ≡ numbers_after_all (numbers_of (writes_of self.old)) edits.now) }
+        ensures err { OnErr result (state_of self.new ≡ state_of self.old) }
+        ensures err_writes { OnErr result (writes_of self.new ≡ writes_of self.old) }
+        ensures counted { Counts result (faults_of self.old) (faults_of self.new) }
+        ensures faults { faults_of self.old ≤ faults_of self.new }
+        ensures stands { Stands (state_of self.new) (writes_of self.new) (state S.Store (connection_of self.new)) }
+        ensures crash { LeavesEdited (state S.Store (connection_of self.old)) (state S.Store (connection_of self.new)) (with_edits (kept_of (state_of self.old)) edits.now) }
+    {
+        let Next {
+            state,
+            queue,
+            writes,
+        } = after(alloc, &self.kept, &self.writes, edits)?;
+        self.turn(state, queue, writes.as_slice())
+    }
+
+    /// The state that it keeps. The tables are read again: it fails with `Failed`, which is counted, where a statement is refused for another cause
+    /// than memory or they have a row that is none of a state, and with `Memory`.
+    pub fn tell(&mut self, alloc: Global) -> Result<State, KeepFault>
         ensures told { IfOk result (λ told. told ≡ state_of self.old) }
         ensures same { state_of self.new ≡ state_of self.old }
         ensures same_writes { writes_of self.new ≡ writes_of self.old }
         ensures counted { Counts result (faults_of self.old) (faults_of self.new) }
+        ensures faults { faults_of self.old ≤ faults_of self.new }
         ensures stands { Stands (state_of self.new) (writes_of self.new) (state S.Store (connection_of self.new)) }
     {
         match read_again(alloc, &mut self.connection) {
@@ -177,7 +236,7 @@ impl<S: Alter> SqliteKeeper<S> {
         }
     }
 
-    /// Its connection.
+    /// Gives its connection back.
     pub fn into_connection(self) -> Connection<S>
         ensures { result ≡ connection_of self }
     {
@@ -189,11 +248,48 @@ impl<S: Alter> SqliteKeeper<S> {
         } = self;
         connection
     }
+}
 
-    /// How often it has failed. It never falls.
-    pub fn keep_faults(&self) -> u64
-        ensures { result ≡ faults_of self.now }
+impl<S: Alter> Keeper for SqliteKeeper<S> {
+    ghost held = { λ keeper. Some (kept_of (state_of keeper)) };
+
+    ghost faults = { faults_of };
+
+    ghost calls = { λ _. None };
+
+    fn load(&mut self, alloc: Global) -> Result<State, KeepFault>
+        ensures state { IfOk result (λ told. kept_of told ≡ kept_of (state_of self.old)) }
+        ensures sound { IfOk result IsSoundState }
+        ensures told { IsSound (kept_of (state_of self.old)) }
+        ensures held { Some (kept_of (state_of self.new)) ≡ Some (kept_of (state_of self.old)) }
+        ensures failed { RoseWhereFailed result (faults_of self.old) (faults_of self.new) }
+        ensures faults { faults_of self.old ≤ faults_of self.new }
+        ensures quiet { OnOk result (faults_of self.new ≡ faults_of self.old) }
+        ensures same { state_of self.new ≡ state_of self.old }
+        ensures same_writes { writes_of self.new ≡ writes_of self.old }
+        ensures stands { Stands (state_of self.new) (writes_of self.new) (state S.Store (connection_of self.new)) }
     {
+        self.tell(alloc)
+    }
+
+    fn commit(&mut self, alloc: Global, edits: &[Edit]) -> Result<(), KeepFault>
+        requires { CanMakeAll (kept_of (state_of self.old)) edits.now }
+        ensures ok { OnOk result (Some (kept_of (state_of self.new)) ≡ Some (with_edits (kept_of (state_of self.old)) edits.now)) }
+        ensures numbers { OnOk result (numbers_of (writes_of self.new) ≡ numbers_after_all (numbers_of (writes_of self.old)) edits.now) }
+        ensures err { OnErr result (Some (kept_of (state_of self.new)) ≡ Some (kept_of (state_of self.old))) }
+        ensures err_state { OnErr result (state_of self.new ≡ state_of self.old) }
+        ensures err_writes { OnErr result (writes_of self.new ≡ writes_of self.old) }
+        ensures told { IsSound (kept_of (state_of self.new)) }
+        ensures failed { RoseWhereFailed result (faults_of self.old) (faults_of self.new) }
+        ensures faults { faults_of self.old ≤ faults_of self.new }
+        ensures quiet { OnOk result (faults_of self.new ≡ faults_of self.old) }
+        ensures stands { Stands (state_of self.new) (writes_of self.new) (state S.Store (connection_of self.new)) }
+        ensures crash { LeavesEdited (state S.Store (connection_of self.old)) (state S.Store (connection_of self.new)) (with_edits (kept_of (state_of self.old)) edits.now) }
+    {
+        self.make(alloc, edits)
+    }
+
+    fn keep_faults(&self) -> u64 {
         self.faults
     }
 }

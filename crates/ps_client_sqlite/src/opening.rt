@@ -1,10 +1,10 @@
 //! How the tables of a client's storage are found, or made where there is none.
 
-ghost use Rattle.std.specs.Prelude.{◌≡◌, false, IfOk, IsTrue};
+ghost use Rattle.std.specs.Prelude.{◌≡◌, false, IfOk, IfErr, IsTrue};
 ghost use Rattle.sqlite.specs.Held.{state};
 ghost use Rattle.sqlite.specs.State.{HasCleanDisk};
 ghost use Rattle.ps_client_tables.specs.Finding.{IsFound};
-ghost use Rattle.ps_client_sqlite.specs.Opening.{IsOfCommit, Settles};
+ghost use Rattle.ps_client_sqlite.specs.Opening.{IsOfCommit, NamesNone, Settles};
 
 use crate::StoreFault;
 use crate::faults::refused;
@@ -18,7 +18,8 @@ fn schema_found<S: Alter>(alloc: Global, connection: &Connection<S>) -> Result<F
     found_schema(alloc, connection.schema())
 }
 
-/// A connection over a client's tables, which are made where the database has no table.
+/// A connection over a client's tables, which are made where the database has no table. Fails with `Failed` where a statement is refused for
+/// another cause than memory or the database has other tables than a client's, and with `Memory`; it never names a table.
 pub fn with_tables<S: Alter + Drop>(
     alloc: Global,
     connection: Connection<S>,
@@ -27,6 +28,7 @@ pub fn with_tables<S: Alter + Drop>(
     ensures settled { IfOk result (λ made. Settles (state S.Store made)) }
     ensures rows { IfOk result (λ made. HasCleanDisk (state S.Store made) → IsTrue (state S.Store made).is_open
         → IsOfCommit (state S.Store connection) (state S.Store made)) }
+    ensures unnamed { IfErr result NamesNone }
 {
     let mut anew = match open_anew(alloc, connection) {
         Ok(anew) => anew,

@@ -1,6 +1,6 @@
 //! What the tables have, read row by row.
 
-ghost use Rattle.std.specs.Prelude.{◌≡◌, false, map, IsTrue, IfOk, OnOk};
+ghost use Rattle.std.specs.Prelude.{◌≡◌, false, map, IsTrue, IfOk, IfErr, OnOk};
 ghost use Rattle.sqlite.specs.Order.{column};
 ghost use Rattle.sqlite_value.specs.Value.{owned};
 ghost use Rattle.sqlite.specs.declared.types.Value.TheVariants as value;
@@ -8,13 +8,18 @@ ghost use Rattle.sqlite.specs.Held.{state};
 ghost use Rattle.sqlite.specs.State.{HasCleanDisk, IsUnchanged};
 ghost use Rattle.ps_client_tables.specs.Lines.{bucket_line, entry_line, queued_line, aim_line, shown_line};
 ghost use Rattle.ps_client_tables.specs.Steps.{IsClient, tables_of};
-ghost use Rattle.ps_client_sqlite.specs.Stored.{Stored};
+ghost use Rattle.ps_client_sqlite.specs.Stored.{Stored, Holds};
+ghost use Rattle.ps_client_sqlite.specs.Stating.{stored_of};
+ghost use Rattle.ps_client_log.specs.Soundness.{IsSoundState};
+ghost use Rattle.ps_client_lines.specs.Holding.{AreQueued, AreRising};
 ghost use Rattle.ps_client_sqlite.specs.Steps.{Kept};
 ghost use Rattle.ps_client_sqlite.specs.Reading.{Alike, AreCells, IsCell, AreRead, AreTablesRead};
+ghost use Rattle.ps_client_sqlite.specs.Opening.{NamesNone, IsFaultOf};
 
 use crate::StoreFault;
 use crate::faults::{of_rows, refused};
-use ps_client_lines::{Cell, Rows, state_in};
+use ps_client_lines::{Cell, Queued, Rows, state_in};
+use ps_client_log::State;
 use ps_client_tables::{read_aim, read_buckets, read_entries, read_queue, read_shown};
 use ps_data::{Items, Memory, Text, TextFault};
 use sqlite::types::ValueRef;
@@ -89,6 +94,7 @@ fn bucket_rows<S: Alter>(
     ensures clean { HasCleanDisk (state S.Store conn.new) → HasCleanDisk (state S.Store conn.old) }
     ensures mode { (state S.Store conn.old).in_transaction ≡ false → (state S.Store conn.new).in_transaction ≡ false }
     ensures kept { (stored : Stored) → Kept stored (state S.Store conn.old) → Kept stored (state S.Store conn.new) }
+    ensures unnamed { IfErr result NamesNone }
 {
     match read_buckets(conn) {
         Ok(rows) => {
@@ -110,6 +116,7 @@ fn entry_rows<S: Alter>(
     ensures clean { HasCleanDisk (state S.Store conn.new) → HasCleanDisk (state S.Store conn.old) }
     ensures mode { (state S.Store conn.old).in_transaction ≡ false → (state S.Store conn.new).in_transaction ≡ false }
     ensures kept { (stored : Stored) → Kept stored (state S.Store conn.old) → Kept stored (state S.Store conn.new) }
+    ensures unnamed { IfErr result NamesNone }
 {
     match read_entries(conn) {
         Ok(rows) => {
@@ -131,6 +138,7 @@ fn queue_rows<S: Alter>(
     ensures clean { HasCleanDisk (state S.Store conn.new) → HasCleanDisk (state S.Store conn.old) }
     ensures mode { (state S.Store conn.old).in_transaction ≡ false → (state S.Store conn.new).in_transaction ≡ false }
     ensures kept { (stored : Stored) → Kept stored (state S.Store conn.old) → Kept stored (state S.Store conn.new) }
+    ensures unnamed { IfErr result NamesNone }
 {
     match read_queue(conn) {
         Ok(rows) => {
@@ -152,6 +160,7 @@ fn aim_rows<S: Alter>(
     ensures clean { HasCleanDisk (state S.Store conn.new) → HasCleanDisk (state S.Store conn.old) }
     ensures mode { (state S.Store conn.old).in_transaction ≡ false → (state S.Store conn.new).in_transaction ≡ false }
     ensures kept { (stored : Stored) → Kept stored (state S.Store conn.old) → Kept stored (state S.Store conn.new) }
+    ensures unnamed { IfErr result NamesNone }
 {
     match read_aim(conn) {
         Ok(rows) => {
@@ -173,6 +182,7 @@ fn shown_rows<S: Alter>(
     ensures clean { HasCleanDisk (state S.Store conn.new) → HasCleanDisk (state S.Store conn.old) }
     ensures mode { (state S.Store conn.old).in_transaction ≡ false → (state S.Store conn.new).in_transaction ≡ false }
     ensures kept { (stored : Stored) → Kept stored (state S.Store conn.old) → Kept stored (state S.Store conn.new) }
+    ensures unnamed { IfErr result NamesNone }
 {
     match read_shown(conn) {
         Ok(rows) => {
@@ -191,6 +201,7 @@ pub fn read_tables<S: Alter>(alloc: Global, conn: &mut Connection<S>) -> Result<
     ensures clean { HasCleanDisk (state S.Store conn.new) → HasCleanDisk (state S.Store conn.old) }
     ensures mode { (state S.Store conn.old).in_transaction ≡ false → (state S.Store conn.new).in_transaction ≡ false }
     ensures kept { (stored : Stored) → Kept stored (state S.Store conn.old) → Kept stored (state S.Store conn.new) }
+    ensures unnamed { IfErr result NamesNone }
 {
     let buckets = bucket_rows(alloc, conn)?;
     let entries = entry_rows(alloc, conn)?;
@@ -206,14 +217,41 @@ pub fn read_tables<S: Alter>(alloc: Global, conn: &mut Connection<S>) -> Result<
     })
 }
 
+/// The state that the tables hold, and its local writes with their numbers and texts. Fails with `BadState` where a table has a row that is
+/// none of a state, and names the first such table; with `Failed` where a statement is refused for another cause than memory; and with `Memory`.
+pub fn read_state<S: Alter>(
+    alloc: Global,
+    conn: &mut Connection<S>,
+) -> Result<(State, Items<Queued>), StoreFault>
+    ensures read { HasCleanDisk (state S.Store conn.new) → IsClient (state S.Store conn.old) → IfOk result (λ told. Holds (stored_of told.0 told.1) (tables_of (state S.Store conn.old))) }
+    ensures sound { IfOk result (λ told. IsSoundState told.0) }
+    ensures queued { IfOk result (λ told. AreQueued told.1 told.0.queue) }
+    ensures rising { IfOk result (λ told. AreRising told.1) }
+    // The rows of the tables before the one that is named are those of a state.
+    ensures blames { HasCleanDisk (state S.Store conn.new) → IsClient (state S.Store conn.old) → IfErr result (IsFaultOf (tables_of (state S.Store conn.old))) }
+    ensures same { HasCleanDisk (state S.Store conn.new) → IsClient (state S.Store conn.old) → OnOk result (IsUnchanged (state S.Store conn.old) (state S.Store conn.new)) }
+    ensures opened { HasCleanDisk (state S.Store conn.new) → OnOk result (IsTrue (state S.Store conn.old).is_open) }
+    ensures clean { HasCleanDisk (state S.Store conn.new) → HasCleanDisk (state S.Store conn.old) }
+    ensures mode { (state S.Store conn.old).in_transaction ≡ false → (state S.Store conn.new).in_transaction ≡ false }
+    ensures kept { (stored : Stored) → Kept stored (state S.Store conn.old) → Kept stored (state S.Store conn.new) }
+{
+    let rows = match read_tables(alloc, conn) {
+        Ok(rows) => rows,
+        Err(fault) => return Err(fault),
+    };
+    match state_in(alloc, &rows) {
+        Ok(told) => Ok(told),
+        Err(fault) => Err(of_rows(fault)),
+    }
+}
+
 // Reads the tables again. Fails where they have a row that is none of a state.
 pub fn read_again<S: Alter>(alloc: Global, conn: &mut Connection<S>) -> Result<(), StoreFault>
     ensures mode { (state S.Store conn.old).in_transaction ≡ false → (state S.Store conn.new).in_transaction ≡ false }
     ensures kept { (stored : Stored) → Kept stored (state S.Store conn.old) → Kept stored (state S.Store conn.new) }
 {
-    let rows = read_tables(alloc, conn)?;
-    match state_in(alloc, &rows) {
+    match read_state(alloc, conn) {
         Ok(_told) => Ok(()),
-        Err(fault) => Err(of_rows(fault)),
+        Err(fault) => Err(fault),
     }
 }

@@ -87,7 +87,7 @@ fn write_rows<S: Alter>(tx: &mut Transaction<'_, S>, writes: &[RowWrite]) -> Res
     Ok(())
 }
 
-/// Makes writes, all in one transaction or none. Where a statement is refused, what the tables held stands.
+/// Makes writes, all in one transaction or none. Fails where a statement is refused; what the tables held stands then.
 pub fn write_all<S: Alter>(conn: &mut Connection<S>, writes: &[RowWrite]) -> Result<(), Error>
     requires outside { (state S.Store conn.old).in_transaction ≡ false }
     requires writable { All IsWritable writes.now }

@@ -1,7 +1,9 @@
-use Rattle.std.proofs.Common.{map, ap, ◌∙◌}
+use Rattle.std.proofs.Common.{map, ap, inl, inr, refl, ◌∙◌}
 use Rattle.ps_client_lines.specs.Rows.{bucket_row, line_of}
 use Rattle.ps_client_lines.proofs.Listing.{map_twice}
+use Rattle.ps_client_lines.specs.Refusing.{BlamesBuckets}
 use Rattle.ps_client_lines.proofs.Sound.{sound_buckets}
+use Rattle.ps_client_lines.proofs.Blaming.{blamed}
 use Rattle.ps_client_lines.proofs.telling.buckets_in.Goals as goal
 
 pub returns-in-Ok-bucket_states-clause-buckets : goal.returns-in-Ok-bucket_states-clause-buckets
@@ -12,3 +14,11 @@ pub returns-in-Ok-bucket_states-clause-sound : goal.returns-in-Ok-bucket_states-
 returns-in-Ok-bucket_states-clause-sound c =
     sound_buckets c.in-Ok-bucket_states.states c.in-Ok.lines.items c.in-Ok-bucket_states.ensures.lines c.in-Ok.ensures.positions c.in-Ok.ensures.names
     c.in-Ok-bucket_states.ensures.ids c.in-Ok-bucket_states.ensures.keys
+
+pub returns-in-Err-clause-blames : goal.returns-in-Err-clause-blames
+returns-in-Err-clause-blames c = blamed (BlamesBuckets c.args.rows.now) 1 c.in-Err.refusal c.at_table.result c.at_table.ensures (inl refl) tt
+
+pub returns-in-Err-bucket_states-clause-blames : goal.returns-in-Err-bucket_states-clause-blames
+returns-in-Err-bucket_states-clause-blames c =
+    blamed (BlamesBuckets c.args.rows.now) 2 c.in-Err-bucket_states.refusal c.at_table-in-Err-bucket_states.result c.at_table-in-Err-bucket_states.ensures
+    (inr (refl, (c.in-Ok.lines.items, c.in-Ok.ensures.rows ∙ c.as_slice.ensures))) tt

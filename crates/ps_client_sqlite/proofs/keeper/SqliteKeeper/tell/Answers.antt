@@ -1,6 +1,6 @@
 use Rattle.sqlite.specs.Held.{state}
 use Rattle.ps_client_sqlite.proofs.Standing.{stands_again}
-use Rattle.ps_client_sqlite.proofs.keeper.SqliteKeeper.load.Goals as goal
+use Rattle.ps_client_sqlite.proofs.keeper.SqliteKeeper.tell.Goals as goal
 
 pub invariant_of-self : goal.invariant_of-self
 invariant_of-self g c =

@@ -1,0 +1,50 @@
+//! Answers the cases of its standard input, each a line, of a client whose state is kept in a database in memory.
+//!
+//! `new` begins with an empty database. Before each of the steps below the database's tables are opened anew, and a client over them; both are closed after it.
+//!
+//! - `stream LINE..` begins a stream, prints its request, takes the lines, and prints what the client says to each.
+//! - `local CHANGE` writes locally, `upload` prints the next upload's body, `uploaded` lets it leave the queue, `number N` sets the write checkpoint, `rows` prints
+//!   the rows.
+//! - `state` prints the state that the keeper tells.
+//! - `tables` prints the rows of all tables.
+//! - `sql TEXT` runs a statement on the database, opens its tables, and prints how that ends.
+//!
+//! `crash STEP|STEP..` takes steps over a database on a disk in memory, and stops all calls of the disk's log from some call on. For each such call of the last step
+//! it says how that step ended, and whether a crash then leaves the tables as they were before that step or as they are after it; what is said once is not repeated.
+//!
+//! A line that begins with `#` is a heading, and is printed as it stands.
+#![tactic(auto)]
+
+mod crashes;
+mod desks;
+mod events;
+mod shown;
+
+use case_words::{Stop, cut};
+use desks::Desk;
+use std::alloc::Global;
+
+fn answer(alloc: Global, desk: &mut Desk, line: &str, out: &mut String) -> Result<(), Stop> {
+    let (word, rest) = cut(line);
+    match word {
+        "#" => Ok(out.push_str(line)?),
+        "crash" => crashes::write_crashes(alloc, rest, out),
+        _ => desk.step(alloc, word, rest, out),
+    }
+}
+
+fn answer_all(rt: HostRuntime) -> Result<(), Stop> {
+    let alloc = rt.alloc();
+    let mut desk = Desk::new();
+    'lines: for line in rt.lines(alloc) {
+        let line = line?;
+        let mut out = String::new(alloc);
+        answer(alloc, &mut desk, line.as_str(), &mut out)?;
+        println!(rt; "{}", out.as_str())?;
+    }
+    Ok(())
+}
+
+fn main(rt: HostRuntime) -> Result<(), &'static str> {
+    answer_all(rt).ok().ok_or("a line has no answer")
+}
