@@ -1,7 +1,8 @@
 -- What the threads of a service make of its history.
-use Rattle.std.specs.Prelude.{ℕ, List, [], length, Option}
+use Rattle.std.specs.Prelude.{ℕ, false, List, [], length, Option}
 use mathlib.Core.List.{IsPrefix}
 use Rattle.ps_connections.specs.declared.ended.Ended.{Ended}
+use Rattle.ps_connections.specs.declared.ended.Stop.TheVariants.{NoRoom}
 use Rattle.ps_connections.specs.Answers.{HaveServed, IsAnswered}
 use Rattle.ps_doors.specs.Connections.{Connection}
 use Rattle.ps_rows.specs.declared.changes.Transaction.{Transaction}
@@ -30,3 +31,7 @@ pub record HaveAnswers (fixed : Fixed) (site : Site) (may_give : ℕ → Type 0)
 abbrev pub ServesUpTo : Fixed → Site → (ℕ → Type 0) → List Event → List Event → ℕ → Option (List Connection) → Option (List Connection) → Ended → Type 0
 ServesUpTo fixed site may_give start seen first before after ended =
     (history : List Event) → IsPrefix seen history → IsValid fixed history → HaveAnswers fixed site may_give (length start) history first before after ended
+
+-- no connection was taken, for out of memory
+abbrev pub none_taken : Ended
+none_taken = record { stop = NoRoom; connections = 0; out_of_memory = false }

@@ -6,12 +6,12 @@ ghost use Rattle.ps_lock.specs.Words.{IsSeatOf, seen_by};
 ghost use Rattle.ps_connections.specs.Taken.{HasTaken};
 ghost use Rattle.ps_serve_words.specs.Words.{IsInMillion};
 ghost use Rattle.ps_workers.specs.Sharing.{fixed_of};
-ghost use Rattle.ps_serving.specs.Running.{WroteTo, ServesUpTo};
+ghost use Rattle.ps_serving.specs.Running.{WroteTo, ServesUpTo, none_taken};
 
 use crate::begun::{ToCompact, ToWrite, finish};
 use crate::ends::Ends;
 use core::thread::Stack;
-use ps_connections::{Ended, Hears, Service, serve_connections};
+use ps_connections::{Ended, Hears, Service, Stop, serve_connections};
 use ps_doors::{Bell, Doors};
 use ps_io::{Clock, Sink, Source};
 use ps_lock::{Seat, StoreLock};
@@ -118,7 +118,74 @@ fn take<
     (seat, doors, ended)
 }
 
-// The writer and the compactor in threads of a scope, beside the loop that takes connections. Where no thread can be made their work is done behind the loop.
+// Takes no connection, for out of memory, and closes the feed.
+fn take_none<R: Wait + time::Clock, C>(
+    service: &Service<R, C>,
+    seat: Seat<Store>,
+) -> (Seat<Store>, Ended)
+    requires { IsSeatOf service.now.lock.now seat }
+    ensures lock { IsSeatOf service.now.lock.now result.0 }
+    ensures saw { IsPrefix (seen_by seat) (seen_by result.0) }
+    ensures none { result.1 ≡ none_taken }
+{
+    let seat = close_behind(service, seat);
+    let ended = Ended {
+        stop: Stop::NoRoom,
+        connections: 0,
+        out_of_memory: false,
+    };
+    (seat, ended)
+}
+
+// The compactor in a thread of a scope, beside the loop that takes connections. Where no thread can be made it compacts behind the loop, which never waits for it.
+fn take_beside<
+    's,
+    E,
+    R: Wait + time::Clock + Threads + Sync + Hears,
+    S: Source + Send + Drop,
+    K: Sink + Send + Drop,
+    C: Clock + Sync,
+    D: Doors<In = S, Out = K> + Drop,
+>(
+    scope: &'s Scope<'s, E>,
+    service: &'s Service<'s, R, C>,
+    rings: &'s Rings,
+    seats: (Seat<Store>, Seat<Store>),
+    doors: D,
+    pace: Pace,
+) -> ((Seat<Store>, WorkEnd), (Seat<Store>, D, Ended))
+    requires connections { IsSeatOf service.now.lock.now seats.0 }
+    requires compactor { IsSeatOf service.now.lock.now seats.1 }
+    ensures compactor { IsSeatOf service.now.lock.now result.0.0 }
+    ensures connections { IsSeatOf service.now.lock.now result.1.0 }
+    ensures saw { IsPrefix (seen_by seats.0) (seen_by result.1.0) }
+    ensures place { D.place result.1.1 ≡ D.place doors }
+    ensures taken { HasTaken pace.most (D.opened doors) (D.opened result.1.1) (D.coming doors) (D.coming result.1.1)
+        (D.faults doors) (D.faults result.1.1) result.1.2.stop result.1.2.connections }
+    ensures served { ServesUpTo (fixed_of service.now.lock.now) service.now.site.now (C.may_give service.now.clock.now)
+        (seen_by seats.0) (seen_by result.1.0) (D.opened doors) (D.closed doors) (D.closed result.1.1) result.1.2 }
+{
+    let (connections, compactor) = seats;
+    let rt = service.rt;
+    let alloc = service.alloc;
+    let lock = service.lock;
+    let at = pace.compact_at;
+    let to_compact = ToCompact {
+        lock: Snapshot::of(lock),
+    };
+    let compacting = move || -> (Seat<Store>, WorkEnd)
+        requires { IsSeatOf lock.now compactor }
+        ensures { IsSeatOf lock.entry.now result.0 }
+    { compact(rt, alloc, lock, rings, compactor, at) };
+    let begun = Stack::new()
+        .stack_size(service.stack)
+        .spawn_scoped_with(scope, to_compact, compacting);
+    let taken = take(service, connections, doors, pace.most);
+    (finish(rt, begun), taken)
+}
+
+// The writer in a thread of a scope, beside the compactor and the loop that takes connections. Where no thread can be made for it no connection is taken: it waits
+// until the feed is closed, and connections wait for what it writes.
 fn run_beside<
     's,
     E,
@@ -158,14 +225,10 @@ fn run_beside<
         writer,
         compactor,
     } = seats;
-    let Pace {
-        most,
-        batch,
-        compact_at,
-    } = pace;
     let rt = service.rt;
     let alloc = service.alloc;
     let lock = service.lock;
+    let batch = pace.batch;
     let to_write = ToWrite {
         lock: Snapshot::of(lock),
         seat: Snapshot::of(&writer),
@@ -176,23 +239,22 @@ fn run_beside<
         ensures lock { IsSeatOf lock.entry.now result.0 }
         ensures wrote { WroteTo (fixed_of lock.entry.now) (seen_by writer) (seen_by result.0) result.1 }
     { write(rt, alloc, lock, rings, writer, batch) };
-    let to_compact = ToCompact {
-        lock: Snapshot::of(lock),
-    };
-    let compacting = move || -> (Seat<Store>, WorkEnd)
-        requires { IsSeatOf lock.now compactor }
-        ensures { IsSeatOf lock.entry.now result.0 }
-    { compact(rt, alloc, lock, rings, compactor, compact_at) };
-    let written = Stack::new()
+    let begun = Stack::new()
         .stack_size(service.stack)
         .spawn_scoped_with(scope, to_write, writing);
-    let compacted = Stack::new()
-        .stack_size(service.stack)
-        .spawn_scoped_with(scope, to_compact, compacting);
-    let taken = take(service, connections, doors, most);
-    let written = finish(rt, written);
-    let compacted = finish(rt, compacted);
-    (written, (compacted, taken))
+    match begun {
+        Ok(child) => {
+            let seats = (connections, compactor);
+            let (compacted, taken) = take_beside(scope, service, rings, seats, doors, pace);
+            (child.join(rt), (compacted, taken))
+        }
+        Err(refused) => {
+            let (seat, ended) = take_none(service, connections);
+            let written = (refused.value)();
+            let compacted = (compactor, WorkEnd::Stopped);
+            (written, (compacted, (seat, doors, ended)))
+        }
+    }
 }
 
 // The writer, the compactor and the loop.
