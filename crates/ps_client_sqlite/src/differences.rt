@@ -248,7 +248,7 @@ fn add_shown(
 }
 
 /// The row writes that make the second state of the first, in the order of the tables. Only rows in which they differ are written. Fails only
-/// for want of memory.
+/// when out of memory.
 pub fn difference(
     alloc: Global,
     old: &State,

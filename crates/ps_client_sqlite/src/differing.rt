@@ -37,8 +37,8 @@ fn had<K: Eq + Hash + Drop, V: Eq + Drop>(left: &mut IndexMap<K, V>, key: &K, va
     }
 }
 
-/// The changes that make new rows of old ones: each key once, and what it has then. Of several rows with one key the last counts. Fails only for
-/// want of memory.
+/// The changes that make new rows of old ones: each key once, and what it has then. Of several rows with one key the last counts. Fails only when
+/// out of memory.
 pub fn row_changes<K: Eq + Hash + Drop, V: Eq + Drop>(
     alloc: Global,
     old: Vec<(K, V)>,

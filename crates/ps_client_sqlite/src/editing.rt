@@ -82,7 +82,7 @@ fn after_edit(alloc: Global, queue: Items<Queued>, edit: &Edit) -> Result<Items<
     }
 }
 
-/// The local writes after edits, with their numbers and texts. Fails only for want of memory.
+/// The local writes after edits, with their numbers and texts. Fails only when out of memory.
 pub fn after_edits(
     alloc: Global,
     queue: Items<Queued>,

@@ -51,7 +51,7 @@ fn renumbered(alloc: Global, lines: Vec<Queued>) -> Result<Vec<Queued>, Memory>
 }
 
 /// One more local write waits, under the number after the last, or 1 where none waits. Where the last number is the greatest of 64 bits,
-/// all get the numbers from 1 on, in their order. Fails only for want of memory.
+/// all get the numbers from 1 on, in their order. Fails only when out of memory.
 pub fn pushed(
     alloc: Global,
     queue: Items<Queued>,
