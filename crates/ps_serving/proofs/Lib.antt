@@ -3,6 +3,7 @@ mod Closing
 mod FedSoFar
 mod Fronts
 mod NoneTaken
+mod Passing
 mod Statuses
 mod Verdicts
 mod Whole

@@ -10,7 +10,7 @@ use Rattle.ps_serve_words.specs.Words.{AreRefused, AreTaken}
 use Rattle.ps_serve_inputs.specs.declared.faults.ServeFault.{ServeFault}
 use Rattle.ps_serve_inputs.specs.declared.faults.ServeFault.TheVariants.{Plain, ConnectionFailed}
 use Rattle.ps_serve_inputs.specs.ServeFaults.{serve_status}
-use Rattle.ps_serving.specs.Answers.{AnswersServe, IsCause, Serves, Stops, StopsLate}
+use Rattle.ps_serving.specs.Answers.{AnswersServe, FailsOutside, IsCause, Serves, Stops, StopsLate}
 use Rattle.ps_serving.specs.Serving.{FilesAt, DoorsAt, SinkAt, ServesSo}
 
 module _ (may_give : ℕ → Type 0) (words : List (List ℕ)) (files files' : FilesAt) (doors doors' : DoorsAt) (out out' : SinkAt) where
@@ -107,7 +107,7 @@ module _ (may_give : ℕ → Type 0) (words : List (List ℕ)) (files files' : F
   is_unread (Plain (Script line why)) h e = absurd h
   is_unread (Plain Memory) h e = absurd (omega arith)
 
-  is_unwritten : (fault : ServeFault) → Causes fault → serve_status fault ≡ 7 → Rose out.faults out'.faults
+  is_unwritten : (fault : ServeFault) → Causes fault → serve_status fault ≡ 7 → Rose out.faults out'.faults × FailsOutside may_give words files files' doors doors' out out'
   is_unwritten ConnectionFailed h e = absurd (omega arith)
   is_unwritten (Plain Usage) h e = absurd (omega arith)
   is_unwritten (Plain (Rules line column why)) h e = absurd (omega arith)
@@ -122,7 +122,7 @@ module _ (may_give : ℕ → Type 0) (words : List (List ℕ)) (files files' : F
   is_unwritten (Plain (Script line why)) h e = absurd h
   is_unwritten (Plain Memory) h e = absurd (omega arith)
 
-  is_connection : (fault : ServeFault) → Causes fault → serve_status fault ≡ 10 → Rose doors.faults doors'.faults
+  is_connection : (fault : ServeFault) → Causes fault → serve_status fault ≡ 10 → Rose doors.faults doors'.faults × FailsOutside may_give words files files' doors doors' out out'
   is_connection ConnectionFailed h e = h
   is_connection (Plain Usage) h e = absurd (omega arith)
   is_connection (Plain (Rules line column why)) h e = absurd (omega arith)
@@ -202,7 +202,7 @@ module _ (may_give : ℕ → Type 0) (words : List (List ℕ)) (files files' : F
 
   -- what came of words that are taken is the cause of its fault
   pub caused : (said : ServeWords) → AreTaken words said → (fault : ServeFault) → ServesSo may_give said files files' doors doors' out out' (Err fault) → Causes fault
-  caused said taken ConnectionFailed h = h
+  caused said taken ConnectionFailed h = (h.0, record { said = said; taken = taken; fails = h.1 })
   caused said taken (Plain Usage) h = absurd h
   caused said taken (Plain (Rules line column why)) h = record { said = said; taken = taken; stops = h }
   caused said taken (Plain (Change line why)) h = record { said = said; taken = taken; stops = h }
@@ -212,6 +212,6 @@ module _ (may_give : ℕ → Type 0) (words : List (List ℕ)) (files files' : F
   caused said taken (Plain Keys) h = record { said = said; taken = taken; stops = h }
   caused said taken (Plain (TooLong seen)) h = record { said = said; taken = taken; stops = h }
   caused said taken (Plain (CannotRead name)) h = record { said = said; taken = taken; stops = h }
-  caused said taken (Plain CannotWrite) h = h
+  caused said taken (Plain CannotWrite) h = (h.0, record { said = said; taken = taken; fails = h.1 })
   caused said taken (Plain (Script line why)) h = absurd h
   caused said taken (Plain Memory) h = h

@@ -65,7 +65,7 @@ module _ (fixed : Fixed) (site : Site) (may_give : ℕ → Type 0) (start : List
     by_output quiet (Err Keys) p = absurd p
     by_output quiet (Err (TooLong seen)) p = absurd p
     by_output quiet (Err (CannotRead name)) p = absurd p
-    by_output quiet (Err CannotWrite) p = p.1
+    by_output quiet (Err CannotWrite) p = (p.1, record { run = run; drained = drained })
     by_output quiet (Err (Script line why)) p = absurd p
     by_output quiet (Err Memory) p = tt
 
@@ -86,7 +86,7 @@ module _ (fixed : Fixed) (site : Site) (may_give : ℕ → Type 0) (start : List
       by_output fixed site may_give start most doors doors' out out' run Most count short taken answers drained taken.stop_is.1 printed prints
   by_doors drained NoRoom count short (taken, answers) =
       by_output fixed site may_give start most doors doors' out out' run NoRoom count short taken answers drained taken.stop_is printed prints
-  by_doors drained Failed count short (taken, answers) = taken.stop_is
+  by_doors drained Failed count short (taken, answers) = (taken.stop_is, record { run = run; drained = drained })
 
   module _ (ended : Ended) (after : After ended) where
     by_compactor : IsStoreDrained (ledger_of fixed.rules run.seen) → (compactor : WorkEnd)

@@ -1,13 +1,16 @@
 -- From a store that was fed and served to the whole command.
-use Rattle.std.proofs.Common.{◌≡◌, ◌∙◌, ℕ, ◌≤◌, Bool, true, List, ◌++◌, Option, Some, None, Result, Ok, Err, ap, subst, arith, inr, append_assoc}
+use Rattle.std.proofs.Common.{◌≡◌, ◌∙◌, ℕ, ◌≤◌, Bool, true, List, [], ◌++◌, Option, Some, None, Result, Ok, Err, refl, sym, ap, subst, arith, inl, inr, append_assoc, append-nil}
 use mathlib.Core.List.{IsPrefix}
 use Rattle.ps_io.specs.Contents.{Gains}
 use Rattle.ps_doors.specs.Connections.{Connection}
 use Rattle.ps_serve.specs.declared.sites.Site.{Site}
 use Rattle.ps_store.specs.declared.fixed.Fixed.{Fixed}
 use Rattle.ps_store.specs.declared.events.Event.{Event}
-use Rattle.ps_store.specs.Histories.{LedgersTellHistories}
+use Rattle.ps_store.specs.Histories.{LedgersTellHistories, LedgersTellOneGeneration}
 use Rattle.ps_store.specs.LedgerLaws.{LedgersTellFeeds}
+use Rattle.ps_store.specs.Ledgers.{ledger_of}
+use Rattle.ps_workers.specs.Work.{IsStoreDrained}
+use Rattle.ps_files.specs.declared.faults.Limit.{Limit}
 use Rattle.ps_files.specs.declared.faults.Fault.TheVariants.{Usage, Rules, Change, PastLimit, TooManyBuckets, Claims, Keys, TooLong, CannotRead, CannotWrite, Script, Memory}
 use Rattle.ps_serve_words.specs.declared.words.ServeWords.{ServeWords}
 use Rattle.ps_serve_inputs.specs.declared.faults.ServeFault.{ServeFault}
@@ -16,16 +19,57 @@ use Rattle.ps_serve_inputs.specs.declared.inputs.Inputs.{Inputs}
 use Rattle.ps_serve_inputs.specs.Inputs.{AreInputs}
 use Rattle.ps_serving.specs.Openings.{opening}
 use Rattle.ps_serving.specs.Printing.{listening_line}
-use Rattle.ps_serving.specs.Serving.{FilesAt, DoorsAt, SinkAt, ServesFed, ServesSo, fixed_by, site_by, opening_by, most_of}
+use Rattle.ps_serving.specs.Serving.{FilesAt, DoorsAt, SinkAt, HasRun, HasDrained, IsPast, Fails, Listens, ServesFed, ServesSo, fixed_by, site_by, opening_by, most_of, limit_passed_by}
 use Rattle.ps_serving.specs.Totals.{TotalsAreOne}
 use Rattle.ps_serving.proofs.Closing.{fed_whole, written_whole}
+use Rattle.ps_serving.proofs.Passing.{none_passed, limit_passed}
 
 gains_both : (old mid new : Option (List ℕ)) (one two : List ℕ) → Gains old mid one → Gains mid new two → Gains old new (one ++ two)
 gains_both None mid new one two first second = let e = first in rw first at second
 gains_both (Some taken) mid new one two first second = let e = rw first at second in e ∙ ap Some (append_assoc taken one two)
 
-module _ (tells : LedgersTellHistories) (feeds : LedgersTellFeeds) (one : TotalsAreOne) (may_give : ℕ → Type 0) (said : ServeWords) (files files' : FilesAt) (doors doors' : DoorsAt)
+gains_nothing : (old new : Option (List ℕ)) → new ≡ old → Gains old new []
+gains_nothing None new same = same
+gains_nothing (Some taken) new same = same ∙ ap Some (sym (append-nil taken))
+
+-- doors that do not listen, and an address that cannot be printed, fail before the threads run
+module _ (may_give : ℕ → Type 0) (said : ServeWords) (files files' : FilesAt) (doors doors' : DoorsAt) (out out' : SinkAt) where
+  pub listen_failed : (fault : ServeFault) → Listens said.listen out out' doors.faults doors'.faults (Err fault) → doors'.opened ≡ doors.opened
+      → ServesSo may_give said files files' doors doors' out out' (Err fault)
+  listen_failed ConnectionFailed h opened = (h.0, inl (record { opened = opened; printed = ([], listening_line said.listen, refl, gains_nothing out.taken out'.taken h.1) }))
+  listen_failed (Plain Usage) h opened = absurd h
+  listen_failed (Plain (Rules line column why)) h opened = absurd h
+  listen_failed (Plain (Change line why)) h opened = absurd h
+  listen_failed (Plain (PastLimit limit)) h opened = absurd h
+  listen_failed (Plain (TooManyBuckets count)) h opened = absurd h
+  listen_failed (Plain Claims) h opened = absurd h
+  listen_failed (Plain Keys) h opened = absurd h
+  listen_failed (Plain (TooLong seen)) h opened = absurd h
+  listen_failed (Plain (CannotRead name)) h opened = absurd h
+  listen_failed (Plain CannotWrite) h opened = (h.1, inl (record { opened = opened; printed = h.0 }))
+  listen_failed (Plain (Script line why)) h opened = absurd h
+  listen_failed (Plain Memory) h opened = tt
+
+module _ (tells : LedgersTellHistories) (generation : LedgersTellOneGeneration) (feeds : LedgersTellFeeds) (one : TotalsAreOne) (may_give : ℕ → Type 0) (said : ServeWords) (files files' : FilesAt) (doors doors' : DoorsAt)
     (out mid out' : SinkAt) (inputs : Inputs) (read : AreInputs files.held said inputs) (listened : Gains out.taken mid.taken (listening_line said.listen)) (up : out.faults ≤ mid.faults) where
+  -- in drained mode what was seen begins with the Feeds of the change file and a Close
+  begins_closed : (seen : List Event) → IsPrefix (opening_by said inputs) seen → said.until_drained ≡ true → IsPrefix (opening true inputs.transactions.items) seen
+  begins_closed seen begins drained = subst (λ (b : Bool). IsPrefix (opening b inputs.transactions.items) seen) drained begins
+
+  fits : (run : HasRun (fixed_by inputs) (opening_by said inputs)) → IsStoreDrained (ledger_of inputs.rules run.seen) → said.until_drained ≡ true → limit_passed_by inputs ≡ None
+  fits run drained closed =
+      none_passed tells generation feeds inputs.rules inputs.transactions.items (opening_by said inputs) run (begins_closed run.history run.begins closed)
+      (begins_closed run.seen run.later closed) drained.written
+
+  passes : (limit : Limit) (run : HasRun (fixed_by inputs) (opening_by said inputs)) → IsPast (fixed_by inputs) (ledger_of inputs.rules run.seen) limit → said.until_drained ≡ true
+      → limit_passed_by inputs ≡ Some limit
+  passes limit run past closed =
+      limit_passed tells generation feeds inputs.rules inputs.transactions.items (opening_by said inputs) run (begins_closed run.history run.begins closed)
+      (begins_closed run.seen run.later closed) limit past
+
+  fails_later : HasDrained (fixed_by inputs) (opening_by said inputs) → Fails may_give said files files' doors doors' out out'
+  fails_later drained = inr (record { inputs = inputs; read = read; fits = fits drained.run drained.drained })
+
   -- what came of the store that was fed came of the command
   pub serves_so : (result : Result (Unit {0}) ServeFault)
       → ServesFed (fixed_by inputs) (site_by said inputs) may_give (opening_by said inputs) (most_of said) doors doors' mid out' result
@@ -54,18 +98,19 @@ module _ (tells : LedgersTellHistories) (feeds : LedgersTellFeeds) (one : Totals
               fed = fed;
               written = written_whole tells feeds inputs.rules inputs.transactions.items s.run.seen s.run.history s.run.earlier stands.legal fed s.drained.closed s.drained.written;
             });
+        fits = fits s.run s.drained;
       }
-  serves_so (Err ConnectionFailed) s = s
+  serves_so (Err ConnectionFailed) s = (s.0, fails_later s.1)
   serves_so (Err (Plain Usage)) s = absurd s
   serves_so (Err (Plain (Rules line column why))) s = absurd s
   serves_so (Err (Plain (Change line why))) s = absurd s
-  serves_so (Err (Plain (PastLimit limit))) s = inr (record { inputs = inputs; read = read; refuses = s })
+  serves_so (Err (Plain (PastLimit limit))) s = inr (record { inputs = inputs; read = read; refuses = s; passes = passes limit s.run s.past })
   serves_so (Err (Plain (TooManyBuckets count))) s = absurd s
   serves_so (Err (Plain Claims)) s = absurd s
   serves_so (Err (Plain Keys)) s = absurd s
   serves_so (Err (Plain (TooLong seen))) s = absurd s
   serves_so (Err (Plain (CannotRead name))) s = absurd s
-  serves_so (Err (Plain CannotWrite)) s = omega arith
+  serves_so (Err (Plain CannotWrite)) s = let rose = s.0 in (omega (arith, rose, up), fails_later s.1)
   serves_so (Err (Plain (Script line why))) s = absurd s
   serves_so (Err (Plain Memory)) s = tt
 

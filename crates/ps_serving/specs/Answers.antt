@@ -17,7 +17,7 @@ use Rattle.ps_serve_inputs.specs.declared.faults.ServeFault.{ServeFault}
 use Rattle.ps_serve_inputs.specs.declared.faults.ServeFault.TheVariants.{Plain, ConnectionFailed}
 use Rattle.ps_serve_inputs.specs.Inputs.{StopsInputs}
 use Rattle.ps_serve_inputs.specs.ServeFaults.{SaysServeFault}
-use Rattle.ps_serving.specs.Serving.{FilesAt, DoorsAt, SinkAt, IsServed, IsRefusedLate}
+use Rattle.ps_serving.specs.Serving.{FilesAt, DoorsAt, SinkAt, IsServed, IsRefusedLate, Fails}
 
 -- the name that could not be read joined those that could not be, and else none did
 abbrev pub MissesFault : Option (List (List ℕ)) → Option (List (List ℕ)) → ServeFault → Type 0
@@ -46,6 +46,12 @@ module _ (may_give : ℕ → Type 0) (words : List (List ℕ)) (files files' : F
     pub taken : AreTaken words said
     pub refused : IsRefusedLate may_give said files files' doors doors' out out' limit
 
+  -- the words are taken, and the doors or the output failed before the threads ran, or once the writer had drained the store
+  pub record FailsOutside : Type 0 where
+    pub said : ServeWords
+    pub taken : AreTaken words said
+    pub fails : Fails may_give said files files' doors doors' out out'
+
   -- the words are taken, and all of it was done
   pub record Serves : Type 0 where
     pub said : ServeWords
@@ -54,7 +60,7 @@ module _ (may_give : ℕ → Type 0) (words : List (List ℕ)) (files files' : F
 
   -- the cause of a fault
   abbrev pub IsCause : ServeFault → Type 0
-  IsCause ConnectionFailed = Rose doors.faults doors'.faults
+  IsCause ConnectionFailed = Rose doors.faults doors'.faults × FailsOutside
   IsCause (Plain Usage) = AreRefused words
   IsCause (Plain (Rules line column why)) = Stops (Rules line column why)
   IsCause (Plain (Change line why)) = Stops (Change line why)
@@ -64,7 +70,7 @@ module _ (may_give : ℕ → Type 0) (words : List (List ℕ)) (files files' : F
   IsCause (Plain Keys) = Stops Keys
   IsCause (Plain (TooLong seen)) = Stops (TooLong seen)
   IsCause (Plain (CannotRead name)) = Stops (CannotRead name)
-  IsCause (Plain CannotWrite) = Rose out.faults out'.faults
+  IsCause (Plain CannotWrite) = Rose out.faults out'.faults × FailsOutside
   IsCause (Plain (Script line why)) = ⊥
   IsCause (Plain Memory) = Unit {0}
 
@@ -78,8 +84,8 @@ module _ (may_give : ℕ → Type 0) (words : List (List ℕ)) (files files' : F
     pub keys : status ≡ 4 → Stops Keys
     pub limits : status ≡ 5 → ((seen : ℕ) × Stops (TooLong seen)) ⊎ ((limit : Limit) × (Stops (PastLimit limit) ⊎ StopsLate limit))
     pub unread : status ≡ 6 → (name : Bor (List ℕ)) × Stops (CannotRead name)
-    pub unwritten : status ≡ 7 → Rose out.faults out'.faults
-    pub connections : status ≡ 10 → Rose doors.faults doors'.faults
+    pub unwritten : status ≡ 7 → Rose out.faults out'.faults × FailsOutside
+    pub connections : status ≡ 10 → Rose doors.faults doors'.faults × FailsOutside
     pub known : (status ≤ 8) ⊎ (status ≡ 10)
 
   -- what is said is the line of a fault that has its cause and that status; it names the file that could not be read

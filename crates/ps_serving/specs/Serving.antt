@@ -1,8 +1,8 @@
 -- What `serve` answers, and the cause of each answer.
-use Rattle.std.specs.Prelude.{◌≡◌, ◌⊎◌, ℕ, ◌-◌, ◌^◌, true, false, List, ◌++◌, length, Option, unwrap_or, Result, Ok, Err}
+use Rattle.std.specs.Prelude.{◌≡◌, ◌⊎◌, ℕ, ◌-◌, ◌^◌, true, false, List, [], ◌++◌, length, Option, Some, None, unwrap_or, Result, Ok, Err}
 use mathlib.Core.List.{IsPrefix}
 use Rattle.ps_data.specs.declared.ids.OpId.{OpId}
-use Rattle.ps_io.specs.Contents.{Contents, Gains}
+use Rattle.ps_io.specs.Contents.{Contents, Gains, GainsFront}
 use Rattle.ps_io.specs.Counts.{Rose}
 use Rattle.ps_connections.specs.declared.ended.Ended.{Ended}
 use Rattle.ps_connections.specs.Taken.{HasTaken}
@@ -11,13 +11,16 @@ use Rattle.ps_serve.specs.declared.sites.Site.{Site}
 use Rattle.ps_store.specs.declared.events.Event.{Event}
 use Rattle.ps_store.specs.declared.faults.WriteFault.TheVariants as writing
 use Rattle.ps_store.specs.declared.fixed.Fixed.{Fixed}
+use Rattle.ps_store.specs.Keeping.{AreNarrow}
 use Rattle.ps_store.specs.Ledgers.{Ledger, ledger_of}
+use Rattle.ps_store.specs.Originals.{timed}
 use Rattle.ps_store.specs.Stores.{IsRefused}
 use Rattle.ps_store.specs.Totals.{totals_of}
 use Rattle.ps_files.specs.declared.faults.Fault.{Fault}
 use Rattle.ps_files.specs.declared.faults.Fault.TheVariants.{Usage, Rules, Change, PastLimit, TooManyBuckets, Claims, Keys, TooLong, CannotRead, CannotWrite, Script, Memory}
 use Rattle.ps_files.specs.declared.faults.Limit.{Limit}
 use Rattle.ps_files.specs.declared.faults.Limit.TheVariants.{LineBytes, Entries, Operations}
+use Rattle.ps_files.specs.ChangeFiles.{first_passed}
 use Rattle.ps_files.specs.ReadingChanges.{usual}
 use Rattle.ps_serve_words.specs.declared.words.ServeWords.{ServeWords}
 use Rattle.ps_serve_inputs.specs.declared.faults.ServeFault.{ServeFault}
@@ -60,10 +63,11 @@ IsPast fixed l (LineBytes count) = ⊥
 IsPast fixed l (Entries count) = IsTooWide fixed l count
 IsPast fixed l (Operations last) = (id : OpId) × (id.0 ≡ last) × IsRefused fixed.limits l (writing.OpsFull id)
 
--- the lock's last history, which begins so; and one of its beginnings, which the writer saw last
+-- the lock's last history, which begins so and each of whose written changes was narrow; and one of its beginnings, which the writer saw last
 pub record HasRun (fixed : Fixed) (start : List Event) : Type 0 where
   pub history : List Event
   pub stood : IsStoodFor fixed history
+  pub narrow : AreNarrow fixed (ledger_of fixed.rules history)
   pub begins : IsPrefix start history
   pub seen : List Event
   pub later : IsPrefix start seen
@@ -73,6 +77,11 @@ pub record HasRun (fixed : Fixed) (start : List Event) : Type 0 where
 pub record RefusesChange (fixed : Fixed) (start : List Event) (limit : Limit) : Type 0 where
   pub run : HasRun fixed start
   pub past : IsPast fixed (ledger_of fixed.rules run.seen) limit
+
+-- the writer drained the store
+pub record HasDrained (fixed : Fixed) (start : List Event) : Type 0 where
+  pub run : HasRun fixed start
+  pub drained : IsStoreDrained (ledger_of fixed.rules run.seen)
 
 -- all connections were served, at most so many; the writer drained the store, and the totals of the last history were printed
 pub record ServesAll (fixed : Fixed) (site : Site) (may_give : ℕ → Type 0) (start : List Event) (most : ℕ) (doors doors' : DoorsAt) (out out' : SinkAt) : Type 0 where
@@ -88,7 +97,7 @@ pub record ServesAll (fixed : Fixed) (site : Site) (may_give : ℕ → Type 0) (
 -- serving a store that was fed
 abbrev pub ServesFed : Fixed → Site → (ℕ → Type 0) → List Event → ℕ → DoorsAt → DoorsAt → SinkAt → SinkAt → Result (Unit {0}) ServeFault → Type 0
 ServesFed fixed site may_give start most doors doors' out out' (Ok done) = ServesAll fixed site may_give start most doors doors' out out'
-ServesFed fixed site may_give start most doors doors' out out' (Err ConnectionFailed) = Rose doors.faults doors'.faults
+ServesFed fixed site may_give start most doors doors' out out' (Err ConnectionFailed) = Rose doors.faults doors'.faults × HasDrained fixed start
 ServesFed fixed site may_give start most doors doors' out out' (Err (Plain Usage)) = ⊥
 ServesFed fixed site may_give start most doors doors' out out' (Err (Plain (Rules line column why))) = ⊥
 ServesFed fixed site may_give start most doors doors' out out' (Err (Plain (Change line why))) = ⊥
@@ -98,7 +107,7 @@ ServesFed fixed site may_give start most doors doors' out out' (Err (Plain Claim
 ServesFed fixed site may_give start most doors doors' out out' (Err (Plain Keys)) = ⊥
 ServesFed fixed site may_give start most doors doors' out out' (Err (Plain (TooLong seen))) = ⊥
 ServesFed fixed site may_give start most doors doors' out out' (Err (Plain (CannotRead name))) = ⊥
-ServesFed fixed site may_give start most doors doors' out out' (Err (Plain CannotWrite)) = Rose out.faults out'.faults
+ServesFed fixed site may_give start most doors doors' out out' (Err (Plain CannotWrite)) = Rose out.faults out'.faults × HasDrained fixed start
 ServesFed fixed site may_give start most doors doors' out out' (Err (Plain (Script line why))) = ⊥
 ServesFed fixed site may_give start most doors doors' out out' (Err (Plain Memory)) = Unit {0}
 
@@ -107,7 +116,7 @@ ServesFed fixed site may_give start most doors doors' out out' (Err (Plain Memor
 -- it listens, and where was printed; or why not
 abbrev pub Listens : List ℕ → SinkAt → SinkAt → ℕ → ℕ → Result (Unit {0}) ServeFault → Type 0
 Listens address out out' before now (Ok done) = Gains out.taken out'.taken (listening_line address) × (now ≡ before)
-Listens address out out' before now (Err ConnectionFailed) = Rose before now
+Listens address out out' before now (Err ConnectionFailed) = Rose before now × (out'.taken ≡ out.taken)
 Listens address out out' before now (Err (Plain Usage)) = ⊥
 Listens address out out' before now (Err (Plain (Rules line column why))) = ⊥
 Listens address out out' before now (Err (Plain (Change line why))) = ⊥
@@ -117,7 +126,7 @@ Listens address out out' before now (Err (Plain Claims)) = ⊥
 Listens address out out' before now (Err (Plain Keys)) = ⊥
 Listens address out out' before now (Err (Plain (TooLong seen))) = ⊥
 Listens address out out' before now (Err (Plain (CannotRead name))) = ⊥
-Listens address out out' before now (Err (Plain CannotWrite)) = Rose out.faults out'.faults
+Listens address out out' before now (Err (Plain CannotWrite)) = GainsFront out.taken out'.taken (listening_line address) × Rose out.faults out'.faults
 Listens address out out' before now (Err (Plain (Script line why))) = ⊥
 Listens address out out' before now (Err (Plain Memory)) = Unit {0}
 
@@ -133,11 +142,15 @@ site_by words inputs = record { keys = inputs.keys; until_drained = words.until_
 abbrev pub opening_by : ServeWords → Inputs → List Event
 opening_by words inputs = opening words.until_drained inputs.transactions.items
 
+-- the limit that the first change of the change file passes which passes one, where each change is written in its turn
+abbrev pub limit_passed_by : Inputs → Option Limit
+limit_passed_by inputs = first_passed inputs.rules.definitions [] (timed inputs.transactions.items)
+
 module _ (may_give : ℕ → Type 0) (said : ServeWords) (files files' : FilesAt) (doors doors' : DoorsAt) (out out' : SinkAt) where
   -- there is one history, of the rules of the rules file under the usual limits, which the store stood for at the end. It begins with the Feeds of the change
   -- file, and with a Close behind them in drained mode. As many connections were closed as were handed out, each answered over this history from there on, under
   -- the keys of the key file, and none ended for out of memory. The address and this history's totals were printed; in drained mode these are the totals of any history
-  -- that feeds the change file alone and writes all of it
+  -- that feeds the change file alone and writes all of it, and no change of it passes a limit
   pub record IsServed : Type 0 where
     pub inputs : Inputs
     pub read : AreInputs files.held said inputs
@@ -151,12 +164,28 @@ module _ (may_give : ℕ → Type 0) (said : ServeWords) (files files' : FilesAt
     pub answers : HaveAnswers (fixed_by inputs) (site_by said inputs) may_give (length (opening_by said inputs)) history doors.opened doors.closed doors'.closed ended
     pub printed : Gains out.taken out'.taken (listening_line said.listen ++ totals_line (totals_of (ledger_of inputs.rules history)))
     pub whole : said.until_drained ≡ true → totals_of (ledger_of inputs.rules history) ≡ whole_totals inputs.rules inputs.transactions.items
+    pub fits : said.until_drained ≡ true → limit_passed_by inputs ≡ None
 
-  -- a change of the change file, or of an upload, was refused so
+  -- a change of the change file, or of an upload, was refused so; in drained mode it is the first one of the change file that passes a limit
   pub record IsRefusedLate (limit : Limit) : Type 0 where
     pub inputs : Inputs
     pub read : AreInputs files.held said inputs
     pub refuses : RefusesChange (fixed_by inputs) (opening_by said inputs) limit
+    pub passes : said.until_drained ≡ true → limit_passed_by inputs ≡ Some limit
+
+  -- it failed before the threads ran: no connection was handed out, and of the line with the address a front was printed
+  pub record FailsFirst : Type 0 where
+    pub opened : doors'.opened ≡ doors.opened
+    pub printed : GainsFront out.taken out'.taken (listening_line said.listen)
+
+  -- it failed once the writer had drained the store; in drained mode no change of the change file passes a limit
+  pub record FailsLater : Type 0 where
+    pub inputs : Inputs
+    pub read : AreInputs files.held said inputs
+    pub fits : said.until_drained ≡ true → limit_passed_by inputs ≡ None
+
+  abbrev pub Fails : Type 0
+  Fails = FailsFirst ⊎ FailsLater
 
   abbrev pub IsStopped : Fault → Type 0
   IsStopped fault = StopsInputs files.held said files.faults files'.faults fault
@@ -164,7 +193,7 @@ module _ (may_give : ℕ → Type 0) (said : ServeWords) (files files' : FilesAt
   -- the command was served, or this is why not
   abbrev pub ServesSo : Result (Unit {0}) ServeFault → Type 0
   ServesSo (Ok done) = IsServed
-  ServesSo (Err ConnectionFailed) = Rose doors.faults doors'.faults
+  ServesSo (Err ConnectionFailed) = Rose doors.faults doors'.faults × Fails
   ServesSo (Err (Plain Usage)) = ⊥
   ServesSo (Err (Plain (Rules line column why))) = IsStopped (Rules line column why)
   ServesSo (Err (Plain (Change line why))) = IsStopped (Change line why)
@@ -174,6 +203,6 @@ module _ (may_give : ℕ → Type 0) (said : ServeWords) (files files' : FilesAt
   ServesSo (Err (Plain Keys)) = IsStopped Keys
   ServesSo (Err (Plain (TooLong seen))) = IsStopped (TooLong seen)
   ServesSo (Err (Plain (CannotRead name))) = IsStopped (CannotRead name)
-  ServesSo (Err (Plain CannotWrite)) = Rose out.faults out'.faults
+  ServesSo (Err (Plain CannotWrite)) = Rose out.faults out'.faults × Fails
   ServesSo (Err (Plain (Script line why))) = ⊥
   ServesSo (Err (Plain Memory)) = Unit {0}

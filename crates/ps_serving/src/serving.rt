@@ -24,7 +24,7 @@ use ps_lock::Seat;
 use ps_serve::Site;
 use ps_serve_inputs::{Inputs, ServeFault, load_inputs, say_serve};
 use ps_serve_words::{ServeWords, WordsFault, read_serve_words};
-use ps_store::{Store, ledgers_tell_events, ledgers_tell_histories};
+use ps_store::{Store, ledgers_tell_events, ledgers_tell_histories, ledgers_tell_ops};
 use ps_workers::totals_in_turn;
 use std::alloc::Global;
 use std::sync::Wait;
@@ -126,6 +126,7 @@ fn serve<
 {
     ledgers_tell_events();
     ledgers_tell_histories();
+    ledgers_tell_ops();
     totals_are_one();
     let Inputs {
         rules,
@@ -171,10 +172,10 @@ fn words_fault<'a>(fault: WordsFault) -> ServeFault<'a>
 /// then all transactions of the change file are fed into a new store, and with `--until-drained` its feed is closed. `listening ADDRESS` is printed once the doors
 /// listen. A writer, a compactor and a thread for each connection share the store, each with a seat of its own at its lock. After the last connection has ended the feed is closed
 /// where it was not, and once the writer and the compactor have ended too the totals are printed.
-/// Where no thread can be had for the writer, no connection is taken, and the status is 8.
+/// Where no thread can be had for the writer, no connection is taken, and the status is 8, or 5 where a change is refused.
 ///
 /// A fault before the threads run ends it. Of several later ones the writer's decides, then the compactor's, then that of the doors, of the output, and that a connection ended for
-/// out of memory. The runtime hears how each connection ended.
+/// out of memory. The runtime hears how each connection ended. So in drained mode, once the address was printed, status 5 comes exactly where writing the change file is refused, but for 8.
 pub fn run_serve<
     R: Wait + time::Clock + Threads + Sync + Hears,
     F: Files,
@@ -195,7 +196,8 @@ pub fn run_serve<
     err: &mut E,
 ) -> u8
     // Each status with its cause. With status 0: one history, which begins with the Feeds of the change file, over which every connection was answered, and whose
-    // totals were printed.
+    // totals were printed. In drained mode, once the threads run, status 5 comes where a change of the change file passes a limit, by the first one that does, and 0, 7
+    // and 10 where none does.
     ensures answers { AnswersServe (C.may_give clock.now) words.now
         (record { held = F.held files.old; faults = F.faults files.old }) (record { held = F.held files.new; faults = F.faults files.new })
         (record { opened = D.opened doors.old; coming = D.coming doors.old; closed = D.closed doors.old; faults = D.faults doors.old })

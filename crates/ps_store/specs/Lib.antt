@@ -19,6 +19,7 @@ pub mod Tails
 pub mod Totals
 pub mod Plans
 pub mod Stores
+pub mod Keeping
 pub mod Readings
 pub mod Costs
 pub mod Histories

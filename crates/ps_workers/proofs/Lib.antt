@@ -1,5 +1,6 @@
 pub mod Compactor
 pub mod Drained
+pub mod Narrow
 pub mod Turning
 pub mod Working
 pub mod Writer

@@ -20,6 +20,7 @@ use Rattle.ps_store.specs.declared.stores.Store.{Store}
 use Rattle.ps_write_cp.specs.declared.faults.NumberFault.{NumberFault}
 use Rattle.ps_write_cp.specs.declared.faults.NumberFault.TheVariants as numbering
 use Rattle.ps_workers.specs.Sharing.{fixed_of}
+use Rattle.ps_store.specs.Keeping.{AreNarrow, KeepsHistory}
 use Rattle.ps_store.specs.Ledgers.{ledger_of}
 use Rattle.ps_store.specs.Stores.{StoreStandsFor, Feeds, Uploads, MakesNumber, Compacts}
 use Rattle.ps_store.specs.Totals.{bucket_names_of}
@@ -31,9 +32,12 @@ pub lent : (lock : StoreLock Store Event Fixed) (turn : Turn Store Event Fixed) 
     → StoreStandsFor (fixed_of lock) (value_of turn) (history_of turn) → StoreStandsFor (fixed_of lock) value (history_of turn)
 lent lock turn value same h = subst (λ (x : Store). StoreStandsFor (fixed_of lock) x (history_of turn)) (sym same) h
 
--- under the same lock
-pub under : (lock other : StoreLock Store Event Fixed) (value : Store) (history : List Event) → other ≡ lock → StoreStandsFor (fixed_of lock) value history → StoreStandsFor (fixed_of other) value history
-under lock other value history same h = subst (λ (k : StoreLock Store Event Fixed). StoreStandsFor (fixed_of k) value history) (sym same) h
+-- what is kept at its end, under the same lock
+pub under : (lock other : StoreLock Store Event Fixed) (value : Store) (history : List Event) → other ≡ lock → StoreStandsFor (fixed_of lock) value history
+    → AreNarrow (fixed_of lock) (ledger_of (fixed_of lock).rules history) → (value.fixed ≡ fixed_of other) × KeepsHistory (fixed_of other) value history
+under lock other value history same h narrow =
+    let kept = subst (λ (k : StoreLock Store Event Fixed). KeepsHistory (fixed_of k) value history) (sym same) (h, narrow) in
+    (kept.0.fixed_is, kept)
 
 module _ {d : Ghosts Store Event Fixed} (before after : Seat Store Event Fixed d) (turn : Turn Store Event Fixed) (knew : IsPrefix (seen_by before) (history_of turn))
     (had : own_entries_in turn ≡ own_entries_of before) where

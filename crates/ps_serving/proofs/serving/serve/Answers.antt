@@ -1,10 +1,34 @@
 use Rattle.std.proofs.Common.{◌≡◌, rules}
+use Rattle.std.proofs.lemmas.Result.{err_from_is_err_and}
 use Rattle.ps_lock.specs.Words.{seen_by}
 use Rattle.ps_serve.specs.declared.sites.Site.{Site}
 use Rattle.ps_workers.specs.Sharing.{fixed_of}
 use Rattle.ps_serving.specs.Serving.{FilesAt, DoorsAt, SinkAt, ServesFed, fixed_by, site_by, opening_by, most_of}
-use Rattle.ps_serving.proofs.Whole.{serves_so, same_doors, moved}
+use Rattle.ps_serving.proofs.Whole.{serves_so, listen_failed, same_doors, moved}
 use Rattle.ps_serving.proofs.serving.serve.Goals as goal
+
+pub returns-in_err-listen-clause-serves : goal.returns-in_err-listen-clause-serves
+returns-in_err-listen-clause-serves g c =
+    let said = c.args.words.now in
+    let may_give = g.C.Clock.may_give c.args.tools.now.clock.now in
+    let files : FilesAt = record { held = g.F.Files.held c.args.files.now; faults = g.F.Files.faults c.args.files.now } in
+    let files' : FilesAt = record { held = g.F.Files.held c.load_inputs.new.files; faults = g.F.Files.faults c.load_inputs.new.files } in
+    let doors : DoorsAt = record {
+      opened = g.D.Doors.opened c.args.doors.now;
+      coming = g.D.Doors.coming c.args.doors.now;
+      closed = g.D.Doors.closed c.args.doors.now;
+      faults = g.D.Doors.faults c.args.doors.now;
+    } in
+    let doors' : DoorsAt = record {
+      opened = g.D.Doors.opened c.listen.new.doors;
+      coming = g.D.Doors.coming c.listen.new.doors;
+      closed = g.D.Doors.closed c.listen.new.doors;
+      faults = g.D.Doors.faults c.listen.new.doors;
+    } in
+    let out : SinkAt = record { taken = g.O.Sink.taken c.args.out.now; faults = g.O.Sink.faults c.args.out.now } in
+    let out' : SinkAt = record { taken = g.O.Sink.taken c.listen.new.out; faults = g.O.Sink.faults c.listen.new.out } in
+    let p = err_from_is_err_and c.from_residual-in_err-listen.result c.from_residual-in_err-listen.ensures.1 in
+    rw (p.1, p.2) (listen_failed may_give said files files' doors doors' out out' c.in_err-listen.field-0.0 c.in_err-listen.ensures.listens c.in_err-listen.ensures.opened)
 
 pub returns-clause-serves : goal.returns-clause-serves
 returns-clause-serves g c =
@@ -45,5 +69,5 @@ returns-clause-serves g c =
     c.in_ok-listen.ensures.closed c.in_ok-listen.ensures.listens.1 in
     let fed = moved may_give (fixed_of c.in_ok-lock.lock) (fixed_by inputs) site (site_by said inputs) start (opening_by said inputs) c.pace_of.result.most (most_of said) mid doors doors' out1 out'
     c.serve_fed.result fixed_is site_is start_is c.pace_of.ensures.most doors_are given in
-    serves_so c.ledgers_tell_histories.ensures c.ledgers_tell_events.ensures.feeds c.totals_are_one.ensures may_give said files files' doors doors' out out1 out' inputs
+    serves_so c.ledgers_tell_histories.ensures c.ledgers_tell_ops.ensures.one c.ledgers_tell_events.ensures.feeds c.totals_are_one.ensures may_give said files files' doors doors' out out1 out' inputs
     c.in_ok-rules.ensures.loads c.in_ok-listen.ensures.listens.0 c.in_ok-listen.ensures.faults c.serve_fed.result fed

@@ -23,6 +23,7 @@ returns g c =
     let run : HasRun fixed start = record {
       history = history;
       stood = turn.1.looks.stood;
+      narrow = turn.1.looks.narrow;
       begins = prefix_trans start saw history c.in_ok-seat.ensures.saw knew;
       seen = wrote.seen;
       later = wrote.later;

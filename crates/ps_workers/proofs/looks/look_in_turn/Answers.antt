@@ -6,11 +6,13 @@ use Rattle.ps_workers.proofs.looks.look_in_turn.Goals as goal
 pub returns-clause-turn : goal.returns-clause-turn
 returns-clause-turn g c =
     let turn = c.turn-turn.result in
-    let stands = c.turn-turn.ensures.stands.1 in (
+    let kept = c.turn-turn.ensures.stands.1 in
+    let stands = kept.0 in (
       history_of turn,
       record {
         looks = looks c.args.seat c.leave.result turn c.turn-turn.ensures.seen c.turn-turn.ensures.own c.leave.ensures.seen c.leave.ensures.own;
         stood = (value_of turn, stands);
+        narrow = kept.1;
         found = c.look_at-look.ensures (fixed_of c.args.lock.now) (history_of turn) (lent c.args.lock.now turn c.value.result.now c.value.ensures.value stands);
       },
     )

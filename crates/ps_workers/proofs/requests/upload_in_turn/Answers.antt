@@ -4,33 +4,33 @@ use Rattle.ps_lock.specs.Words.{history_of, own_entries_in}
 use Rattle.ps_store.specs.declared.events.Event.TheVariants.{Feed}
 use Rattle.ps_workers.specs.Sharing.{fixed_of}
 use Rattle.ps_store.specs.Stores.{StoreStandsFor}
+use Rattle.ps_workers.proofs.Narrow.{feed_narrow}
 use Rattle.ps_workers.proofs.Turning.{lent, under, looks, adds, refused_upload, upload_stands}
 use Rattle.ps_workers.proofs.requests.upload_in_turn.Goals as goal
 
 pub leave_with-requires : goal.leave_with-requires
 leave_with-requires g c =
     let turn = c.turn-turn.result in
-    let start = lent c.args.lock.now turn c.value.result.now c.value.ensures.value c.turn-turn.ensures.stands.1 in
+    let start = lent c.args.lock.now turn c.value.result.now c.value.ensures.value c.turn-turn.ensures.stands.1.0 in
     let said = c.in-Ok-upload.ensures (fixed_of c.args.lock.now) (history_of turn) start in
     let same = c.in-Ok.ensures ∙ c.as_slice.ensures in
     let copied =
     subst (λ (cs : List Change). StoreStandsFor (fixed_of c.args.lock.now) c.upload.new.self (history_of turn ++ Feed (record { position = c.in-Ok-upload.position; changes = cs }) ∷ [])) (sym same) said.2 in
-    let stands = under c.args.lock.now turn.lock.now c.upload.new.self _ c.turn-turn.ensures.lock copied in
-    (stands.fixed_is, stands)
+    under c.args.lock.now turn.lock.now c.upload.new.self _ c.turn-turn.ensures.lock copied
+    (feed_narrow (fixed_of c.args.lock.now) c.value.result.now (history_of turn) _ start c.turn-turn.ensures.stands.1.1)
 
 pub leave-requires : goal.leave-requires
 leave-requires g c =
     let turn = c.turn-turn.result in
-    let start = lent c.args.lock.now turn c.value.result.now c.value.ensures.value c.turn-turn.ensures.stands.1 in
+    let start = lent c.args.lock.now turn c.value.result.now c.value.ensures.value c.turn-turn.ensures.stands.1.0 in
     let said = c.in-Err-upload.ensures (fixed_of c.args.lock.now) (history_of turn) start in
     let kept = upload_stands (fixed_of c.args.lock.now) (history_of turn) c.args.changes c.upload.new.self c.in-Err-upload.fault said in
-    let stands = under c.args.lock.now turn.lock.now c.upload.new.self (history_of turn) c.turn-turn.ensures.lock kept in
-    (stands.fixed_is, stands)
+    under c.args.lock.now turn.lock.now c.upload.new.self (history_of turn) c.turn-turn.ensures.lock kept c.turn-turn.ensures.stands.1.1
 
 pub returns-in-Ok-upload-clause-turn : goal.returns-in-Ok-upload-clause-turn
 returns-in-Ok-upload-clause-turn g c =
     let turn = c.turn-turn.result in
-    let start = lent c.args.lock.now turn c.value.result.now c.value.ensures.value c.turn-turn.ensures.stands.1 in
+    let start = lent c.args.lock.now turn c.value.result.now c.value.ensures.value c.turn-turn.ensures.stands.1.0 in
     let said = c.in-Ok-upload.ensures (fixed_of c.args.lock.now) (history_of turn) start in
     let same = c.in-Ok.ensures ∙ c.as_slice.ensures in
     let copied = ap (λ (cs : List Change). history_of turn ++ Feed (record { position = c.in-Ok-upload.position; changes = cs }) ∷ []) same in
@@ -47,7 +47,7 @@ returns-in-Ok-upload-clause-turn g c =
 pub returns-in-Err-upload-clause-turn : goal.returns-in-Err-upload-clause-turn
 returns-in-Err-upload-clause-turn g c =
     let turn = c.turn-turn.result in
-    let start = lent c.args.lock.now turn c.value.result.now c.value.ensures.value c.turn-turn.ensures.stands.1 in
+    let start = lent c.args.lock.now turn c.value.result.now c.value.ensures.value c.turn-turn.ensures.stands.1.0 in
     let said = c.in-Err-upload.ensures (fixed_of c.args.lock.now) (history_of turn) start in (
       history_of turn,
       refused_upload (fixed_of c.args.lock.now) (history_of turn) c.args.changes c.args.seat c.leave.result c.upload.new.self c.in-Err-upload.fault

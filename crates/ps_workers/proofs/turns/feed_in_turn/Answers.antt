@@ -4,30 +4,30 @@ use Rattle.ps_lock.specs.Words.{history_of, own_entries_in}
 use Rattle.ps_store.specs.declared.events.Event.TheVariants.{Feed}
 use Rattle.ps_workers.specs.Sharing.{fixed_of}
 use Rattle.ps_store.specs.Stores.{StoreStandsFor}
+use Rattle.ps_workers.proofs.Narrow.{feed_narrow}
 use Rattle.ps_workers.proofs.Turning.{lent, under, looks, adds, refused_feed, refused_stands}
 use Rattle.ps_workers.proofs.turns.feed_in_turn.Goals as goal
 
 pub leave_with-requires : goal.leave_with-requires
 leave_with-requires g c =
     let turn = c.turn-turn.result in
-    let start = lent c.args.lock.now turn c.value.result.now c.value.ensures.value c.turn-turn.ensures.stands.1 in
+    let start = lent c.args.lock.now turn c.value.result.now c.value.ensures.value c.turn-turn.ensures.stands.1.0 in
     let said = c.in-Ok-feed.ensures (fixed_of c.args.lock.now) (history_of turn) start in
     let copied = subst (λ (t : Transaction). StoreStandsFor (fixed_of c.args.lock.now) c.feed.new.self (history_of turn ++ Feed t ∷ [])) (sym c.in-Ok.ensures) said in
-    let stands = under c.args.lock.now turn.lock.now c.feed.new.self _ c.turn-turn.ensures.lock copied in
-    (stands.fixed_is, stands)
+    under c.args.lock.now turn.lock.now c.feed.new.self _ c.turn-turn.ensures.lock copied
+    (feed_narrow (fixed_of c.args.lock.now) c.value.result.now (history_of turn) _ start c.turn-turn.ensures.stands.1.1)
 
 pub leave-requires : goal.leave-requires
 leave-requires g c =
     let turn = c.turn-turn.result in
-    let start = lent c.args.lock.now turn c.value.result.now c.value.ensures.value c.turn-turn.ensures.stands.1 in
+    let start = lent c.args.lock.now turn c.value.result.now c.value.ensures.value c.turn-turn.ensures.stands.1.0 in
     let said = c.in-Err-feed.ensures (fixed_of c.args.lock.now) (history_of turn) start in
-    let stands = under c.args.lock.now turn.lock.now c.feed.new.self (history_of turn) c.turn-turn.ensures.lock (refused_stands (fixed_of c.args.lock.now) (history_of turn) c.args.transaction c.feed.new.self c.in-Err-feed.fault said) in
-    (stands.fixed_is, stands)
+    under c.args.lock.now turn.lock.now c.feed.new.self (history_of turn) c.turn-turn.ensures.lock (refused_stands (fixed_of c.args.lock.now) (history_of turn) c.args.transaction c.feed.new.self c.in-Err-feed.fault said) c.turn-turn.ensures.stands.1.1
 
 pub returns-in-Err-feed-clause-turn : goal.returns-in-Err-feed-clause-turn
 returns-in-Err-feed-clause-turn g c =
     let turn = c.turn-turn.result in
-    let start = lent c.args.lock.now turn c.value.result.now c.value.ensures.value c.turn-turn.ensures.stands.1 in
+    let start = lent c.args.lock.now turn c.value.result.now c.value.ensures.value c.turn-turn.ensures.stands.1.0 in
     let said = c.in-Err-feed.ensures (fixed_of c.args.lock.now) (history_of turn) start in (
       history_of turn,
       refused_feed (fixed_of c.args.lock.now) (history_of turn) c.args.transaction c.args.seat c.leave.result c.feed.new.self c.in-Err-feed.fault
