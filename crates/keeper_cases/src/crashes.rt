@@ -6,6 +6,8 @@ ghost use Rattle.sqlite_disk.specs.Memory.{memory_is_usable};
 use crate::desks::{opened, write_step};
 use crate::shown::write_tables;
 use case_words::{Stop, cut};
+use ps_client::Client;
+use ps_client_log::Keeper;
 use ps_client_sqlite::SqliteKeeper;
 use sqlite::{Connection, FileStore, Options};
 use sqlite_disk::{Crash, Disk, Files, Fuse, Memory};
@@ -68,6 +70,21 @@ struct Run {
     taken: u64,
 }
 
+// Takes steps until the keeper fails at one, and says how many were taken.
+fn take_steps<K: Keeper>(alloc: Global, client: &mut Client<K>, steps: &str) -> Result<u64, Stop> {
+    let mut taken = 0u64;
+    'steps: for step in steps.split('|') {
+        let mut out = String::new(alloc);
+        let (word, rest) = cut(step);
+        write_step(alloc, client, word, rest, &mut out)?;
+        if out.as_str().ends_with("keeper failed") {
+            return Ok(taken);
+        }
+        taken = taken.saturating_add(1);
+    }
+    Ok(taken)
+}
+
 // Takes steps over an empty database, until the keeper fails at one. None where the database is not opened.
 fn make_run(alloc: Global, calls: u64, steps: &str) -> Result<Option<Run>, Stop> {
     let empty = Files {
@@ -81,16 +98,7 @@ fn make_run(alloc: Global, calls: u64, steps: &str) -> Result<Option<Run>, Stop>
         return Ok(None);
     };
     let mut client = opened(alloc, keeper)?;
-    let mut taken = 0u64;
-    'steps: for step in steps.split('|') {
-        let mut out = String::new(alloc);
-        let (word, rest) = cut(step);
-        write_step(alloc, &mut client, word, rest, &mut out)?;
-        if out.as_str().ends_with("keeper failed") {
-            break;
-        }
-        taken += 1;
-    }
+    let taken = take_steps(alloc, &mut client, steps)?;
     let files = crashed(alloc, client.close().into_connection())?;
     Ok(Some(Run { files, taken }))
 }
@@ -128,31 +136,55 @@ fn left(is_taken: bool, tables: &str, before: &str, after: &str) -> &'static str
     }
 }
 
+// The rows of all tables before the last step and after it.
+#[derive(Drop)]
+struct Around {
+    before: String,
+    after: String,
+}
+
+// Takes steps over a disk that stops at a call, and says how the last one ended. Answers whether it was taken.
+fn write_end(
+    alloc: Global,
+    calls: u64,
+    steps: &str,
+    count: u64,
+    around: &Around,
+    out: &mut String,
+) -> Result<bool, Stop> {
+    let Some(run) = make_run(alloc, calls, steps)? else {
+        return Ok(false);
+    };
+    let Run { files, taken } = run;
+    if taken.saturating_add(1) < count {
+        return Ok(false);
+    }
+    let tables = tables_in(alloc, files)?;
+    let says = left(
+        taken == count,
+        tables.as_str(),
+        around.before.as_str(),
+        around.after.as_str(),
+    );
+    if !out.as_str().ends_with(says) {
+        out.push_str(says)?;
+    }
+    Ok(taken == count)
+}
+
 /// Takes steps, which `|` parts, over a database on a disk that stops at each call in turn. For the calls of the last step it says how the
 /// step ended and which tables a crash leaves, where that is not as for the call before.
 pub fn write_crashes(alloc: Global, steps: &str, out: &mut String) -> Result<(), Stop> {
     let Some((first, _last)) = steps.rsplit_once('|') else {
         return Err("there are two steps at least".into());
     };
-    let before = tables_after(alloc, first)?;
-    let after = tables_after(alloc, steps)?;
+    let around = Around {
+        before: tables_after(alloc, first)?,
+        after: tables_after(alloc, steps)?,
+    };
     let count = steps.split('|').count() as u64;
-    let mut said = "";
     'calls: for calls in 0..CALLS {
-        let Some(run) = make_run(alloc, calls, steps)? else {
-            continue;
-        };
-        if run.taken + 1 < count {
-            continue;
-        }
-        let is_taken = run.taken == count;
-        let tables = tables_in(alloc, run.files)?;
-        let says = left(is_taken, tables.as_str(), before.as_str(), after.as_str());
-        if says != said {
-            out.push_str(says)?;
-            said = says;
-        }
-        if is_taken {
+        if write_end(alloc, calls, steps, count, &around, out)? {
             return Ok(());
         }
     }
