@@ -21,7 +21,7 @@ pub fn rules_of(alloc: Global, text: &str) -> Result<Rules, Stop> {
     Ok(read_rules(alloc, text.as_bytes())?)
 }
 
-// The limits that five numbers say.
+// The limits that five numbers say, with the usual one for generations.
 fn limits_read(words: &str) -> Result<Limits, Stop> {
     let (ops, words) = cut(words);
     let (numbers, words) = cut(words);
@@ -33,6 +33,7 @@ fn limits_read(words: &str) -> Result<Limits, Stop> {
         positions: number_in(positions)?,
         buckets: short_number_in(buckets)?,
         entries: short_number_in(entries)?,
+        generations: 1_000_000,
     })
 }
 
@@ -45,9 +46,10 @@ fn are_within(limits: &Limits) -> bool
         && limits.positions <= GREATEST
         && limits.buckets <= 1000
         && limits.entries <= 1000
+        && limits.generations <= 1_000_000
 }
 
-/// The limits that five numbers say, in the order of their names in `Limits`; the usual ones where there is no word.
+/// The limits that five numbers say, in the order of their names in `Limits`, with the usual one for generations; the usual ones where there is no word.
 pub fn limits_of(words: &str) -> Result<Limits, Stop>
     ensures { IfOk result AreWithin }
 {

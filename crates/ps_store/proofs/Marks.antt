@@ -35,11 +35,11 @@ use Rattle.ps_store.specs.Readings.{IsToldBehindMark, AreTold}
 
 -- ---- texts
 
-begins_itself : (mark text : List ℕ) → begins_with mark (mark ++ text) ≡ true
+pub begins_itself : (mark text : List ℕ) → begins_with mark (mark ++ text) ≡ true
 begins_itself [] text = refl
 begins_itself (b ∷ mark) text = and_from (b == b) (begins_with mark (mark ++ text)) (eq-eqb b b refl) (begins_itself mark text)
 
-behind : (mark text : List ℕ) → begins_with mark text ≡ true → (rest : List ℕ) × (text ≡ mark ++ rest)
+pub behind : (mark text : List ℕ) → begins_with mark text ≡ true → (rest : List ℕ) × (text ≡ mark ++ rest)
 behind [] text h = (text, refl)
 behind (b ∷ mark) [] h = absurd (cc)
 behind (b ∷ mark) (c ∷ text) h =
@@ -48,15 +48,15 @@ behind (b ∷ mark) (c ∷ text) h =
     let r = behind mark text parts.1 in
     (r.0, (λ i. sym same i ∷ r.1 i))
 
-abbrev AreDigits : List ℕ → Type 0
+abbrev pub AreDigits : List ℕ → Type 0
 AreDigits [] = Unit {0}
 AreDigits (x ∷ xs) = (48 ≤ x) × (x ≤ 57) × AreDigits xs
 
-digits_push : (xs : List ℕ) (x : ℕ) → AreDigits xs → 48 ≤ x → x ≤ 57 → AreDigits (xs ++ x ∷ [])
+pub digits_push : (xs : List ℕ) (x : ℕ) → AreDigits xs → 48 ≤ x → x ≤ 57 → AreDigits (xs ++ x ∷ [])
 digits_push [] x h low high = (low, high, tt)
 digits_push (y ∷ xs) x h low high = (h.0, h.1, digits_push xs x h.2 low high)
 
-decimal_digits : (n : ℕ) → n ≤ greatest → AreDigits (decimal n) × (0 < length (decimal n))
+pub decimal_digits : (n : ℕ) → n ≤ greatest → AreDigits (decimal n) × (0 < length (decimal n))
 decimal_digits n low = decimal_by_steps (λ m ds. AreDigits ds × (0 < length ds)) (λ m small. ((omega arith, omega arith, tt), omega arith))
     (λ m ds large k. (digits_push ds (48 + m % 10) k.0 (omega arith) (omega arith), omega (arith, length-append ds ((48 + m % 10) ∷ [])))) n (omega (arith, low))
 
@@ -70,25 +70,25 @@ same_front (x ∷ xs) (y ∷ ys) p q h k e =
     let rest = same_front xs ys p q h.2 k.2 (cc) in
     (let tail : xs ≡ ys = rest.0 in cc, rest.1)
 
-is_digit : (x : ℕ) → 48 ≤ x → x ≤ 57 → is_ascii_digit x ≡ true
+pub is_digit : (x : ℕ) → 48 ≤ x → x ≤ 57 → is_ascii_digit x ≡ true
 is_digit x low high = grind (arith, nat_tests)
 
-digit_first : (ds text : List ℕ) → 0 < length ds → AreDigits ds → begins_with_digit (ds ++ text) ≡ true
+pub digit_first : (ds text : List ℕ) → 0 < length ds → AreDigits ds → begins_with_digit (ds ++ text) ≡ true
 digit_first [] text some h = absurd (omega arith)
 digit_first (x ∷ xs) text some h = is_digit x h.0 h.1
 
 -- ---- marks
 
-above : (number : ℕ) → nat_le number 1 ≡ false → 1 < number
+pub above : (number : ℕ) → nat_le number 1 ≡ false → 1 < number
 above number h = grind (arith, nat_tests)
 
-first_one : (number : ℕ) → nat_le number 1 ≡ true → number ≤ 1
+pub first_one : (number : ℕ) → nat_le number 1 ≡ true → number ≤ 1
 first_one number h = grind (arith, nat_tests)
 
-mark_is : (number : ℕ) → nat_le number 1 ≡ false → mark_of number ≡ decimal number ++ 35 ∷ []
+pub mark_is : (number : ℕ) → nat_le number 1 ≡ false → mark_of number ≡ decimal number ++ 35 ∷ []
 mark_is number h = ap (λ (b : Bool). if b then [] else decimal number ++ 35 ∷ []) h
 
-mark_none : (number : ℕ) → nat_le number 1 ≡ true → mark_of number ≡ []
+pub mark_none : (number : ℕ) → nat_le number 1 ≡ true → mark_of number ≡ []
 mark_none number h = ap (λ (b : Bool). if b then [] else decimal number ++ 35 ∷ []) h
 
 letter_first : (x : ℕ) → is_ascii_alphabetic x || x == 95 ≡ true → is_ascii_digit x ≡ false
@@ -111,18 +111,18 @@ is_of_marked number name h = by (nat_le number 1) refl
         ∙ begins_itself (mark_of number) name
 
 -- what a bucket of a generation is
-parts_of : (number : ℕ) (bucket : List ℕ) → (b : Bool) → nat_le number 1 ≡ b → is_of number bucket ≡ true
+pub parts_of : (number : ℕ) (bucket : List ℕ) → (b : Bool) → nat_le number 1 ≡ b → is_of number bucket ≡ true
     → (if b then not (begins_with_digit bucket) else begins_with (decimal number ++ 35 ∷ []) bucket) ≡ true
 parts_of number bucket true e h = sym (ap (λ (c : Bool). if c then not (begins_with_digit bucket) else begins_with (mark_of number) bucket) e) ∙ h
 parts_of number bucket false e h =
     ap (λ (m : List ℕ). begins_with m bucket) (sym (mark_is number e))
     ∙ sym (ap (λ (c : Bool). if c then not (begins_with_digit bucket) else begins_with (mark_of number) bucket) e) ∙ h
 
-hash_behind : (xs rest : List ℕ) → (xs ++ 35 ∷ []) ++ rest ≡ xs ++ 35 ∷ rest
+pub hash_behind : (xs rest : List ℕ) → (xs ++ 35 ∷ []) ++ rest ≡ xs ++ 35 ∷ rest
 hash_behind [] rest = refl
 hash_behind (x ∷ xs) rest = ap (λ ys. x ∷ ys) (hash_behind xs rest)
 
-numbered_name : (number : ℕ) (bucket : List ℕ) → begins_with (decimal number ++ 35 ∷ []) bucket ≡ true → (rest : List ℕ) × (bucket ≡ decimal number ++ 35 ∷ rest)
+pub numbered_name : (number : ℕ) (bucket : List ℕ) → begins_with (decimal number ++ 35 ∷ []) bucket ≡ true → (rest : List ℕ) × (bucket ≡ decimal number ++ 35 ∷ rest)
 numbered_name number bucket h = let r = behind (decimal number ++ 35 ∷ []) bucket h in (r.0, r.1 ∙ hash_behind (decimal number) r.0)
 
 not_first : (number : ℕ) (bucket : List ℕ) → number ≤ greatest → not (begins_with_digit bucket) ≡ true → begins_with (decimal number ++ 35 ∷ []) bucket ≡ true → ⊥

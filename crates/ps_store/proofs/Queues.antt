@@ -57,7 +57,7 @@ equal a b h = keys_exact a b (is (key_cmp a b) h)
     is Equal p = refl
     is Greater p = cc
 
-itself : (a b : Key) → a ≡ b → eq_by_cmp key_cmp a b ≡ true
+pub itself : (a b : Key) → a ≡ b → eq_by_cmp key_cmp a b ≡ true
 itself a b e = subst (λ (c : Key). eq_by_cmp key_cmp a c ≡ true) e ((eq_by_cmp_equiv keys_total).refl a)
 
 apart : (a b : Key) → (a ≡ b → ⊥) → eq_by_cmp key_cmp a b ≡ false

@@ -33,6 +33,9 @@ use Rattle.ps_store.specs.StoreLogs.{log_at, has_ops, first_ops, Continue}
 use Rattle.ps_store.specs.Stores.{Stands, IndexStands, IsKept, IsSame, IsFilled, NumbersStand}
 use Rattle.ps_store.specs.Tails.{repeated, positions_of, timed_positions, IsSettled, Tied, Ascend, EndsRise, ids, AreRowsOf, reach_after, rows_after, notes_after}
 use Rattle.ps_store.specs.Totals.{names_of, ops_of as counted_ops, totals_of, with_changes}
+use Rattle.std.specs.Prelude.{unwrap_or}
+use Rattle.ps_store.specs.StoreGenerations.{by_of, HasGenerations}
+use Rattle.ps_store.proofs.Alike.{generations_alike}
 use Rattle.ps_store.proofs.Compacting.{next_entered}
 use Rattle.ps_store.proofs.Counting.{AreFilled, filled_append, names_more, sum_append}
 use Rattle.ps_store.proofs.Advancing.{tied_settled, ascend_append, IsOn, settled_on, reach_on, ends_push, end_push, rows_front, notes_append, same_after}
@@ -64,22 +67,31 @@ numbers_alike top top' kept kept' made made' head head' same_top same_kept same_
 pub numbers_later : (top : ℕ) (kept : Kept) (made : List MadeNumber) (head later : ℕ) → head ≤ later → NumbersStand top kept made head → NumbersStand top kept made later
 numbers_later top kept made head later up h = record { made_are = h.made_are; top_is = h.top_is; behind = omega (arith, h.behind, up) }
 
+-- the rules in force stay
+by_same : (old new : Store) → IsSame old new → by_of new ≡ by_of old
+by_same old new same = λ i. unwrap_or (same.generations.by i) (same.fixed i)
+
 pub stands_same : (old new : Store) (l : Ledger) → IsSame old new → Stands old l → Stands new l
 stands_same old new l same h = record {
-  rules = h.rules ∙ ap (λ (f : Fixed). f.rules) (sym same.fixed);
+  rules = h.rules ∙ ap (λ (f : Fixed). f.rules) (sym (by_same old new same));
+  by_limits = ap (λ (f : Fixed). f.limits) (by_same old new same) ∙ h.by_limits ∙ ap (λ (f : Fixed). f.limits) (sym same.fixed);
   logs = λ bucket. same.logs bucket ∙ h.logs bucket;
   changes = ap (λ (t : Tail). t.changes.items) same.tail ∙ h.changes;
   reach = ap (λ (t : Tail). reached t.reach) same.tail ∙ h.reach;
   rows = λ key. same.rows key ∙ h.rows key;
   index = index_same old.index new.index l same.index_rules same.index_last same.index_forgotten same.index_notes h.index;
   last = ap (λ (id : OpId). id.0) same.last ∙ h.last;
+  wrote = ap (λ (id : OpId). id.0) same.wrote ∙ h.wrote;
   totals = same.totals ∙ h.totals;
   position = ap (λ c. c.position.0) same.checkpoint ∙ h.position;
   op = ap (λ c. c.op.0) same.checkpoint ∙ h.op;
+  committed = same.committed ∙ h.committed;
   head = ap (λ (p : Position). p.0) same.head ∙ h.head;
   closed = same.closed ∙ h.closed;
   numbers = numbers_alike old.fixed.limits.numbers new.fixed.limits.numbers old.numbers new.numbers l.numbers l.numbers (head_of l.fed) (head_of l.fed)
       (ap (λ (f : Fixed). f.limits.numbers) same.fixed) same.numbers refl refl h.numbers;
+  generations = subst (λ (f : Fixed). HasGenerations f.limits new.generations l) (sym same.fixed)
+      (generations_alike old.fixed.limits old.generations new.generations l.force.number l.building l.begun l.ended l.log l.position (unwritten l) (head_of l.fed) same.generations h.generations);
   kept = subst (λ (f : Fixed). IsKept f.limits l) (sym same.fixed) h.kept;
 }
 
@@ -426,7 +438,7 @@ length_from : (position index : ℕ) (changes : List Change) → length (timed_f
 length_from position index [] = refl
 length_from position index (c ∷ changes) = ap suc (length_from position (index + 1) changes)
 
-ascend_at : (position index : ℕ) (changes : List Change) → Ascend position (timed_from position index changes) position
+pub ascend_at : (position index : ℕ) (changes : List Change) → Ascend position (timed_from position index changes) position
 ascend_at position index [] = omega arith
 ascend_at position index (c ∷ changes) = (omega arith, ascend_at position (index + 1) changes)
 

@@ -4,13 +4,16 @@
 ghost use Rattle.std.specs.Prelude.{◌≡◌, None, true, IfOk, OnOk, if◌then◌else◌};
 ghost use Rattle.std.specs.Option.{option_copied};
 ghost use Rattle.std.specs.Ordering.{eq_by_cmp};
-ghost use Rattle.ps_rows.specs.Source.{Key, key_cmp};
+ghost use Rattle.ps_rows.specs.Source.{Key, Source, key_cmp};
+ghost use Rattle.ps_store.specs.Generations.{last_change as last_change_of, queue_of};
 ghost use Rattle.ps_store.specs.Rows.{row_at, has_place};
+ghost use Rattle.ps_store.specs.StoreGenerations.{IsRowsOf};
 
+use crate::waiting::Waiting;
 use ps_data::{Memory, Position, Text};
-use ps_rows::Row;
+use ps_rows::{Change, Row};
 use std::alloc::Global;
-use std::collections::BTreeMap;
+use std::collections::{BTreeMap, VecDeque};
 use std::marker::Model;
 
 /// A table and an id.
@@ -55,6 +58,19 @@ impl Live {
     {
         &self.row
     }
+
+    // An equal change to the one that left the row.
+    fn last_change(&self, alloc: Global, key: &RowKey) -> Result<Waiting, Memory>
+        ensures { IfOk result (λ change. change ≡ last_change_of (key.now, self.now)) }
+    {
+        let (table, id) = copy_key(alloc, key)?;
+        let row = Some(self.row.copy(alloc)?);
+        Ok(Waiting::new(
+            self.position,
+            self.index,
+            Change { table, id, row },
+        ))
+    }
 }
 
 /// An equal key.
@@ -88,6 +104,25 @@ impl Rows {
             Some(Some(row)) => Some(row),
             _ => None,
         }
+    }
+
+    /// Equal changes to those that left the rows, in the order in which they came.
+    pub(crate) fn last_changes(&self, alloc: Global) -> Result<VecDeque<Waiting>, Memory>
+        ensures { IfOk result (λ queue. (source : Source) → IsRowsOf self.now source → queue.items ≡ queue_of source) }
+    {
+        let mut changes = Vec::new(alloc);
+        'places: for (key, place) in self.places.iter() {
+            if let Some(live) = place {
+                changes.push(live.last_change(alloc, key)?)?;
+            }
+        }
+        changes.sort_unstable_by_key(|change: &Waiting| change.moment());
+        let mut queue = VecDeque::new(alloc);
+        queue.reserve(changes.len())?;
+        'changes: for change in changes {
+            queue.push_back_reserved(change);
+        }
+        Ok(queue)
     }
 
     /// Makes a place for a row. No row changes, also where memory is wanting.

@@ -70,6 +70,30 @@ impl Waiting {
         self.change
     }
 
+    /// An equal change.
+    pub(crate) fn copy(&self, alloc: Global) -> Result<Waiting, Memory>
+        ensures { IfOk result (λ copy. copy ≡ self.now) }
+    {
+        let change = Change {
+            table: self.change.table.copy(alloc)?,
+            id: self.change.id.copy(alloc)?,
+            row: self.row(alloc)?,
+        };
+        Ok(Waiting {
+            position: self.position,
+            index: self.index,
+            change,
+        })
+    }
+
+    /// The position of the transaction and the place there, to put changes in order. Takes no memory.
+    pub(crate) fn moment(&self) -> (u64, u64)
+        ensures position { result.0 ≡ self.now.position }
+        ensures index { result.1 ≡ self.now.index }
+    {
+        (self.position.0, self.index)
+    }
+
     /// The table and the id of the row.
     pub(crate) fn key(&self, alloc: Global) -> Result<RowKey, Memory>
         ensures { IfOk result (λ key. key ≡ key_of self.now) }
