@@ -30,6 +30,7 @@ pub mod Lawful
 pub mod LogsOf
 pub mod LogsStanding
 pub mod LongestRuns
+pub mod Looking
 pub mod Maps
 pub mod Marks
 pub mod MarksIn
@@ -42,11 +43,13 @@ pub mod OneGeneration
 pub mod OneMoment
 pub mod Ordered
 pub mod Orders
+pub mod OwnLogs
 pub mod Placing
 pub mod Plainly
 pub mod PlanMarked
 pub mod Planning
 pub mod Queries
+pub mod Queued
 pub mod Queues
 pub mod Reached
 pub mod Reaching
@@ -58,14 +61,13 @@ pub mod Sources
 pub mod Standings
 pub mod Stepping
 pub mod StoreStands
+pub mod Sums
 pub mod Switching
 pub mod TakenPlaces
 pub mod Taking
-pub mod Looking
 pub mod Telling
 pub mod Through
 pub mod Ties
 pub mod Totalling
 pub mod Upto
 pub mod Worked
-pub mod Sums

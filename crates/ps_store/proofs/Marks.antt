@@ -31,7 +31,7 @@ use Rattle.ps_queries.specs.Meaning.{Asker}
 use Rattle.ps_queries.specs.Vectors.{SourceRow}
 use Rattle.ps_definitions.specs.Vectors.{parameter_vectors}
 use Rattle.ps_params.specs.Names.{definition_names, bucket_names, IsTold, AreTold as ArePlainTold}
-use Rattle.ps_store.specs.Readings.{IsToldBehindMark, AreTold}
+use Rattle.ps_store.specs.Readings.{with_mark, IsToldBehindMark, AreTold}
 
 -- ---- texts
 
@@ -275,9 +275,35 @@ told_plain name word told number plain low is = by (nat_le number 1) refl
         let wrong : true ≡ false = sym digit ∙ word_first name word in
         absurd (cc)
 
-told_each : (names : List (List ℕ)) → ((name : List ℕ) → Has names name → begins_word name ≡ true) → ArePlainTold names → AreTold names
-told_each [] words told = tt
-told_each (name ∷ names) words told = (told_plain name (words name (inl refl)) told.0, told_each names (λ other i. words other (inr i)) told.1)
+-- and of a name behind a mark of its own, that mark ends at the first `#`
+told_marked : (own : ℕ) (name : List ℕ) → own ≤ greatest → begins_word name ≡ true → IsTold name → IsToldBehindMark (mark_of own ++ name)
+told_marked own name high word told number plain low is = by (nat_le own 1) refl (nat_le number 1) refl
+  where
+    by : (a : Bool) → nat_le own 1 ≡ a → (b : Bool) → nat_le number 1 ≡ b → IsTold plain
+    by true e b f = told_plain name word told number plain low (sym (ap (λ (m : List ℕ). m ++ name) (mark_none own e)) ∙ is)
+    by false e true f = λ definition values named bucket.
+        let d = decimal_digits own high in
+        let numbered : plain ≡ decimal own ++ 35 ∷ name =
+        sym (is ∙ ap (λ (m : List ℕ). m ++ plain) (mark_none number f)) ∙ ap (λ (m : List ℕ). m ++ name) (mark_is own e) ∙ hash_behind (decimal own) name in
+        let digit : begins_with_digit plain ≡ true = ap begins_with_digit numbered ∙ digit_first (decimal own) (35 ∷ name) d.1 d.0 in
+        let none : begins_with_digit plain ≡ false = ap begins_with_digit bucket ∙ word_first (bucket_name_of definition values) (bucket_begins definition values named) in
+        let wrong : true ≡ false = sym digit ∙ none in
+        absurd (cc)
+    by false e false f =
+        let there : decimal own ++ 35 ∷ name ≡ decimal number ++ 35 ∷ plain =
+        sym (ap (λ (m : List ℕ). m ++ name) (mark_is own e) ∙ hash_behind (decimal own) name) ∙ is ∙ ap (λ (m : List ℕ). m ++ plain) (mark_is number f) ∙ hash_behind (decimal number) plain in
+        subst IsTold (same_front (decimal own) (decimal number) name plain (decimal_digits own high).0 (decimal_digits number low).0 there).1 told
 
-pub all_told : (rules : RuleSet) (asker : Asker) (rows : List SourceRow) → AreRules rules → ArePlainTold (bucket_names rules.definitions asker rows) → AreTold (bucket_names rules.definitions asker rows)
-all_told rules asker rows are told = told_each (bucket_names rules.definitions asker rows) (names_begin rules asker rows are) told
+told_each : (own : ℕ) → own ≤ greatest → (names : List (List ℕ)) → ((name : List ℕ) → Has names name → begins_word name ≡ true) → ArePlainTold names → AreTold (with_mark own names)
+told_each own high [] words told = tt
+told_each own high (name ∷ names) words told = (told_marked own name high (words name (inl refl)) told.0, told_each own high names (λ other i. words other (inr i)) told.1)
+
+pub all_told : (own : ℕ) (rules : RuleSet) (asker : Asker) (rows : List SourceRow) → own ≤ greatest → AreRules rules → ArePlainTold (bucket_names rules.definitions asker rows)
+    → AreTold (with_mark own (bucket_names rules.definitions asker rows))
+all_told own rules asker rows high are told = told_each own high (bucket_names rules.definitions asker rows) (names_begin rules asker rows are) told
+
+-- the buckets of an asker, with a mark, are of its generation
+pub names_own : (own : ℕ) (rules : RuleSet) (asker : Asker) (rows : List SourceRow) → AreRules rules → (name : List ℕ) → Has (with_mark own (bucket_names rules.definitions asker rows)) name → is_of own name ≡ true
+names_own own rules asker rows are name h =
+    let f = from_map (λ (plain : List ℕ). mark_of own ++ plain) (bucket_names rules.definitions asker rows) name h in
+    subst (λ (n : List ℕ). is_of own n ≡ true) f.2 (is_of_marked own f.0 (names_begin rules asker rows are f.0 f.1))

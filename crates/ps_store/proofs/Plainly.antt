@@ -78,7 +78,7 @@ plain_from (t ∷ ts) k b h =
 -- ---- the last ids of Writes
 
 -- no id was given since a last id, or the last one is a Write's
-abbrev Since : ℕ → ℕ → Ledger → Type 0
+abbrev pub Since : ℕ → ℕ → Ledger → Type 0
 Since newest wrote k = ((k.last ≡ newest) × (k.wrote ≡ wrote)) ⊎ ((newest < k.last) × (k.wrote ≡ k.last))
 
 abbrev kept_id : ℕ → ℕ → ℕ → ℕ
@@ -105,6 +105,10 @@ since_next newest wrote k t low h = by (some_or_none (length (next_ops k t))) h
     by (inl none) (inr g) = inr (omega (arith, g.0, none), omega (arith, g.1, none, newest_nothing k.last (next_ops k t) none))
     by (inr some) (inl g) = inr (omega (arith, g.0, some), omega (arith, g.0, g.1, low, newest_some k.last (next_ops k t) some))
     by (inr some) (inr g) = inr (omega (arith, g.0, some), omega (arith, g.1, some, newest_some k.last (next_ops k t) some))
+
+pub since_all : (newest wrote : ℕ) → wrote ≤ newest → (ts : List Timed) (k : Ledger) → Since newest wrote k → Since newest wrote (fold write_next k ts)
+since_all newest wrote low [] k h = h
+since_all newest wrote low (t ∷ ts) k h = since_all newest wrote low ts (write_next k t) (since_next newest wrote k t low h)
 
 eq_is : (a b : ℕ) → a ≡ b → (a == b) ≡ true
 eq_is a b h = grind (arith, nat_tests)

@@ -1,8 +1,9 @@
 -- A plan that has got the mark of its generation is that of the generation's changes.
 use Rattle.std.proofs.Common.{◌≡◌, ℕ, suc, ◌≤◌, Option, List, [], ◌∷◌, refl, sym, ap, ◌∙◌, length, map, fold, inl, arith}
+use Rattle.std.specs.FinMap.Entries.{find}
 use Rattle.ps_data.specs.declared.columns.Column.{Column}
 use Rattle.ps_data.specs.declared.ids.OpId.{OpId}
-use Rattle.ps_rows.specs.Source.{Key}
+use Rattle.ps_rows.specs.Source.{Key, key_cmp}
 use Rattle.ps_definitions.specs.declared.definitions.Definition.{Definition}
 use Rattle.ps_definitions.specs.RuleSets.{RuleSet}
 use Rattle.ps_store.specs.declared.plans.Made.{Made}
@@ -10,7 +11,7 @@ use Rattle.ps_store.specs.declared.plans.Plan.{Plan}
 use Rattle.ps_store.specs.declared.rows.Rows.{Rows}
 use Rattle.ps_store.specs.Generations.{mark_of}
 use Rattle.ps_store.specs.Ledgers.{Ledger, write_next}
-use Rattle.ps_store.specs.Originals.{Timed, columns_of, entries_at, standing_entries}
+use Rattle.ps_store.specs.Originals.{Timed, columns_of}
 use Rattle.ps_store.specs.Plans.{IsStart, PlanStands}
 use Rattle.ps_store.specs.Rows.{row_at}
 use Rattle.ps_store.specs.Runs.{ops_from, lasts_from}
@@ -28,11 +29,11 @@ is_plain l = record { force = refl; last = refl }
 
 -- a plan begins so
 pub plain_start : (rules : RuleSet) (rows : Rows) (last : ℕ) (l : Ledger) → l.force.rules ≡ rules → last ≡ l.last
-    → ((key : Key) → entries_at rules.definitions key (columns_of (row_at rows key)) ≡ standing_entries rules.definitions l.force.source key)
+    → ((key : Key) → columns_of (row_at rows key) ≡ columns_of (find key_cmp key l.force.source))
     → IsStart rules rows last (plain_base l)
-plain_start rules rows last l rules_are last_is entries = record {
+plain_start rules rows last l rules_are last_is stand = record {
   rules_are = rules_are;
-  entries = entries;
+  stand = stand;
   last = last_is;
   number = refl;
   wrote = refl;
@@ -59,9 +60,9 @@ rows_same definitions (o ∷ old) (n ∷ new) (t ∷ ts) same h =
     let rest : rows_made new ≡ rows_made old = cc in
     (first ∙ h.0, rows_same definitions old new ts rest h.1)
 
-pub is_written : (rules : RuleSet) (rows : Rows) (old new : Plan) (l : Ledger) (ts : List Timed) → l.wrote ≤ l.last → PlanStands rules rows old (plain_base l) ts
+pub is_written : (rules : RuleSet) (rows : Rows) (changes : List Timed) (old new : Plan) (l : Ledger) (ts : List Timed) → l.wrote ≤ l.last → PlanStands rules rows changes old (plain_base l) ts
     → IsMarked (mark_of l.force.number) l.last l.wrote old new → IsWritten rules new l ts
-is_written rules rows old new l ts low h m = record {
+is_written rules rows changes old new l ts low h m = record {
   entered = m.entered ∙ ap (marked (mark_of l.force.number)) h.entered ∙ sym (plain_from ts l (plain_base l) (is_plain l));
   lasts = m.lasts ∙ ap (map _) h.lasts ∙ sym (plain_lasts l.last l.wrote low ts l (plain_base l) (is_plain l) refl (inl (refl, refl)));
   rows_are = rows_same rules.definitions old.made.items new.made.items ts m.rows h.rows_are;

@@ -6,7 +6,7 @@ ghost use Rattle.ps_store.specs.Deploys.{Grows, IsBuilt, IsCounted, IsNamedOf, I
 ghost use Rattle.ps_store.specs.Generations.{mark_of, queue_of, Coming};
 ghost use Rattle.ps_store.specs.Ledgers.{Ledger};
 ghost use Rattle.ps_store.specs.Limits.{AreWithin};
-ghost use Rattle.ps_store.specs.Rows.{row_at};
+ghost use Rattle.ps_store.specs.Rows.{row_at, HaveOwnMoments};
 ghost use Rattle.ps_store.specs.Steps.{marked};
 ghost use Rattle.ps_store.specs.StoreLogs.{log_at, first_ops, AreRising, Continue, HasRoom};
 ghost use Rattle.ps_store.specs.StoreGenerations.{queue_room, HasQueued, IsRowsOf, SameBuilding};
@@ -16,12 +16,12 @@ use crate::deploying::BuildFault;
 use crate::fixed::Shared;
 use crate::logs::Logs;
 use crate::marking::{mark_buckets, mark_for};
-use crate::plans::{Made, Plan, Planned, Refusal, plan_run, tidy_all};
+use crate::plans::{Plan, Planned, Refusal, plan_run, tidy_all};
 use crate::rooms::rooms_for;
-use crate::rows::Rows;
-use crate::tails::advance_one;
+use crate::rows::{Rows, make_places};
+use crate::tails::take_front;
 use crate::totals::sum_of;
-use crate::waiting::Waiting;
+use crate::waiting::{Waiting, copy_front, push_all};
 use ps_checksum::Sum;
 use ps_data::{Memory, OpId, Text};
 use ps_params::ParameterIndex;
@@ -98,7 +98,7 @@ impl Building {
         ensures index_notes { IfOk result (λ building. building.index.notes ≡ []) }
         ensures index_last { IfOk result (λ building. building.index.last ≡ 0) }
         ensures index_forgotten { IfOk result (λ building. building.index.forgotten ≡ 0) }
-        ensures queue { IfOk result (λ building. (source : SourceSeen) → IsRowsOf rows.now source → building.queue.items ≡ queue_of source) }
+        ensures queue { IfOk result (λ building. (source : SourceSeen) → IsRowsOf rows.now source → HaveOwnMoments source → building.queue.items ≡ queue_of source) }
     {
         Ok(Building {
             number,
@@ -140,11 +140,7 @@ impl Building {
     {
         let within = count.min(changes.len());
         self.queue.reserve(within)?;
-        let mut copies = Vec::new(alloc);
-        'changes: for place in 0..within {
-            copies.push(changes[place].copy(alloc)?)?;
-        }
-        Ok(copies)
+        copy_front(alloc, changes, within)
     }
 
     /// Puts changes behind the queue, in room that is there. Takes no memory.
@@ -152,9 +148,7 @@ impl Building {
         requires { length copies.items ≤ queue_room self.old }
         ensures { HasQueued self.old copies.items self.new }
     {
-        'copies: for waiting in copies {
-            self.queue.push_back_reserved(waiting);
-        }
+        push_all(&mut self.queue, copies);
     }
 
     // Makes all the room that a plan wants, and puts the mark in front of its buckets. Nothing that is held changes, also
@@ -173,12 +167,7 @@ impl Building {
         let rooms = rooms_for(alloc, plan.entered.as_slice())?;
         self.logs.reserve_all(alloc, &rooms)?;
         self.index.reserve(alloc, plan.made.len())?;
-        let count = plan.made.len().min(self.queue.len());
-        'changes: for place in 0..count {
-            let key = self.queue[place].key(alloc)?;
-            self.rows.make_place(key)?;
-        }
-        Ok(())
+        make_places(alloc, &mut self.rows, &self.queue, plan.made.len())
     }
 
     // Takes what is planned, in room that is there. Takes no memory.
@@ -200,12 +189,7 @@ impl Building {
         let operations = entered.len();
         let sum = sum_of(entered.as_slice());
         let first = self.logs.fill(entered);
-        'changes: for one in made {
-            let Made { last: _, row } = one;
-            if let Some(waiting) = self.queue.pop_front() {
-                advance_one(&mut self.rows, &mut self.index, waiting, row);
-            }
-        }
+        take_front(&mut self.queue, &mut self.rows, &mut self.index, made);
         tidy_all(&mut self.rows, &seen);
         Batched {
             changes,

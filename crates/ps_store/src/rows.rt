@@ -1,15 +1,17 @@
 //! The live rows. A place may stand empty, so that a row can come without memory; no contract sees an empty place but
 //! `has_place`.
 
-ghost use Rattle.std.specs.Prelude.{◌≡◌, None, true, IfOk, OnOk, if◌then◌else◌};
+ghost use Rattle.std.specs.Prelude.{◌≡◌, None, true, IfOk, OnOk, if◌then◌else◌, map, take, IsPermutation, IsSortedByKey};
 ghost use Rattle.std.specs.Option.{option_copied};
 ghost use Rattle.std.specs.Ordering.{eq_by_cmp};
 ghost use Rattle.ps_rows.specs.Source.{Key, Source, key_cmp};
 ghost use Rattle.ps_store.specs.Generations.{last_change as last_change_of, queue_of};
 ghost use Rattle.ps_store.specs.Rows.{row_at, has_place};
+ghost use Rattle.ps_store.specs.Rows.{live_in, HaveOwnMoments, moment_of, moment_cmp};
 ghost use Rattle.ps_store.specs.StoreGenerations.{IsRowsOf};
+ghost use Rattle.ps_store.specs.Tails.{HasPlaces};
 
-use crate::waiting::Waiting;
+use crate::waiting::{Waiting, push_all};
 use ps_data::{Memory, Position, Text};
 use ps_rows::{Change, Row};
 use std::alloc::Global;
@@ -106,9 +108,9 @@ impl Rows {
         }
     }
 
-    /// Equal changes to those that left the rows, in the order in which they came.
-    pub(crate) fn last_changes(&self, alloc: Global) -> Result<VecDeque<Waiting>, Memory>
-        ensures { IfOk result (λ queue. (source : Source) → IsRowsOf self.now source → queue.items ≡ queue_of source) }
+    // Equal changes to those that left the rows, in the order of the rows.
+    fn changes_by_row(&self, alloc: Global) -> Result<Vec<Waiting>, Memory>
+        ensures { IfOk result (λ changes. changes.items ≡ map last_change_of (live_in self.now.places.entries)) }
     {
         let mut changes = Vec::new(alloc);
         'places: for (key, place) in self.places.iter() {
@@ -116,12 +118,18 @@ impl Rows {
                 changes.push(live.last_change(alloc, key)?)?;
             }
         }
-        changes.sort_unstable_by_key(|change: &Waiting| change.moment());
+        Ok(changes)
+    }
+
+    /// Equal changes to those that left the rows, in the order in which they came.
+    pub(crate) fn last_changes(&self, alloc: Global) -> Result<VecDeque<Waiting>, Memory>
+        ensures { IfOk result (λ queue. (source : Source) → IsRowsOf self.now source → HaveOwnMoments source → queue.items ≡ queue_of source) }
+    {
+        let mut changes = self.changes_by_row(alloc)?;
+        sort_by_moment(&mut changes);
         let mut queue = VecDeque::new(alloc);
         queue.reserve(changes.len())?;
-        'changes: for change in changes {
-            queue.push_back_reserved(change);
-        }
+        push_all(&mut queue, changes);
         Ok(queue)
     }
 
@@ -157,4 +165,30 @@ impl Rows {
             let _place = self.places.remove(key);
         }
     }
+}
+
+// Puts changes in the order of their moments. Takes no memory.
+fn sort_by_moment(changes: &mut Vec<Waiting>)
+    ensures same { IsPermutation changes.old.items changes.new.items }
+    ensures sorted { IsSortedByKey moment_of moment_cmp changes.new.items }
+{
+    changes.sort_unstable_by_key(|change: &Waiting| change.moment());
+}
+
+/// Makes a place for the row of each of the first changes. No row changes, also where memory is wanting.
+pub(crate) fn make_places(
+    alloc: Global,
+    rows: &mut Rows,
+    changes: &VecDeque<Waiting>,
+    count: usize,
+) -> Result<(), Memory>
+    ensures rows { (key : Key) → row_at rows.new key ≡ row_at rows.old key }
+    ensures ok { OnOk result (HasPlaces rows.new (take count changes.now.items)) }
+{
+    let within = count.min(changes.len());
+    'changes: for place in 0..within {
+        let key = changes[place].key(alloc)?;
+        rows.make_place(key)?;
+    }
+    Ok(())
 }

@@ -30,7 +30,7 @@ use crate::numbers::have_numbers;
 use crate::plans::{Plan, Planned, Refusal, plan_run, tidy_all};
 use crate::readings::TakeFault;
 use crate::rooms::rooms_for;
-use crate::rows::Rows;
+use crate::rows::{Rows, make_places};
 use crate::tails::{Tail, advance};
 use crate::totals::{Totals, sum_of};
 use crate::waiting::Waiting;
@@ -531,22 +531,4 @@ fn empty_batch(alloc: Global, passed: Option<OpId>) -> Batch
         target: None,
         passed,
     }
-}
-
-// Makes a place for the row of each of the first changes. No row changes, also where memory is wanting.
-fn make_places(
-    alloc: Global,
-    rows: &mut Rows,
-    changes: &VecDeque<Waiting>,
-    count: usize,
-) -> Result<(), Memory>
-    ensures rows { (key : Key) → row_at rows.new key ≡ row_at rows.old key }
-    ensures ok { OnOk result (HasPlaces rows.new (take count changes.now.items)) }
-{
-    let within = count.min(changes.len());
-    'changes: for place in 0..within {
-        let key = changes[place].key(alloc)?;
-        rows.make_place(key)?;
-    }
-    Ok(())
 }
