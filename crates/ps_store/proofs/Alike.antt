@@ -1,5 +1,5 @@
 -- Generations that hold the same stand for the same.
-use Rattle.std.proofs.Common.{◌≡◌, ℕ, ◌≤◌, true, Option, Some, None, List, ◌++◌, refl, sym, ap, ◌∙◌, subst, arith}
+use Rattle.std.proofs.Common.{◌≡◌, ℕ, ◌≤◌, true, Option, Some, None, option_map, List, ◌++◌, refl, sym, ap, ◌∙◌, subst, arith}
 use Rattle.ps_bucket_log.specs.declared.ops.Op.{Op}
 use Rattle.ps_definitions.specs.RuleSets.{RuleSet}
 use Rattle.ps_params.specs.Indexes.{Index}
@@ -10,7 +10,7 @@ use Rattle.ps_store.specs.declared.fixed.Limits.{Limits}
 use Rattle.ps_store.specs.declared.generations.Generations.{Generations}
 use Rattle.ps_store.specs.Generations.{Coming, Ended}
 use Rattle.ps_store.specs.Originals.{Timed, standing_entries}
-use Rattle.ps_store.specs.StoreGenerations.{place_in, AreAlike, BuildingStands, FitsQueue, GenerationsStand, HavePlaces, HaveQueued, HasQueued, IndexStandsFor, IsAlike, IsBuilding, IsQueued, SameBuilding}
+use Rattle.ps_store.specs.StoreGenerations.{mark_in, Endings, ending_from, ending_by, place_in, AreAlike, BuildingStands, FitsQueue, GenerationsStand, HavePlaces, HaveQueued, HasQueued, IndexStandsFor, IsAlike, IsBuilding, IsQueued, SameBuilding}
 use Rattle.ps_store.specs.Tails.{Ascend, notes_after}
 
 -- ---- an index
@@ -71,4 +71,66 @@ generations_alike limits old new number building begun ended log position waitin
   building_is = building_alike log position waiting head limits old.building new.building building same.building h.building_is;
   endings = λ bucket. same.endings bucket ∙ h.endings bucket;
   places = places_alike old new old.building new.building same.mark same.places same.building h.places;
+}
+
+-- ---- what holds the same as itself
+
+same_itself : (built : Building) → SameBuilding built built
+same_itself built = record {
+  number = refl;
+  mark = refl;
+  by = refl;
+  logs = λ bucket. refl;
+  rows = λ key. refl;
+  index_rules = refl;
+  index_last = refl;
+  index_forgotten = refl;
+  index_notes = λ table id position past. refl;
+  queue = refl;
+}
+
+pub itself_alike : (built : Option Building) → AreAlike built built
+itself_alike None = tt
+itself_alike (Some built) = same_itself built
+
+pub endings_same : (old new : Endings) → ((mark : List ℕ) → ending_by new (Some mark) ≡ ending_by old (Some mark)) → (bucket : List ℕ)
+    → option_map ending_from (ending_by new (mark_in bucket)) ≡ option_map ending_from (ending_by old (mark_in bucket))
+endings_same old new same bucket = by (mark_in bucket)
+  where
+    by : (mark : Option (List ℕ)) → option_map ending_from (ending_by new mark) ≡ option_map ending_from (ending_by old mark)
+    by None = refl
+    by (Some mark) = ap (option_map ending_from) (same mark)
+
+-- one after the other
+then_same : (a b c : Building) → SameBuilding a b → SameBuilding b c → SameBuilding a c
+then_same a b c x y = record {
+  number = y.number ∙ x.number;
+  mark = y.mark ∙ x.mark;
+  by = y.by ∙ x.by;
+  logs = λ bucket. y.logs bucket ∙ x.logs bucket;
+  rows = λ key. y.rows key ∙ x.rows key;
+  index_rules = y.index_rules ∙ x.index_rules;
+  index_last = y.index_last ∙ x.index_last;
+  index_forgotten = y.index_forgotten ∙ x.index_forgotten;
+  index_notes = λ table id position past. x.index_notes table id position past ∙ y.index_notes table id position (omega (arith, x.index_forgotten, past));
+  queue = y.queue ∙ x.queue;
+}
+
+then_alike : (a b c : Option Building) → AreAlike a b → AreAlike b c → AreAlike a c
+then_alike None None None x y = tt
+then_alike None None (Some c) x y = absurd y
+then_alike None (Some b) c x y = absurd x
+then_alike (Some a) None c x y = absurd x
+then_alike (Some a) (Some b) None x y = absurd y
+then_alike (Some a) (Some b) (Some c) x y = then_same a b c x y
+
+pub alike_then : (a b c : Generations) → IsAlike a b → IsAlike b c → IsAlike a c
+alike_then a b c x y = record {
+  number = y.number ∙ x.number;
+  mark = y.mark ∙ x.mark;
+  by = y.by ∙ x.by;
+  begun = y.begun ∙ x.begun;
+  building = then_alike a.building b.building c.building x.building y.building;
+  endings = λ bucket. y.endings bucket ∙ x.endings bucket;
+  places = λ mark h. y.places mark (x.places mark h);
 }

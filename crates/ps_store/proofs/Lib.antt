@@ -26,6 +26,7 @@ pub mod Homes
 pub mod Ids
 pub mod Keys
 pub mod Lanes
+pub mod LastsKept
 pub mod Lawful
 pub mod LogsOf
 pub mod LogsStanding

@@ -1,5 +1,5 @@
 -- What a store keeps of the generations of buckets.
-use Rattle.std.specs.Prelude.{◌≡◌, ℕ, ◌+◌, ◌-◌, ◌≤◌, ◌<◌, ◌==◌, Bool, true, false, if◌then◌else◌, List, [], ◌∷◌, ◌++◌, length, map, Option, Some, None, option_map, is_some, unwrap_or, bytes_eq, Contains, ◌↔◌}
+use Rattle.std.specs.Prelude.{◌≡◌, ℕ, suc, ◌+◌, ◌-◌, ◌≤◌, ◌<◌, ◌==◌, Bool, true, false, if◌then◌else◌, List, [], ◌∷◌, ◌++◌, length, map, Option, Some, None, option_map, is_some, unwrap_or, bytes_eq, Contains, ◌↔◌}
 use Rattle.std.specs.BTreeMap.{BTreeMap, get}
 use Rattle.std.specs.Char.{is_ascii_digit}
 use Rattle.std.specs.Cmp.Lexicographic.{slice_cmp}
@@ -44,6 +44,11 @@ numbered_mark [] = None
 numbered_mark (b ∷ bytes) =
     if is_ascii_digit b then option_map (λ (mark : List ℕ). b ∷ mark) (numbered_mark bytes)
     else if b == 35 then Some (35 ∷ []) else None
+
+-- with how many digits a text begins
+abbrev pub digits_in : List ℕ → ℕ
+digits_in [] = 0
+digits_in (b ∷ bytes) = if is_ascii_digit b then suc (digits_in bytes) else 0
 
 -- the mark that stands in front of a bucket's name, where one can: nothing where the name begins with no digit
 abbrev pub mark_in : List ℕ → Option (List ℕ)
@@ -248,6 +253,10 @@ HasGenerations limits generations l =
 
 abbrev pub rows_made : List Made → List (Option (List Column))
 rows_made made = map (λ (m : Made). m.row) made
+
+-- an id, or the one that a Write gave last where it is the last one of all
+abbrev pub kept_id : OpId → OpId → OpId → OpId
+kept_id newest wrote id = if id.0 == newest.0 then wrote else id
 
 -- its buckets have a mark, and its last ids are those that writes gave: where no operation came yet, the one before
 pub record IsMarked (mark : List ℕ) (newest wrote : ℕ) (old new : Plan) : Type 0 where

@@ -1,7 +1,7 @@
 //! The last ids that writes gave, where other ids were given behind them.
 
 ghost use Rattle.std.specs.Prelude.{◌≡◌, ◌==◌, map, if◌then◌else◌};
-ghost use Rattle.ps_store.specs.StoreGenerations.{rows_made};
+ghost use Rattle.ps_store.specs.StoreGenerations.{kept_id, rows_made};
 ghost use Rattle.ps_store.specs.Tails.{ids};
 
 use crate::plans::Made;
@@ -16,9 +16,15 @@ pub(crate) fn keep_writes(made: &mut Vec<Made>, last: OpId, wrote: OpId)
     if last.0 == wrote.0 {
         return;
     }
-    'made: for one in made.iter_mut() {
-        if one.last.0 == last.0 {
-            one.last = wrote;
-        }
+    'made: for place in 0..made.len() {
+        let one = &mut made[place];
+        one.last = kept(one.last, last, wrote);
     }
+}
+
+// An id, or the one that a write gave last where it is the last one of all.
+fn kept(id: OpId, last: OpId, wrote: OpId) -> OpId
+    ensures { result ≡ kept_id last wrote id }
+{
+    if id.0 == last.0 { wrote } else { id }
 }

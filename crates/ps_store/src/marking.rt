@@ -1,9 +1,9 @@
 //! The marks on the names of buckets, which tell their generation.
 
-ghost use Rattle.std.specs.Prelude.{◌≡◌, ◌++◌, IfOk, option_map, length};
+ghost use Rattle.std.specs.Prelude.{◌≡◌, ◌++◌, IfOk};
 ghost use Rattle.ps_store.specs.Generations.{mark_of, begins_with};
 ghost use Rattle.ps_store.specs.Steps.{marked as marked_ops};
-ghost use Rattle.ps_store.specs.StoreGenerations.{mark_in, prefixed};
+ghost use Rattle.ps_store.specs.StoreGenerations.{digits_in, mark_in, prefixed};
 
 use crate::entered::Entered;
 use ps_data::{Items, Memory, Text, TextFault};
@@ -72,38 +72,25 @@ pub(crate) fn mark_buckets(
 }
 
 /// Whether a bucket's name begins with a mark.
+#[tactic(auto, using(crate::proofs::MarksIn::begins_is))]
 pub(crate) fn has_mark(mark: &Text, name: &Text) -> bool
     ensures { result ≡ begins_with mark.now name.now }
 {
-    let mark = mark.bytes();
-    let name = name.bytes();
-    if name.len() < mark.len() {
-        return false;
-    }
-    'bytes: for place in 0..mark.len() {
-        if mark[place] != name[place] {
-            return false;
-        }
-    }
-    true
+    name.bytes().starts_with(mark.bytes())
 }
 
-// How many bytes of a name are its mark: none where it begins with no digit, else the digits and the `#` behind them.
-fn mark_length(name: &[u8]) -> Option<usize>
-    ensures { result ≡ option_map length (mark_in name.now) }
+// With how many digits a text begins.
+fn leading_digits(text: &[u8]) -> usize
+    ensures { result ≡ digits_in text.now }
 {
     let mut digits = 0;
-    'bytes: for byte in name {
-        if byte.is_ascii_digit() {
-            digits += 1;
-            continue;
+    'bytes: for byte in text {
+        if !byte.is_ascii_digit() {
+            return digits;
         }
-        if *byte == b'#' && 0 < digits {
-            return Some(digits + 1);
-        }
-        break;
+        digits += 1;
     }
-    if digits == 0 { Some(0) } else { None }
+    digits
 }
 
 /// The mark in front of a bucket's name, where there can be one: nothing where the name begins with no digit, else digits and
@@ -112,10 +99,17 @@ pub(crate) fn mark_of_name(alloc: Global, name: &Text) -> Result<Option<Text>, M
     ensures { IfOk result (λ mark. mark ≡ mark_in name.now) }
 {
     let bytes = name.bytes();
-    let Some(length) = mark_length(bytes) else {
+    let digits = leading_digits(bytes);
+    if digits == 0 {
+        return Ok(Some(Text::from_str(alloc, "")?));
+    }
+    if digits == bytes.len() {
         return Ok(None);
-    };
-    match Text::from_bytes(alloc, &bytes[..length]) {
+    }
+    if bytes[digits] != b'#' {
+        return Ok(None);
+    }
+    match Text::from_bytes(alloc, &bytes[..digits + 1]) {
         Ok(mark) => Ok(Some(mark)),
         Err(TextFault::NotUtf8) => unreachable!(),
         Err(TextFault::Memory) => Err(Memory),
