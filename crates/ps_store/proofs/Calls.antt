@@ -138,6 +138,21 @@ module _ (fixed : Fixed) (old : Store) (history : List Event) (h : StoreStandsFo
   pub feed_counts : (t : Transaction) → old.head.0 < t.position.0 → t.position.0 ≤ greatest → old.totals.transactions + 1 < 2 ^ 64
   feed_counts t later low = omega (arith, ap (λ (c : Totals). c.transactions) h.stands.totals, h.stands.kept.heads, h.stands.head, later, low)
 
+  -- what is being built goes on to the transaction's changes
+  goes_on : (t : Transaction) → head_of l.fed < t.position.0 → GoesOnUp (unwritten l) (head_of l.fed) (drop l.written (timed (l.fed ++ t ∷ []))) (head_of (l.fed ++ t ∷ []))
+  goes_on t past last queue ascends =
+      let more : queue ++ drop l.written (timed (l.fed ++ t ∷ [])) ≡ (queue ++ unwritten l) ++ timed_of t =
+      ap (λ (us : List Timed). queue ++ us) (unwritten_fed l t h.stands.kept.within) ∙ sym (append_assoc queue (unwritten l) (timed_of t)) in
+      subst (λ (n : ℕ). Ascend last (queue ++ drop l.written (timed (l.fed ++ t ∷ []))) n) (sym (head_fed l.fed t))
+      (subst (λ (us : List Timed). Ascend last us t.position.0) (sym more)
+      (ascend_append (queue ++ unwritten l) (timed_of t) last (head_of l.fed) t.position.0 ascends (omega (arith, past)) (ascend_at t.position.0 0 t.changes)))
+
+  generations_fed : (t : Transaction) → head_of l.fed < t.position.0
+      → GenerationsStand old.fixed.limits old.generations l.force.number l.building l.begun l.ended l.log l.position (drop l.written (timed (l.fed ++ t ∷ []))) (head_of (l.fed ++ t ∷ []))
+  generations_fed t past =
+      generations_moved l.log l.position l.position (unwritten l) (drop l.written (timed (l.fed ++ t ∷ []))) (head_of l.fed) (head_of (l.fed ++ t ∷ [])) (omega arith) (goes_on t past)
+      old.fixed.limits old.generations l.force.number l.building l.begun l.ended h.stands.generations
+
   pub feed_done : (t : Transaction) (tail : Tail) (totals : Totals) → length t.changes ≤ 2 ^ 64 → totals ≡ with_transaction old.totals → old.closed ≡ false → old.head.0 < t.position.0 → t.position.0 ≤ greatest
       → tail.changes.items ≡ old.tail.changes.items ++ timed_of t
       → reached tail.reach ≡ settled old.wrote.0 (record (reached old.tail.reach) { left = (reached old.tail.reach).left ++ end_of t ∷ [] })
@@ -168,21 +183,6 @@ module _ (fixed : Fixed) (old : Store) (history : List Event) (h : StoreStandsFo
         generations = generations_fed t past;
         kept = kept_fed old.fixed.limits l t past low few h.stands.kept;
       })
-
-  -- what is being built goes on to the transaction's changes
-  goes_on : (t : Transaction) → head_of l.fed < t.position.0 → GoesOnUp (unwritten l) (head_of l.fed) (drop l.written (timed (l.fed ++ t ∷ []))) (head_of (l.fed ++ t ∷ []))
-  goes_on t past last queue ascends =
-      let more : queue ++ drop l.written (timed (l.fed ++ t ∷ [])) ≡ (queue ++ unwritten l) ++ timed_of t =
-      ap (λ (us : List Timed). queue ++ us) (unwritten_fed l t h.stands.kept.within) ∙ sym (append_assoc queue (unwritten l) (timed_of t)) in
-      subst (λ (n : ℕ). Ascend last (queue ++ drop l.written (timed (l.fed ++ t ∷ []))) n) (sym (head_fed l.fed t))
-      (subst (λ (us : List Timed). Ascend last us t.position.0) (sym more)
-      (ascend_append (queue ++ unwritten l) (timed_of t) last (head_of l.fed) t.position.0 ascends (omega (arith, past)) (ascend_at t.position.0 0 t.changes)))
-
-  generations_fed : (t : Transaction) → head_of l.fed < t.position.0
-      → GenerationsStand old.fixed.limits old.generations l.force.number l.building l.begun l.ended l.log l.position (drop l.written (timed (l.fed ++ t ∷ []))) (head_of (l.fed ++ t ∷ []))
-  generations_fed t past =
-      generations_moved l.log l.position l.position (unwritten l) (drop l.written (timed (l.fed ++ t ∷ []))) (head_of l.fed) (head_of (l.fed ++ t ∷ [])) (omega arith) (goes_on t past)
-      old.fixed.limits old.generations l.force.number l.building l.begun l.ended h.stands.generations
 
   -- ---- changes are uploaded
 

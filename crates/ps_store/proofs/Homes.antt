@@ -1,11 +1,11 @@
 -- Each operation is in a bucket of a generation that is in force, is being built or ended.
-use Rattle.std.proofs.Common.{◌≡◌, ℕ, Bool, true, false, Option, Some, None, option_map, List, [], ◌∷◌, ◌++◌, refl, sym, ap, ◌∙◌, subst, take, fold, inl, inr}
+use Rattle.std.proofs.Common.{◌≡◌, ℕ, Bool, true, false, Option, Some, None, option_map, List, [], ◌∷◌, ◌++◌, refl, sym, ap, ◌∙◌, subst, take, drop, fold, inl, inr}
 use Rattle.std.specs.Prelude.{◌⊎◌, bytes_eq, if◌then◌else◌}
 use Rattle.std.proofs.lemmas.Slice.Eq.{bytes_eq-Decides}
 use Rattle.ps_definitions.specs.RuleSets.{RuleSet, AreRules}
 use Rattle.ps_store.specs.declared.events.Event.{Event}
 use Rattle.ps_store.specs.declared.events.Event.TheVariants.{Feed, Close, Write, Commit, Compact, WriteCheckpoint, Deploy, Build, Switch, Abandon}
-use Rattle.ps_store.specs.Generations.{is_of, Lane, lane_next, Coming, with_change, queue_in, Ended, ending_of}
+use Rattle.ps_store.specs.Generations.{is_of, Lane, lane_next, step_lane, Coming, with_change, queue_in, Ended, ending_of}
 use Rattle.ps_store.specs.Laws.{HaveNumbers}
 use Rattle.ps_store.specs.Ledgers.{Ledger, fresh, unwritten, next_ops, write_next, build_with, build_next, switch_to, drop_coming, ledger_after, ledger_of, CanCome, IsLegalFrom, IsLegal}
 use Rattle.ps_store.specs.Originals.{Entered, Timed, in_bucket}
@@ -75,7 +75,7 @@ home_build (Some coming) l t is are h = (
   home_append l.force.number (build_with (Some coming) t l).building l.ended l.entered (lane_next coming.lane l.last t)
       (home_moves l.force.number l.force.number l.building (build_with (Some coming) t l).building l.ended l.ended l.entered
       (λ bucket home. elim home [ inl own ↦ inl own | inr rest ↦ elim rest [ inl in_coming ↦ inr (inl (subst (λ (o : Option Coming). InComing o bucket) is in_coming)) | inr in_ended ↦ inr (inr in_ended) ] ]) h)
-      (home_coming l.force.number _ l.ended (lane_next coming.lane l.last t) (next_of coming.lane l.last t are)),
+      (home_coming l.force.number (record { lane = step_lane coming.lane l.last t; queue = drop 1 coming.queue }) l.ended (lane_next coming.lane l.last t) (next_of coming.lane l.last t are)),
   are,
 )
 
@@ -147,16 +147,16 @@ homed rules history are have legal = home_from history (fresh rules) legal (well
 
 ended_found : (es : List Ended) (bucket : List ℕ) → InEnded es bucket → ending_of bucket es ≡ None → ⊥
 ended_found [] bucket h none = h
-ended_found (e ∷ es) bucket h none = by (is_of e.lane.number bucket) refl none
+ended_found (e ∷ es) bucket h none = by (is_of e.lane.number bucket) refl none (λ rest k. ended_found es bucket rest k)
   where
-    by : (b : Bool) → is_of e.lane.number bucket ≡ b → (if b then Some e.ending else ending_of bucket es) ≡ None → ⊥
-    by true own k = let wrong : Some e.ending ≡ None = k in absurd (cc)
-    by false other k = elim h [ inl own ↦ (let wrong : true ≡ false = sym own ∙ other in absurd (cc)) | inr rest ↦ ended_found es bucket rest k ]
+    by : (b : Bool) → is_of e.lane.number bucket ≡ b → (if b then Some e.ending else ending_of bucket es) ≡ None → (InEnded es bucket → ending_of bucket es ≡ None → ⊥) → ⊥
+    by true own k more = let wrong : Some e.ending ≡ None = k in absurd (cc)
+    by false other k more = elim h [ inl own ↦ (let wrong : true ≡ false = sym own ∙ other in absurd (cc)) | inr rest ↦ more rest k ]
 
 pub none_there : (number : ℕ) (coming : Option Coming) (ended : List Ended) (bucket : List ℕ) (xs : List Entered) → AreHome number coming ended xs
     → is_of number bucket ≡ false → (InComing coming bucket → ⊥) → ending_of bucket ended ≡ None → in_bucket bucket xs ≡ []
 none_there number coming ended bucket [] h force coming_not none = refl
-none_there number coming ended bucket (x ∷ xs) h force coming_not none = in_bucket_cons bucket x xs ∙ by (bytes_eq bucket x.bucket) refl
+none_there number coming ended bucket (x ∷ xs) h force coming_not none = in_bucket_cons bucket x xs ∙ by (bytes_eq bucket x.bucket) refl (none_there number coming ended bucket xs h.1 force coming_not none)
   where
     lost : HasHome number coming ended bucket → ⊥
     lost home = elim home [
@@ -164,6 +164,6 @@ none_there number coming ended bucket (x ∷ xs) h force coming_not none = in_bu
       | inr rest ↦ elim rest [ inl in_coming ↦ coming_not in_coming | inr in_ended ↦ ended_found ended bucket in_ended none ]
     ]
 
-    by : (b : Bool) → bytes_eq bucket x.bucket ≡ b → (if b then x.op ∷ in_bucket bucket xs else in_bucket bucket xs) ≡ []
-    by true same = absurd (lost (subst (HasHome number coming ended) (sym ((bytes_eq-Decides bucket x.bucket).0 same)) h.0))
-    by false other = none_there number coming ended bucket xs h.1 force coming_not none
+    by : (b : Bool) → bytes_eq bucket x.bucket ≡ b → in_bucket bucket xs ≡ [] → (if b then x.op ∷ in_bucket bucket xs else in_bucket bucket xs) ≡ []
+    by true same rest = absurd (lost (subst (HasHome number coming ended) (sym ((bytes_eq-Decides bucket x.bucket).0 same)) h.0))
+    by false other rest = rest

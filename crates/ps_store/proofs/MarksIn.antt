@@ -81,9 +81,12 @@ mark_in_of number bucket h = by (nat_le number 1) refl (begins_with_digit bucket
 
 -- ---- nothing in front
 
-pub nothing : (mark : List ℕ) → length mark ≡ 0 → mark ≡ []
+pub nothing : (mark : List ℕ) → (length mark == 0) ≡ true → mark ≡ []
 nothing [] h = refl
-nothing (b ∷ mark) h = absurd (omega (arith, h))
+nothing (b ∷ mark) h = absurd (other (length mark) h)
+  where
+    other : (n : ℕ) → (suc n == 0) ≡ true → ⊥
+    other n e = grind (arith, nat_tests)
 
 pub prefixed_none : (mark : List ℕ) (names : List (List ℕ)) → mark ≡ [] → names ≡ prefixed mark names
 prefixed_none mark names none = all names ∙ ap (λ (m : List ℕ). prefixed m names) (sym none)

@@ -10,6 +10,9 @@ use Rattle.ps_store.specs.StepLaws.{transactions_upto}
 use Rattle.ps_store.proofs.Going.{IsWell}
 use Rattle.ps_store.proofs.Reaching.{reached_is, reached_above, none_before}
 
+within : (a b : ℕ) → a ≤ b → nat_le a b ≡ true
+within a b h = grind (arith, nat_tests)
+
 pub reached_count : (ts : List Transaction) (last p op w : ℕ) → Rises p ts
     → length (transactions_upto (settled_from last p op w (map end_of ts)).position ts) + length (settled_from last p op w (map end_of ts)).left ≡ length ts
 reached_count [] last p op w h = refl
@@ -22,7 +25,7 @@ reached_count (t ∷ ts) last p op w h = by (nat_le (length t.changes) w) (reach
     up = subst (λ (n : ℕ). t.position.0 ≤ n) (sym (reached_is ts last t.position.0 last (w - length t.changes))) (reached_above ts t.position.0 (w - length t.changes) h.1)
 
     counted : length (transactions_upto rest.position (t ∷ ts)) ≡ suc (length (transactions_upto rest.position ts))
-    counted = ap (λ (b : Bool). length (if b then t ∷ transactions_upto rest.position ts else transactions_upto rest.position ts)) (grind (arith, nat_tests, up))
+    counted = ap (λ (b : Bool). length (if b then t ∷ transactions_upto rest.position ts else transactions_upto rest.position ts)) (within t.position.0 rest.position up)
 
     length_ends : (xs : List Transaction) → length (map end_of xs) ≡ length xs
     length_ends [] = refl

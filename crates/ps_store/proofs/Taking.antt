@@ -1,6 +1,6 @@
 -- What is taken of a store and read of it.
 use Rattle.std.proofs.Common.{◌≡◌, ℕ, suc, ◌+◌, ◌*◌, ◌≤◌, ◌<◌, Bool, true, false, cond, Option, Some, None, option_map, List, [], ◌∷◌, ◌++◌, refl, sym, ap, ◌∙◌, subst, length, map, filter, flat_map, take, arith, append_assoc, append-nil, inl, inr}
-use Rattle.std.specs.Prelude.{nat_le, nat_lt, bytes_eq, ◌&&◌, if◌then◌else◌, is_some, Result, Ok, Err, IfOk}
+use Rattle.std.specs.Prelude.{nat_le, bytes_eq, ◌&&◌, if◌then◌else◌, is_some, Result, Ok, Err, IfOk}
 use Rattle.std.specs.Cmp.Lexicographic.{slice_cmp}
 use Rattle.std.specs.List.Sorted.{IsStrictlySortedBy}
 use Rattle.std.specs.Ordering.{nat_cmp}
@@ -34,7 +34,7 @@ use Rattle.ps_store.specs.Ledgers.{Ledger, ledger_of}
 use Rattle.ps_store.specs.LedgerLaws.{IsWhole}
 use Rattle.ps_store.specs.Noting.{noted}
 use Rattle.ps_store.specs.Originals.{Timed, timed_from, timed}
-use Rattle.ps_store.specs.Readings.{AreTold, names_of, bucket_upto, Takes, nothing_read, batch_in, batch_of, covered_of}
+use Rattle.ps_store.specs.Readings.{AreTold, names_of, bucket_upto, Takes, batch_in, batch_of, covered_of}
 use Rattle.ps_store.specs.StepLaws.{transactions_upto}
 use Rattle.ps_store.specs.StoreLogs.{log_at}
 use Rattle.ps_store.specs.Stores.{StoreStandsFor}
@@ -42,9 +42,6 @@ use Rattle.ps_store.specs.Generations.{mark_of, is_of, Ending, ending_of}
 use Rattle.ps_store.specs.Limits.{greatest}
 use Rattle.ps_store.specs.StoreGenerations.{by_of, prefixed, log_of, ending_from, ending_at}
 use Rattle.ps_store.specs.declared.generations.Ending.{Ending as StoredEnding}
-use Rattle.ps_store.specs.declared.generations.Ending.TheVariants as stored
-use Rattle.ps_data.specs.declared.ids.OpId.{OpId}
-use Rattle.std.proofs.lemmas.Bool.Decides.{nat_tests}
 use Rattle.ps_store.specs.Tails.{notes_after}
 use Rattle.ps_store.proofs.Telling.{counts_history}
 use Rattle.ps_store.proofs.Fronts.{upto_timed, upto-timed, written_upto}
@@ -126,12 +123,6 @@ no_longer : (logs others : List ℕ → List Op) (n : ℕ) (names : List (List �
 no_longer logs others n [] shorter low = tt
 no_longer logs others n (name ∷ names) shorter low = (omega (arith, shorter name, low.0), no_longer logs others n names shorter low.1)
 
-is_past : (a b : ℕ) → a < b → nat_lt a b ≡ true
-is_past a b h = grind (arith, nat_tests)
-
-not_past : (a b : ℕ) → b ≤ a → nat_lt a b ≡ false
-not_past a b h = grind (arith, nat_tests)
-
 module _ (fixed : Fixed) (store : Store) (history : List Event) (h : StoreStandsFor fixed store history) where
   abbrev l : Ledger
   l = ledger_of fixed.rules history
@@ -189,6 +180,14 @@ module _ (fixed : Fixed) (store : Store) (history : List Event) (h : StoreStands
 
   limit_is : store.fixed.limits.buckets ≡ fixed.limits.buckets
   limit_is = ap (λ (f : Fixed). f.limits.buckets) h.fixed_is
+
+  -- the store's log of a bucket is that of the ledger, or none
+  log_shorter : (name : List ℕ) → length (log_at store.logs name) ≤ length (l.log name)
+  log_shorter name = subst (λ (ops : List Op). length ops ≤ length (l.log name)) (sym (h.stands.logs name)) (by (is_of l.force.number name))
+    where
+      by : (b : Bool) → length (if b then l.log name else []) ≤ length (l.log name)
+      by true = omega arith
+      by false = omega arith
 
   module _ (asker : Asker) (names : List (List ℕ)) (law : NotesReadAreTheSource)
       (tells : (source : List SourceRow) → StandsAt store.index.rules.definitions store.index.notes store.checkpoint.position.0 source → names ≡ bucket_names (by_of store).rules.definitions asker source) where
@@ -257,14 +256,6 @@ module _ (fixed : Fixed) (store : Store) (history : List Event) (h : StoreStands
           let shorter : AreNoLonger (log_at store.logs) n marked = no_longer (log_at store.logs) l.log n marked log_shorter (subst (AreNoLonger l.log n) (sym names_are) low) in
           subst (λ (ns : List (List ℕ)). after ≤ before + length ns * (3 * (2 * d + 4))) names_are (cost n d depth shorter)
 
-  -- the store's log of a bucket is that of the ledger, or none
-  log_shorter : (name : List ℕ) → length (log_at store.logs name) ≤ length (l.log name)
-  log_shorter name = subst (λ (ops : List Op). length ops ≤ length (l.log name)) (sym (h.stands.logs name)) (by (is_of l.force.number name))
-    where
-      by : (b : Bool) → length (if b then l.log name else []) ≤ length (l.log name)
-      by true = omega arith
-      by false = omega arith
-
   -- ---- a batch
 
   module _ (bucket : List ℕ) (ending : Option StoredEnding) (found : option_map ending_from ending ≡ ending_at store.generations bucket) where
@@ -280,17 +271,6 @@ module _ (fixed : Fixed) (store : Store) (history : List Event) (h : StoreStands
     batch_live none log is after upto result said = subst (λ (b : Batch). IfOk result (λ batch. batch ≡ b))
         (ap (logs.batch_of after upto) (is ∙ live_log none) ∙ ap (λ (o : Option Ending). batch_in o (l.log bucket) after upto) (sym (ap (option_map ending_from) none) ∙ ending_is)) said
 
-    -- past the end of one it is passed by
-    pub batch_passed : (id : OpId) (after upto : ℕ) → ending ≡ Some (stored.Switched id) → upto < id.0 → record nothing_read { passed = Some id } ≡ batch_of l bucket after upto
-    batch_passed id after upto is past =
-        ap (λ (b : Bool). if b then logs.passed_by id.0 else nothing_read) (sym (is_past upto id.0 past))
-        ∙ ap (λ (o : Option Ending). batch_in o (l.log bucket) after upto) (sym (ap (option_map ending_from) is) ∙ ending_is)
-
-    -- and up to it there is nothing
-    pub batch_upto : (id : OpId) (after upto : ℕ) → ending ≡ Some (stored.Switched id) → id.0 ≤ upto → nothing_read ≡ batch_of l bucket after upto
-    batch_upto id after upto is low =
-        ap (λ (b : Bool). if b then logs.passed_by id.0 else nothing_read) (sym (not_past upto id.0 low))
-        ∙ ap (λ (o : Option Ending). batch_in o (l.log bucket) after upto) (sym (ap (option_map ending_from) is) ∙ ending_is)
-
-    pub batch_dropped : (after upto : ℕ) → ending ≡ Some stored.Abandoned → nothing_read ≡ batch_of l bucket after upto
-    batch_dropped after upto is = ap (λ (o : Option Ending). batch_in o (l.log bucket) after upto) (sym (ap (option_map ending_from) is) ∙ ending_is)
+    -- of one that ended it is what its end says
+    pub batch_ended : (e : StoredEnding) (after upto : ℕ) → ending ≡ Some e → batch_in (Some (ending_from e)) (l.log bucket) after upto ≡ batch_of l bucket after upto
+    batch_ended e after upto is = ap (λ (o : Option Ending). batch_in o (l.log bucket) after upto) (sym (ap (option_map ending_from) is) ∙ ending_is)

@@ -95,11 +95,12 @@ impl Store {
             return Err(SwitchFault::OpsFull { last: self.last });
         }
         let id = OpId(self.last.0 + 1);
-        if let Some((logs, rows, index)) = self.generations.switch(id) {
-            self.logs = logs;
-            self.rows = rows;
-            self.index = index;
-        }
+        let Some((logs, rows, index)) = self.generations.switch(id) else {
+            unreachable!()
+        };
+        self.logs = logs;
+        self.rows = rows;
+        self.index = index;
         let position = self.tail.reach.position();
         self.index.forget(position);
         self.last = id;

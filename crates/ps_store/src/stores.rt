@@ -1,6 +1,7 @@
 //! The store.
 
-ghost use Rattle.std.specs.Prelude.{◌≡◌, ◌+◌, ◌-◌, ◌≤◌, ◌<◌, ◌∷◌, ◌++◌, [], take, length, List, OnOk, IfOk, IsSome, All};
+ghost use Rattle.std.specs.Prelude.{◌≡◌, ◌+◌, ◌-◌, ◌≤◌, ◌<◌, ◌∷◌, ◌++◌, [], take, length, List, ℕ, Some, OnOk, IfOk, IsSome, All};
+ghost use Rattle.ps_bucket_log.specs.declared.ops.Op.{Op as OpSeen};
 ghost use Rattle.ps_rows.specs.declared.changes.Change.{Change as ChangeSeen};
 ghost use Rattle.ps_rows.specs.Source.{Key};
 ghost use Rattle.ps_sql_eval.specs.Evaluated.{asker_of};
@@ -10,14 +11,14 @@ ghost use Rattle.ps_store.specs.declared.fixed.Fixed.{Fixed as FixedSeen};
 ghost use Rattle.ps_store.specs.Costs.{TakesFew, ReadsFew};
 ghost use Rattle.ps_store.specs.Ledgers.{ledger_of, head_of};
 ghost use Rattle.ps_store.specs.Limits.{greatest, AreWithin};
-ghost use Rattle.ps_store.specs.Readings.{Takes, batch_of, covered_of, log_length_of, nothing_read};
+ghost use Rattle.ps_store.specs.Readings.{Takes, batch_in, batch_of, covered_of, log_length_of, nothing_read};
 ghost use Rattle.ps_store.specs.StoreLogs.{HasRoom, Continue, AreRising, log_at};
 ghost use Rattle.ps_store.specs.Rows.{row_at};
 ghost use Rattle.ps_store.specs.Reach.{reached};
 ghost use Rattle.ps_store.specs.Tails.{Tied, HasPlaces, NotFalling, AreRowsOf};
 ghost use Rattle.ps_store.specs.Totals.{totals_of, bucket_names_of, HaveRoom};
 ghost use Rattle.ps_store.specs.Stores.{StoreStandsFor, Writes, Feeds, Commits, Compacts, IsSame, IsFilled, IsTooWide, IsNamed, Uploads, MakesNumber};
-ghost use Rattle.ps_store.specs.StoreGenerations.{by_of, log_of, FitsQueue, IsCopyOf, IsMarked};
+ghost use Rattle.ps_store.specs.StoreGenerations.{by_of, ending_from, log_of, FitsQueue, IsCopyOf, IsMarked};
 
 use crate::faults::{CompactFault, FeedFault, NothingToCommit, WriteFault};
 use crate::fixed::{Limits, Shared};
@@ -445,8 +446,7 @@ impl Store {
     {
         match self.generations.ending(alloc, bucket)? {
             None => self.logs_of(bucket).read(alloc, bucket, after, upto, steps),
-            Some(Ending::Switched(id)) if upto.0 < id.0 => Ok(empty_batch(alloc, Some(id))),
-            Some(_) => Ok(empty_batch(alloc, None)),
+            Some(ending) => Ok(ended_batch(alloc, ending, upto)),
         }
     }
 
@@ -515,9 +515,31 @@ impl Store {
             → log_at result.now bucket.now ≡ log_of (ledger_of fixed.rules history) bucket.now }
     {
         match &self.generations.building {
-            Some(building) if has_mark(&building.mark, bucket) => &building.logs,
-            _ => &self.logs,
+            Some(building) => {
+                if has_mark(&building.mark, bucket) {
+                    &building.logs
+                } else {
+                    &self.logs
+                }
+            }
+            None => &self.logs,
         }
+    }
+}
+
+// What is read up to an id of a bucket whose generation ended.
+fn ended_batch(alloc: Global, ending: Ending, upto: OpId) -> Batch
+    ensures { (log : List OpSeen) (after : ℕ) → result ≡ batch_in (Some (ending_from ending)) log after upto.0 }
+{
+    match ending {
+        Ending::Switched(id) => {
+            if upto.0 < id.0 {
+                empty_batch(alloc, Some(id))
+            } else {
+                empty_batch(alloc, None)
+            }
+        }
+        Ending::Abandoned => empty_batch(alloc, None),
     }
 }
 
