@@ -8,6 +8,9 @@ use Rattle.ps_store.specs.declared.building.Building.{Building}
 use Rattle.ps_store.specs.declared.fixed.Fixed.{Fixed}
 use Rattle.ps_store.specs.declared.fixed.Limits.{Limits}
 use Rattle.ps_store.specs.declared.generations.Generations.{Generations}
+use Rattle.ps_rows.specs.Source.{Key}
+use Rattle.ps_store.specs.declared.rows.Rows.{Rows}
+use Rattle.ps_store.specs.Rows.{row_at}
 use Rattle.ps_store.specs.Generations.{Coming, Ended}
 use Rattle.ps_store.specs.Originals.{Timed, standing_entries}
 use Rattle.ps_store.specs.StoreGenerations.{mark_in, Endings, ending_from, ending_by, place_in, AreAlike, BuildingStands, FitsQueue, GenerationsStand, HavePlaces, HaveQueued, HasQueued, IndexStandsFor, IsAlike, IsBuilding, IsQueued, SameBuilding}
@@ -28,7 +31,7 @@ index_alike old new by floor changes waiting head rules last forgotten notes h =
 -- ---- what is being built
 
 module _ (log : List ℕ → List Op) (position : ℕ) (waiting : List Timed) (head : ℕ) where
-  building_same : (old new : Building) (coming : Coming) → SameBuilding old new → BuildingStands old coming log position waiting head → BuildingStands new coming log position waiting head
+  pub building_same : (old new : Building) (coming : Coming) → SameBuilding old new → BuildingStands old coming log position waiting head → BuildingStands new coming log position waiting head
   building_same old new coming same h = record {
     number = same.number ∙ h.number;
     mark = same.mark ∙ h.mark;
@@ -133,4 +136,18 @@ alike_then a b c x y = record {
   building = then_alike a.building b.building c.building x.building y.building;
   endings = λ bucket. y.endings bucket ∙ x.endings bucket;
   places = λ mark h. y.places mark (x.places mark h);
+}
+
+pub same_parts : (old mid : Building) (rows : Rows) → SameBuilding old mid → ((key : Key) → row_at rows key ≡ row_at mid.rows key) → SameBuilding old (record mid { rows = rows })
+same_parts old mid rows same held = record {
+  number = same.number;
+  mark = same.mark;
+  by = same.by;
+  logs = same.logs;
+  rows = λ key. held key ∙ same.rows key;
+  index_rules = same.index_rules;
+  index_last = same.index_last;
+  index_forgotten = same.index_forgotten;
+  index_notes = same.index_notes;
+  queue = same.queue;
 }

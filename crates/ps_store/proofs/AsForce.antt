@@ -32,6 +32,28 @@ pub record Stays (l m : Ledger) : Type 0 where
   pub level : m.level ≡ l.level
   pub numbers : m.numbers ≡ l.numbers
 
+-- so a ledger is the one before, with these
+pub with_taken : (l m : Ledger) → Stays l m → (record l { last = m.last; building = m.building; entered = m.entered; log = m.log }) ≡ m
+with_taken l m s = λ i. record {
+  fed = sym s.fed i;
+  closed = sym s.closed i;
+  written = sym s.written i;
+  last = m.last;
+  wrote = sym s.wrote i;
+  given = sym s.given i;
+  reach = sym s.reach i;
+  position = sym s.position i;
+  op = sym s.op i;
+  force = sym s.force i;
+  building = m.building;
+  begun = sym s.begun i;
+  ended = sym s.ended i;
+  entered = m.entered;
+  log = m.log;
+  level = sym s.level i;
+  numbers = sym s.numbers i;
+}
+
 pub record HasTaken (coming : Coming) (l : Ledger) (ts : List Timed) (m k : Ledger) : Type 0 where
   pub building : m.building ≡ Some (record { lane = k.force; queue = drop (length ts) coming.queue })
   pub last : m.last ≡ k.last

@@ -4,6 +4,8 @@ pub mod Alike
 pub mod Apart
 pub mod AsForce
 pub mod Batching
+pub mod Beginning
+pub mod BuiltBatch
 pub mod Calls
 pub mod Coming
 pub mod Committed
@@ -50,6 +52,7 @@ pub mod Plainly
 pub mod PlanMarked
 pub mod Planning
 pub mod Queries
+pub mod QueueTaken
 pub mod Queued
 pub mod Queues
 pub mod Reached
@@ -70,5 +73,6 @@ pub mod Telling
 pub mod Through
 pub mod Ties
 pub mod Totalling
+pub mod Unbuilt
 pub mod Upto
 pub mod Worked

@@ -46,11 +46,11 @@ pub record IsWritten (rules : RuleSet) (plan : Plan) (l : Ledger) (ts : List Tim
   pub rows_are : AreRowsOf rules.definitions plan.made.items ts
   pub newest : plan.last.0 ≡ (fold write_next l ts).last
 
-plain_fold : (ts : List Timed) (k b : Ledger) → IsPlain k b → IsPlain (fold write_next k ts) (fold write_next b ts)
+pub plain_fold : (ts : List Timed) (k b : Ledger) → IsPlain k b → IsPlain (fold write_next k ts) (fold write_next b ts)
 plain_fold [] k b h = h
 plain_fold (t ∷ ts) k b h = plain_fold ts (write_next k t) (write_next b t) (plain_next k b t h)
 
-rows_same : (definitions : List Definition) (old new : List Made) (ts : List Timed) → rows_made new ≡ rows_made old → AreRowsOf definitions old ts → AreRowsOf definitions new ts
+pub rows_same : (definitions : List Definition) (old new : List Made) (ts : List Timed) → rows_made new ≡ rows_made old → AreRowsOf definitions old ts → AreRowsOf definitions new ts
 rows_same definitions [] [] ts same h = tt
 rows_same definitions [] (n ∷ new) ts same h = absurd (omega (arith, ap length same))
 rows_same definitions (o ∷ old) [] ts same h = absurd (omega (arith, ap length same))

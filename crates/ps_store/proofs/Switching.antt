@@ -45,6 +45,19 @@ use Rattle.ps_store.proofs.Queues.{AllUpTo}
 use Rattle.ps_store.proofs.Reached.{committed_is}
 use Rattle.ps_store.proofs.Stepping.{source_changes}
 
+-- the one that is looked at is the one that comes into force
+pub queue_gone : (o : Option Building) (x y : Building) → o ≡ Some x → o ≡ Some y → length x.queue.items ≡ 0 → y.queue.items ≡ []
+queue_gone o x y e f none =
+    let same : x ≡ y = some_same (sym e ∙ f) in
+    subst (λ (b : Building). b.queue.items ≡ []) same (empty x.queue.items none)
+  where
+    some_same : Some x ≡ Some y → x ≡ y
+    some_same s = cc
+
+    empty : (us : List Timed) → length us ≡ 0 → us ≡ []
+    empty [] n = refl
+    empty (u ∷ us) n = absurd (omega (arith, n))
+
 -- ---- what is in force then
 
 kept_switched : (limits : Limits) (l : Ledger) (coming : Coming) → l.last < limits.ops

@@ -1,10 +1,10 @@
 -- The calls for new rules, and their causes.
-use Rattle.std.specs.Prelude.{◌≡◌, ◌≢◌, ◌⊎◌, ℕ, ◌+◌, ◌≤◌, ◌<◌, List, [], ◌∷◌, ◌++◌, length, take, drop, fold, Option, Some, None, IsSome, Result, Ok, Err}
+use Rattle.std.specs.Prelude.{◌≡◌, ◌≢◌, ◌⊎◌, ℕ, ◌+◌, ◌*◌, ◌≤◌, ◌<◌, List, [], ◌∷◌, ◌++◌, length, take, drop, fold, Option, Some, None, IsSome, Result, Ok, Err}
 use Rattle.ps_data.specs.declared.ids.OpId.{OpId}
 use Rattle.ps_checksum.specs.Sums.{add_sums}
 use Rattle.ps_bucket_log.specs.Ops.{sum_of}
 use Rattle.ps_rows.specs.Source.{Key}
-use Rattle.ps_definitions.specs.RuleSets.{RuleSet}
+use Rattle.ps_definitions.specs.RuleSets.{RuleSet, AreRules}
 use Rattle.ps_store.specs.declared.building.Batched.{Batched}
 use Rattle.ps_store.specs.declared.building.Building.{Building}
 use Rattle.ps_store.specs.declared.deploying.BuildFault.{BuildFault}
@@ -152,6 +152,7 @@ pub record IsBuilt (built : Building) (coming : Coming) (l : Ledger) (last : ℕ
   pub stands : StandsIn built coming l
   pub kept : IsKept built.by.limits l
   pub last_is : last ≡ l.last
+  pub are : AreRules coming.lane.rules
 
 -- a batch was taken
 pub record HasGrown (coming : Coming) (l : Ledger) (limit : ℕ) (batched : Batched) (new : Building) : Type 0 where
@@ -163,6 +164,8 @@ pub record HasGrown (coming : Coming) (l : Ledger) (limit : ℕ) (batched : Batc
   pub kept : IsKept new.by.limits (built_ledger l coming batched.changes)
   pub last : batched.last.0 ≡ (built_ledger l coming batched.changes).last
   pub operations : l.last + batched.operations ≡ batched.last.0
+  pub few : batched.operations ≤ limit * 2000
+  pub first : batched.first ≤ batched.operations
   pub totals : totals_of (built_ledger l coming batched.changes) ≡ with_batch (totals_of l) batched
 
 -- or why it was not; that none is being built is not found here

@@ -239,7 +239,8 @@ impl Building {
         requires some { 1 ≤ limit }
         requires limit { limit ≤ 1000000 }
         requires stands { (coming : Coming) × (l : Ledger) × IsBuilt self.old coming l last.0 }
-        ensures { (coming : Coming) (l : Ledger) → IsBuilt self.old coming l last.0 → Grows coming l limit self.new result }
+        ensures by { self.new.by ≡ self.old.by }
+        ensures grows { (coming : Coming) (l : Ledger) → IsBuilt self.old coming l last.0 → Grows coming l limit self.new result }
     {
         if self.queue.is_empty() {
             return Err(BuildFault::NothingToBuild);
@@ -253,11 +254,11 @@ impl Building {
         if count == 0 {
             return Err(self.refused(alloc, last, refusal));
         }
-        if self.grow(alloc, &mut plan).is_err() {
+        let Ok(_grown) = self.grow(alloc, &mut plan) else {
             let (seen, _entered, _made) = plan.into_parts();
             tidy_all(&mut self.rows, &seen);
             return Err(BuildFault::Memory);
-        }
+        };
         let batched = self.fill(plan);
         let _full = self.index.reserve(alloc, 0);
         Ok(batched)

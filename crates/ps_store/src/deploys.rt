@@ -95,9 +95,11 @@ impl Store {
             return Err(SwitchFault::OpsFull { last: self.last });
         }
         let id = OpId(self.last.0 + 1);
-        let Some((logs, rows, index)) = self.generations.switch(id) else {
-            unreachable!()
+        let parts = match self.generations.switch(id) {
+            Some(parts) => parts,
+            None => unreachable!(),
         };
+        let (logs, rows, index) = parts;
         self.logs = logs;
         self.rows = rows;
         self.index = index;
