@@ -6,6 +6,7 @@ pub mod AsForce
 pub mod Batching
 pub mod Beginning
 pub mod BuiltBatch
+pub mod BuiltIndex
 pub mod Calls
 pub mod Coming
 pub mod Committed
@@ -39,6 +40,7 @@ pub mod Marks
 pub mod MarksIn
 pub mod Members
 pub mod Moments
+pub mod MomentsSorted
 pub mod Moving
 pub mod Noted
 pub mod Numbering

@@ -214,6 +214,12 @@ module _ (fixed : Fixed) (store : Store) (history : List Event) (h : StoreStands
       own_logs : (name : List ℕ) → Has (names_of l asker) name → log_at store.logs name ≡ l.log name
       own_logs name has = h.stands.logs name ∙ log_mine l.force.number l.log name (names_own l.force.number l.force.rules asker rows well.force.are name has)
 
+      few_are : (buckets : List TakenBucket) → length names ≤ store.fixed.limits.buckets → buckets ≡ map (λ (name : List ℕ). bucket_upto store.checkpoint.op.0 name (log_at store.logs name)) marked
+          → length buckets ≤ fixed.limits.buckets
+      few_are buckets few are =
+          let length_marked : length marked ≡ length names = ap length marked_is ∙ length_map (λ (name : List ℕ). store.generations.mark ++ name) names in
+          omega (arith, few, limit_is, length_marked, ap length are, length_map (λ (name : List ℕ). bucket_upto store.checkpoint.op.0 name (log_at store.logs name)) marked)
+
       pub take_done : (buckets : List TakenBucket) (number : Option ℕ) → number ≡ covered_of l asker → ArePlainTold names → length names ≤ store.fixed.limits.buckets
           → buckets ≡ map (λ (name : List ℕ). bucket_upto store.checkpoint.op.0 name (log_at store.logs name)) marked
           → Takes fixed history asker (Ok (record {
@@ -233,7 +239,6 @@ module _ (fixed : Fixed) (store : Store) (history : List Event) (h : StoreStands
           ∙ same_at (λ (name : List ℕ). bucket_upto l.op name (log_at store.logs name)) (λ (name : List ℕ). bucket_upto l.op name (l.log name)) (names_of l asker) (λ name has. ap (bucket_upto l.op name) (own_logs name has)) in
           let named : names_of l asker ≡ map (λ (b : TakenBucket). b.name) buckets =
           names_kept l.op l.log (names_of l asker) ∙ ap (map (λ (b : TakenBucket). b.name)) (sym all) in
-          let length_marked : length marked ≡ length names = ap length marked_is ∙ length_map (λ (name : List ℕ). store.generations.mark ++ name) names in
           record {
             value = λ i. record {
               position = record { 0 = h.stands.position i };
@@ -243,7 +248,7 @@ module _ (fixed : Fixed) (store : Store) (history : List Event) (h : StoreStands
               number = covers i;
               buckets = all i;
             };
-            few = omega (arith, few, limit_is, length_marked, ap length are, length_map (λ (name : List ℕ). bucket_upto store.checkpoint.op.0 name (log_at store.logs name)) marked);
+            few = few_are buckets few are;
             rise = subst (IsStrictlySortedBy (slice_cmp nat_cmp)) named
                 (names_sorted (names_of l asker) (marked_rise l.force.number (bucket_names l.force.rules.definitions asker rows) (in_order_rise (flat_map (definition_names asker rows) l.force.rules.definitions))));
             told = subst AreTold named (all_told l.force.number l.force.rules asker rows number_low well.force.are (subst ArePlainTold plain_are told));

@@ -125,6 +125,7 @@ impl Rows {
     pub(crate) fn last_changes(&self, alloc: Global) -> Result<VecDeque<Waiting>, Memory>
         ensures { IfOk result (λ queue. (source : Source) → IsRowsOf self.now source → HaveOwnMoments source → queue.items ≡ queue_of source) }
     {
+        let _count = self.places.len();
         let mut changes = self.changes_by_row(alloc)?;
         sort_by_moment(&mut changes);
         let mut queue = VecDeque::new(alloc);
