@@ -41,7 +41,7 @@ use Rattle.ps_store.proofs.Advancing.{ascend_append}
 use Rattle.ps_store.proofs.Coming.{stands_event, stands_still}
 use Rattle.ps_store.proofs.Going.{IsWell, well_history}
 use Rattle.ps_store.proofs.Moving.{GoesOnUp, generations_moved, same_up}
-use Rattle.ps_store.proofs.Reached.{committed_is}
+use Rattle.ps_store.proofs.Reached.{committed_is, committed_fed}
 use Rattle.ps_store.proofs.StoreStands.{ascend_at, unwritten_fed, head_fed, kept_fed, index_fed, kept_commit, index_commit, kept_fresh, numbers_later}
 
 -- nothing is fed
@@ -176,7 +176,7 @@ module _ (fixed : Fixed) (old : Store) (history : List Event) (h : StoreStandsFo
         totals = counted ∙ ap with_transaction h.stands.totals ∙ (λ i. record (totals_of l) { transactions = sym (length-append l.fed (t ∷ [])) i });
         position = h.stands.position;
         op = h.stands.op;
-        committed = h.stands.committed;
+        committed = h.stands.committed ∙ committed_fed l t (well_history fixed.rules history h.rules h.query_numbers h.legal) past;
         head = sym (head_fed l.fed t);
         closed = h.stands.closed;
         numbers = numbers_later old.fixed.limits.numbers old.numbers l.numbers (head_of l.fed) (head_of (l.fed ++ t ∷ [])) (omega (arith, head_fed l.fed t, past)) h.stands.numbers;
