@@ -1,6 +1,6 @@
 -- The generation that was being built is dropped.
-use Rattle.std.proofs.Common.{◌≡◌, ℕ, ◌+◌, ◌≤◌, ◌<◌, Option, Some, None, option_map, List, [], ◌∷◌, ◌++◌, refl, sym, ap, ◌∙◌, subst, arith}
-use Rattle.std.specs.Prelude.{Ok, Err, IsSome, unwrap_or}
+use Rattle.std.proofs.Common.{◌≡◌, ℕ, ◌≤◌, Option, Some, None, option_map, List, refl, sym, ap, ◌∙◌, subst, arith}
+use Rattle.std.specs.Prelude.{Ok, IsSome, unwrap_or}
 use Rattle.ps_store.specs.declared.building.Building.{Building}
 use Rattle.ps_store.specs.declared.events.Event.{Event}
 use Rattle.ps_store.specs.declared.events.Event.TheVariants.{Abandon}
@@ -10,7 +10,7 @@ use Rattle.ps_store.specs.declared.generations.Ending.TheVariants as stored
 use Rattle.ps_store.specs.declared.generations.Generations.{Generations}
 use Rattle.ps_store.specs.declared.stores.Store.{Store}
 use Rattle.ps_store.specs.Deploys.{Abandons}
-use Rattle.ps_store.specs.Generations.{mark_of, is_of, Lane, Coming, Ended, Abandoned, ending_of}
+use Rattle.ps_store.specs.Generations.{Coming, Abandoned}
 use Rattle.ps_store.specs.Ledgers.{Ledger, head_of, unwritten, drop_coming, ledger_of}
 use Rattle.ps_store.specs.Limits.{greatest}
 use Rattle.ps_store.specs.StoreGenerations.{StandsIn, HasAbandoned, HavePlaces, IsBuilding, IsNoted}

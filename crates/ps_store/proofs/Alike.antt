@@ -1,5 +1,5 @@
 -- Generations that hold the same stand for the same.
-use Rattle.std.proofs.Common.{◌≡◌, ℕ, ◌≤◌, true, Option, Some, None, option_map, List, ◌++◌, refl, sym, ap, ◌∙◌, subst, arith}
+use Rattle.std.proofs.Common.{◌≡◌, ℕ, true, Option, Some, None, option_map, List, ◌++◌, refl, sym, ap, ◌∙◌, subst, arith}
 use Rattle.ps_bucket_log.specs.declared.ops.Op.{Op}
 use Rattle.ps_definitions.specs.RuleSets.{RuleSet}
 use Rattle.ps_params.specs.Indexes.{Index}
@@ -12,9 +12,9 @@ use Rattle.ps_rows.specs.Source.{Key}
 use Rattle.ps_store.specs.declared.rows.Rows.{Rows}
 use Rattle.ps_store.specs.Rows.{row_at}
 use Rattle.ps_store.specs.Generations.{Coming, Ended}
-use Rattle.ps_store.specs.Originals.{Timed, standing_entries}
-use Rattle.ps_store.specs.StoreGenerations.{mark_in, Endings, ending_from, ending_by, place_in, AreAlike, BuildingStands, FitsQueue, GenerationsStand, HavePlaces, HaveQueued, HasQueued, IndexStandsFor, IsAlike, IsBuilding, IsQueued, SameBuilding}
-use Rattle.ps_store.specs.Tails.{Ascend, notes_after}
+use Rattle.ps_store.specs.Originals.{Timed}
+use Rattle.ps_store.specs.StoreGenerations.{mark_in, Endings, ending_from, ending_by, place_in, AreAlike, BuildingStands, GenerationsStand, HavePlaces, IndexStandsFor, IsAlike, IsBuilding, SameBuilding}
+use Rattle.ps_store.specs.Tails.{Ascend}
 
 -- ---- an index
 

@@ -1,6 +1,5 @@
 -- The generation that is being built takes changes as if it were in force.
-use Rattle.std.proofs.Common.{◌≡◌, ℕ, zero, suc, ◌+◌, Option, Some, None, List, [], ◌∷◌, ◌++◌, refl, sym, ap, ◌∙◌, subst, length, drop, fold}
-use Rattle.ps_bucket_log.specs.declared.ops.Op.{Op}
+use Rattle.std.proofs.Common.{◌≡◌, ℕ, zero, suc, ◌+◌, Option, Some, List, [], ◌∷◌, ◌++◌, refl, sym, ap, ◌∙◌, subst, length, drop, fold}
 use Rattle.ps_store.specs.Deploys.{as_force}
 use Rattle.ps_store.specs.Generations.{Lane, lane_next, step_lane, Coming}
 use Rattle.ps_store.specs.Ledgers.{Ledger, write_next, build_next, build_with, taken_by}

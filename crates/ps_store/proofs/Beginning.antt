@@ -1,5 +1,5 @@
 -- A generation begins by new rules.
-use Rattle.std.proofs.Common.{◌≡◌, ℕ, ◌+◌, ◌≤◌, ◌<◌, Bool, true, false, Option, Some, None, List, [], ◌∷◌, ◌++◌, refl, sym, ap, ◌∙◌, subst, length, arith}
+use Rattle.std.proofs.Common.{◌≡◌, ℕ, ◌+◌, ◌≤◌, ◌<◌, Bool, true, false, Option, Some, None, List, [], ◌∷◌, ◌++◌, refl, sym, ap, ◌∙◌, subst, arith}
 use Rattle.std.specs.Prelude.{T, Ok, Err, if◌then◌else◌, unwrap_or}
 use Rattle.std.specs.FinMap.Entries.{is_sorted}
 use Rattle.ps_bucket_log.specs.declared.ops.Op.{Op}
@@ -19,12 +19,12 @@ use Rattle.ps_store.specs.Generations.{mark_of, is_of, fresh_lane, queue_of, Com
 use Rattle.ps_store.specs.Laws.{HaveNumbers}
 use Rattle.ps_store.specs.Ledgers.{Ledger, unwritten, head_of, ledger_after, ledger_of}
 use Rattle.ps_store.specs.Limits.{greatest}
-use Rattle.ps_store.specs.Originals.{Timed, in_bucket}
+use Rattle.ps_store.specs.Originals.{Timed}
 use Rattle.ps_store.specs.Rows.{row_at, HaveOwnMoments}
-use Rattle.ps_store.specs.StoreGenerations.{log_in, place_in, BuildingStands, IsAlike, IsRowsOf}
+use Rattle.ps_store.specs.StoreGenerations.{place_in, BuildingStands, IsAlike, IsRowsOf}
 use Rattle.ps_store.specs.StoreLogs.{log_at, has_ops}
-use Rattle.ps_store.specs.Stores.{IsKept, Stands, StoreStandsFor}
-use Rattle.ps_store.specs.Tails.{Ascend, notes_after}
+use Rattle.ps_store.specs.Stores.{IsKept, StoreStandsFor}
+use Rattle.ps_store.specs.Tails.{Ascend}
 use Rattle.ps_store.proofs.Abandoning.{none_built, number_is}
 use Rattle.ps_store.proofs.Alike.{generations_alike}
 use Rattle.ps_store.proofs.Apart.{in_order, moments_of_none}

@@ -1,12 +1,12 @@
 -- What a batch of a generation that is being built leaves.
-use Rattle.std.proofs.Common.{◌≡◌, ℕ, zero, suc, ◌+◌, ◌*◌, ◌%◌, ◌^◌, ◌≤◌, ◌<◌, Option, Some, None, List, [], ◌∷◌, ◌++◌, refl, sym, ap, ◌∙◌, subst, length, map, take, drop, fold, arith, append_assoc, append-nil, length-append, length-take, length-drop}
+use Rattle.std.proofs.Common.{◌≡◌, ℕ, zero, suc, ◌+◌, ◌%◌, ◌^◌, ◌≤◌, ◌<◌, Option, Some, None, List, [], ◌∷◌, ◌++◌, refl, sym, ap, ◌∙◌, subst, length, map, take, drop, fold, arith, append_assoc, append-nil, length-append, length-take}
 use Rattle.std.specs.Prelude.{Ok, Err, IsSome}
 use Rattle.std.specs.FinMap.Entries.{find}
 use Rattle.ps_data.specs.declared.ids.OpId.{OpId}
 use Rattle.ps_bucket_log.specs.declared.ops.Op.{Op}
 use Rattle.ps_bucket_log.specs.Logs.{IsRising}
 use Rattle.ps_bucket_log.specs.Ops.{newest, sum_of}
-use Rattle.ps_rows.specs.Source.{Key, key_cmp, Version}
+use Rattle.ps_rows.specs.Source.{Key, key_cmp}
 use Rattle.ps_definitions.specs.declared.definitions.Definition.{Definition}
 use Rattle.ps_definitions.specs.RuleSets.{RuleSet}
 use Rattle.ps_params.specs.Notes.{Note, SameFrom}
@@ -20,20 +20,20 @@ use Rattle.ps_store.specs.declared.plans.Made.{Made}
 use Rattle.ps_store.specs.declared.plans.Plan.{Plan}
 use Rattle.ps_store.specs.declared.plans.Planned.{Planned}
 use Rattle.ps_store.specs.declared.plans.Refusal.{Refusal}
-use Rattle.ps_store.specs.Deploys.{as_force, run_of, built_ledger, with_batch, IsBuilt, HasGrown, Grows, IsTaken, IsCounted, IsNamedOf}
-use Rattle.ps_store.specs.Generations.{mark_of, Lane, Coming}
+use Rattle.ps_store.specs.Deploys.{as_force, run_of, built_ledger, with_batch, IsBuilt, Grows, IsTaken, IsCounted, IsNamedOf}
+use Rattle.ps_store.specs.Generations.{mark_of, Coming}
 use Rattle.ps_store.specs.Ledgers.{Ledger, unwritten, head_of, write_next, build_next}
 use Rattle.ps_store.specs.Originals.{Entered, Timed, columns_of, standing_entries, in_bucket}
 use Rattle.ps_store.specs.Plans.{IsStart, IsRun}
 use Rattle.ps_store.specs.Rows.{row_at}
 use Rattle.ps_store.specs.Runs.{Run, run_from, ops_from, lasts_from}
 use Rattle.ps_store.specs.Steps.{Step, marked, changes_of}
-use Rattle.ps_store.specs.StoreGenerations.{log_in, BuildingStands, IndexStandsFor, SameBuilding, StandsIn}
+use Rattle.ps_store.specs.StoreGenerations.{log_in, IndexStandsFor, SameBuilding, StandsIn}
 use Rattle.ps_store.specs.StoreLogs.{log_at, has_ops, first_ops, AreRising, Continue}
 use Rattle.ps_store.specs.Stores.{IsKept}
-use Rattle.ps_store.specs.Tails.{Ascend, AreRowsOf, NotFalling, ids, rows_after, notes_after}
+use Rattle.ps_store.specs.Tails.{Ascend, AreRowsOf, NotFalling, rows_after, notes_after}
 use Rattle.ps_store.specs.Totals.{names_of, ops_of, totals_of}
-use Rattle.ps_store.proofs.Advancing.{not_falling, notes_append, rows_front, same_after}
+use Rattle.ps_store.proofs.Advancing.{notes_append, rows_front, same_after}
 use Rattle.ps_store.proofs.Alike.{building_same}
 use Rattle.ps_store.proofs.AsForce.{HasTaken, as_it_is, takes_all, with_taken}
 use Rattle.ps_store.proofs.Compacting.{next_entered}
@@ -43,9 +43,8 @@ use Rattle.ps_store.proofs.Marks.{AreOf}
 use Rattle.ps_store.proofs.OwnLogs.{ops_own, own_log, first_own, log_mine, in_newest, in_rising}
 use Rattle.ps_store.proofs.Plainly.{SameRun, plain_run, plain_from}
 use Rattle.ps_store.proofs.PlanMarked.{plain_base, is_plain, plain_start, plain_fold}
-use Rattle.ps_store.proofs.Reaching.{parted}
 use Rattle.ps_store.proofs.Refusing.{refusal_there}
-use Rattle.ps_store.proofs.Unbuilt.{unbuilt_is, nothing_left, wanting}
+use Rattle.ps_store.proofs.Unbuilt.{unbuilt_is, wanting}
 
 length_map : {A B : Type 0} (f : A → B) (xs : List A) → length (map f xs) ≡ length xs
 length_map f [] = refl

@@ -1,5 +1,5 @@
 -- What the index of the generation that is being built gives.
-use Rattle.std.proofs.Common.{◌≡◌, ℕ, ◌≤◌, true, Option, Some, None, List, [], ◌∷◌, refl, sym, ap, ◌∙◌, subst, map, arith}
+use Rattle.std.proofs.Common.{◌≡◌, ℕ, ◌≤◌, Option, Some, None, List, [], refl, sym, ap, ◌∙◌, subst, arith}
 use Rattle.std.specs.Prelude.{T, Contains, ◌↔◌}
 use Rattle.std.specs.FinMap.Entries.{find, is_sorted}
 use Rattle.ps_data.specs.declared.columns.Column.{Column}
@@ -8,7 +8,6 @@ use Rattle.ps_queries.specs.Meaning.{Asker}
 use Rattle.ps_queries.specs.Vectors.{SourceRow}
 use Rattle.ps_definitions.specs.declared.definitions.Definition.{Definition}
 use Rattle.ps_definitions.specs.RuleSets.{RuleSet}
-use Rattle.ps_definitions.specs.Tables.{is_read}
 use Rattle.ps_granted.specs.Sources.{row_of, rows_in}
 use Rattle.ps_params.specs.Indexes.{StandsAt}
 use Rattle.ps_params.specs.Names.{bucket_names}
@@ -20,11 +19,11 @@ use Rattle.ps_store.specs.declared.stores.Store.{Store}
 use Rattle.ps_store.specs.Generations.{Coming}
 use Rattle.ps_store.specs.IndexLaws.{GivesNames}
 use Rattle.ps_store.specs.Ledgers.{Ledger, head_of, unwritten, ledger_of}
-use Rattle.ps_store.specs.Originals.{Timed, columns_of}
+use Rattle.ps_store.specs.Originals.{columns_of}
 use Rattle.ps_store.specs.Steps.{changes_of}
 use Rattle.ps_store.specs.StoreGenerations.{StandsIn}
 use Rattle.ps_store.specs.Stores.{StoreStandsFor}
-use Rattle.ps_store.proofs.Abandoning.{IsOf, is_built}
+use Rattle.ps_store.proofs.Abandoning.{is_built}
 use Rattle.ps_store.proofs.Apart.{in_order}
 use Rattle.ps_store.proofs.Copies.{find_there, from_find}
 use Rattle.ps_store.proofs.Generating.{all_higher}

@@ -1,11 +1,11 @@
 -- Each operation is in a bucket of a generation that is in force, is being built or ended.
-use Rattle.std.proofs.Common.{◌≡◌, ℕ, Bool, true, false, Option, Some, None, option_map, List, [], ◌∷◌, ◌++◌, refl, sym, ap, ◌∙◌, subst, take, drop, fold, inl, inr}
+use Rattle.std.proofs.Common.{◌≡◌, ℕ, Bool, true, false, Option, Some, None, option_map, List, [], ◌∷◌, ◌++◌, refl, sym, ◌∙◌, subst, take, drop, fold, inl, inr}
 use Rattle.std.specs.Prelude.{◌⊎◌, bytes_eq, if◌then◌else◌}
 use Rattle.std.proofs.lemmas.Slice.Eq.{bytes_eq-Decides}
 use Rattle.ps_definitions.specs.RuleSets.{RuleSet, AreRules}
 use Rattle.ps_store.specs.declared.events.Event.{Event}
 use Rattle.ps_store.specs.declared.events.Event.TheVariants.{Feed, Close, Write, Commit, Compact, WriteCheckpoint, Deploy, Build, Switch, Abandon}
-use Rattle.ps_store.specs.Generations.{is_of, Lane, lane_next, step_lane, Coming, with_change, queue_in, Ended, ending_of}
+use Rattle.ps_store.specs.Generations.{is_of, lane_next, step_lane, Coming, with_change, queue_in, Ended, ending_of}
 use Rattle.ps_store.specs.Laws.{HaveNumbers}
 use Rattle.ps_store.specs.Ledgers.{Ledger, fresh, unwritten, next_ops, write_next, build_with, build_next, switch_to, drop_coming, ledger_after, ledger_of, CanCome, IsLegalFrom, IsLegal}
 use Rattle.ps_store.specs.Originals.{Entered, Timed, in_bucket}
@@ -99,9 +99,9 @@ home_switch (Some coming) l is h = home_moves l.force.number coming.lane.number 
     (λ bucket home. elim home [
       | inl own ↦ inr (inr (ended_last l.ended _ bucket own))
       | inr rest ↦ elim rest [
-          | inl in_coming ↦ inl (subst (λ (o : Option Coming). InComing o bucket) is in_coming)
-          | inr in_ended ↦ inr (inr (ended_more l.ended _ bucket in_ended))
-        ]
+        | inl in_coming ↦ inl (subst (λ (o : Option Coming). InComing o bucket) is in_coming)
+        | inr in_ended ↦ inr (inr (ended_more l.ended _ bucket in_ended))
+      ]
     ]) h
 
 home_drop : (coming : Option Coming) (l : Ledger) → l.building ≡ coming → Homed l → Homed (drop_coming coming l)
@@ -110,9 +110,9 @@ home_drop (Some coming) l is h = home_moves l.force.number l.force.number l.buil
     (λ bucket home. elim home [
       | inl own ↦ inl own
       | inr rest ↦ elim rest [
-          | inl in_coming ↦ inr (inr (ended_last l.ended _ bucket (subst (λ (o : Option Coming). InComing o bucket) is in_coming)))
-          | inr in_ended ↦ inr (inr (ended_more l.ended _ bucket in_ended))
-        ]
+        | inl in_coming ↦ inr (inr (ended_last l.ended _ bucket (subst (λ (o : Option Coming). InComing o bucket) is in_coming)))
+        | inr in_ended ↦ inr (inr (ended_more l.ended _ bucket in_ended))
+      ]
     ]) h
 
 rules_coming : (entered : List Entered) (last begun : ℕ) (done rest : List Timed) (force : ℕ) (coming : Option Coming) → ComesWell entered last begun done rest force coming → HasRules coming

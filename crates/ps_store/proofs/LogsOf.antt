@@ -1,5 +1,5 @@
 -- The log of a bucket whose generation did not end, in the store.
-use Rattle.std.proofs.Common.{◌≡◌, ℕ, ◌≤◌, ◌<◌, Bool, true, false, not, Option, Some, None, List, [], ◌∷◌, refl, sym, ap, ◌∙◌, subst, arith}
+use Rattle.std.proofs.Common.{◌≡◌, ℕ, ◌<◌, Bool, true, false, not, Option, Some, None, List, [], ◌∷◌, refl, sym, ap, ◌∙◌, subst, arith}
 use Rattle.std.specs.Prelude.{is_some, nat_le, if◌then◌else◌}
 use Rattle.std.proofs.lemmas.Bool.Decides.{nat_tests}
 use Rattle.ps_bucket_log.specs.declared.ops.Op.{Op}
@@ -12,7 +12,7 @@ use Rattle.ps_store.specs.Ledgers.{Ledger, unwritten, ledger_of}
 use Rattle.ps_store.specs.StoreGenerations.{log_of}
 use Rattle.ps_store.specs.StoreLogs.{log_at, has_ops}
 use Rattle.ps_store.specs.Stores.{StoreStandsFor}
-use Rattle.ps_store.proofs.Abandoning.{IsOf, is_built, none_built}
+use Rattle.ps_store.proofs.Abandoning.{is_built, none_built}
 use Rattle.ps_store.proofs.Endings.{lives}
 use Rattle.ps_store.proofs.EndingsNoted.{not_built}
 use Rattle.ps_store.proofs.Going.{IsWell, ComesWell, done_of, well_history}

@@ -14,7 +14,7 @@ use Rattle.ps_store.specs.Originals.{Entered}
 use Rattle.ps_store.specs.Steps.{marked}
 use Rattle.ps_store.specs.StoreGenerations.{digits_in, numbered_mark, mark_in, prefixed}
 use Rattle.ps_store.proofs.Lanes.{unmarked}
-use Rattle.ps_store.proofs.Marks.{AreDigits, decimal_digits, digit_first, first_one, is_digit, mark_is, mark_none, numbered_name, parts_of}
+use Rattle.ps_store.proofs.Marks.{AreDigits, decimal_digits, digit_first, is_digit, mark_is, mark_none, numbered_name, parts_of}
 
 -- digits and a `#` are found
 numbered_is : (ds rest : List ℕ) → AreDigits ds → numbered_mark (ds ++ 35 ∷ rest) ≡ Some (ds ++ 35 ∷ [])

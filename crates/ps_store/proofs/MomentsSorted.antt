@@ -1,15 +1,15 @@
 -- The changes that left the rows, put in the order of their moments, are the queue of a source.
-use Rattle.std.proofs.Common.{◌≡◌, ℕ, zero, suc, ◌+◌, ◌≤◌, ◌<◌, Bool, true, false, cond, Option, Some, None, List, [], ◌∷◌, ◌++◌, refl, sym, ap, ◌∙◌, subst, length, map, get_or, arith, inl, inr}
-use Rattle.std.specs.Prelude.{T, ◌⊎◌, ◌==◌, ◌&&◌, ◌||◌, nat_lt, if◌then◌else◌, sum_by, IsPermutation}
+use Rattle.std.proofs.Common.{◌≡◌, ℕ, suc, ◌+◌, ◌≤◌, ◌<◌, Bool, true, false, cond, Option, Some, None, List, [], ◌∷◌, refl, sym, ap, ◌∙◌, subst, length, map, get_or, arith, inl, inr}
+use Rattle.std.specs.Prelude.{T, ◌==◌, ◌&&◌, ◌||◌, nat_lt, if◌then◌else◌, sum_by, IsPermutation}
 use Rattle.std.specs.declared.cmp.Ordering.{Ordering}
-use Rattle.std.specs.declared.cmp.Ordering.TheVariants.{Less, Equal, Greater}
+use Rattle.std.specs.declared.cmp.Ordering.TheVariants.{Less, Equal}
 use Rattle.std.specs.BTreeMap.{is_at}
 use Rattle.std.specs.Cmp.{eq_by_cmp_equiv, nat_cmp_is}
 use Rattle.std.specs.FinMap.Entries.{find, is_sorted, below_all, same_entries}
 use Rattle.std.specs.List.{AllByRecursion}
 use Rattle.std.specs.List.Sorted.{IsStrictlySortedBy, IsSortedByKey}
 use Rattle.std.specs.Map.{keys_of, lookup}
-use Rattle.std.specs.Ordering.{nat_cmp, is_eq, is_lt, ordering_then, eq_by_cmp}
+use Rattle.std.specs.Ordering.{nat_cmp, is_eq, is_lt, ordering_then}
 use Rattle.std.proofs.lemmas.Bool.{cases_lt}
 use Rattle.std.proofs.lemmas.Bool.Decides.{nat_tests}
 use Rattle.std.proofs.lemmas.List.Sorted.{Contains-permutation, IsPermutation-sym, sum_by-IsPermutation}
@@ -250,9 +250,9 @@ same_order (x ∷ xs) (y ∷ ys) up down there back =
     heads = elim (there x (inl refl)) [
       | inl e ↦ sym e
       | inr k ↦ elim (back y (inl refl)) [
-          | inl e ↦ e
-          | inr j ↦ absurd (not_both x y (up.0 y j) (down.0 x k))
-        ]
+        | inl e ↦ e
+        | inr j ↦ absurd (not_both x y (up.0 y j) (down.0 x k))
+      ]
     ]
 
 -- ---- the queue

@@ -1,7 +1,6 @@
 -- A plan that has got the mark of its generation is that of the generation's changes.
-use Rattle.std.proofs.Common.{◌≡◌, ℕ, suc, ◌≤◌, Option, List, [], ◌∷◌, refl, sym, ap, ◌∙◌, length, map, fold, inl, arith}
+use Rattle.std.proofs.Common.{◌≡◌, ℕ, ◌≤◌, List, [], ◌∷◌, refl, sym, ap, ◌∙◌, length, map, fold, inl, arith}
 use Rattle.std.specs.FinMap.Entries.{find}
-use Rattle.ps_data.specs.declared.columns.Column.{Column}
 use Rattle.ps_data.specs.declared.ids.OpId.{OpId}
 use Rattle.ps_rows.specs.Source.{Key, key_cmp}
 use Rattle.ps_definitions.specs.declared.definitions.Definition.{Definition}

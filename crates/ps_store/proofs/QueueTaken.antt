@@ -1,9 +1,8 @@
 -- A batch of the queue of the generation that is being built, in the store.
-use Rattle.std.proofs.Common.{◌≡◌, ℕ, ◌+◌, ◌*◌, ◌^◌, ◌≤◌, ◌<◌, Option, Some, None, List, [], ◌∷◌, ◌++◌, refl, sym, ap, ◌∙◌, subst, length, take, drop, fold, arith, length-take}
-use Rattle.std.specs.Prelude.{Ok, Err, IsSome, Result}
+use Rattle.std.proofs.Common.{◌≡◌, ℕ, ◌+◌, ◌≤◌, Option, Some, None, List, [], ◌∷◌, ◌++◌, refl, sym, ap, ◌∙◌, subst, length, take, drop, fold, arith, length-take}
+use Rattle.std.specs.Prelude.{Ok, Err, Result}
 use Rattle.std.specs.Result.{IsErrAnd}
 use Rattle.ps_data.specs.declared.ids.OpId.{OpId}
-use Rattle.ps_bucket_log.specs.declared.ops.Op.{Op}
 use Rattle.ps_store.specs.declared.building.Batched.{Batched}
 use Rattle.ps_store.specs.declared.building.Building.{Building}
 use Rattle.ps_store.specs.declared.deploying.Built.{Built}
@@ -18,8 +17,8 @@ use Rattle.ps_store.specs.declared.totals.Totals.{Totals}
 use Rattle.ps_store.specs.Deploys.{as_force, run_of, run_in, built_ledger, with_batch, IsBuilt, IsUnbuilt, HasGrown, Grows, Builds}
 use Rattle.ps_store.specs.Generations.{mark_of, Coming, queue_in}
 use Rattle.ps_store.specs.Ledgers.{Ledger, unwritten, head_of, write_next, build_next, ledger_after, ledger_of}
-use Rattle.ps_store.specs.Limits.{greatest, AreWithin}
-use Rattle.ps_store.specs.Originals.{Timed, timed, in_bucket}
+use Rattle.ps_store.specs.Limits.{AreWithin}
+use Rattle.ps_store.specs.Originals.{Timed}
 use Rattle.ps_store.specs.Runs.{Run, run_from, ops_from}
 use Rattle.ps_store.specs.StoreGenerations.{log_in, place_in, HavePlaces, IsBuilding, StandsIn}
 use Rattle.ps_store.specs.StoreLogs.{log_at}

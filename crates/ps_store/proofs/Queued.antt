@@ -1,21 +1,19 @@
 -- What is being built while the generation in force takes changes: they stand behind its queue.
-use Rattle.std.proofs.Common.{◌≡◌, ℕ, zero, suc, ◌+◌, ◌≤◌, ◌<◌, max, Bool, true, false, Option, Some, None, option_map, List, [], ◌∷◌, ◌++◌, refl, sym, ap, ◌∙◌, subst, fold, append_assoc, append-nil, arith}
+use Rattle.std.proofs.Common.{◌≡◌, ℕ, ◌≤◌, Option, Some, None, option_map, List, [], ◌∷◌, ◌++◌, refl, sym, ap, ◌∙◌, subst, fold, append_assoc, append-nil, arith}
 use Rattle.ps_bucket_log.specs.declared.ops.Op.{Op}
-use Rattle.ps_definitions.specs.RuleSets.{AreRules}
 use Rattle.ps_params.specs.Indexes.{Index}
 use Rattle.ps_store.specs.declared.building.Building.{Building}
 use Rattle.ps_store.specs.declared.fixed.Fixed.{Fixed}
 use Rattle.ps_store.specs.declared.fixed.Limits.{Limits}
 use Rattle.ps_store.specs.declared.generations.Generations.{Generations}
 use Rattle.ps_store.specs.Generations.{Coming, Ended, with_change}
-use Rattle.ps_store.specs.Ledgers.{Ledger, next_ops, write_next}
+use Rattle.ps_store.specs.Ledgers.{Ledger, write_next}
 use Rattle.ps_store.specs.Limits.{greatest}
 use Rattle.ps_store.specs.Originals.{Entered, Timed, in_bucket}
 use Rattle.ps_store.specs.Rows.{row_at}
 use Rattle.ps_store.specs.Steps.{changes_of}
-use Rattle.ps_store.specs.StoreGenerations.{log_in, mark_in, Endings, ending_from, ending_by, place_in, BuildingStands, GenerationsStand, HasQueued, HavePlaces, HaveQueued, IndexStandsFor, IsBuilding, IsCopyOf, IsQueued}
+use Rattle.ps_store.specs.StoreGenerations.{mark_in, Endings, ending_from, ending_by, place_in, BuildingStands, GenerationsStand, HasQueued, HavePlaces, HaveQueued, IndexStandsFor, IsBuilding, IsCopyOf, IsQueued}
 use Rattle.ps_store.specs.StoreLogs.{log_at}
-use Rattle.ps_store.specs.Tails.{Ascend}
 use Rattle.ps_store.proofs.Marks.{AreOf}
 use Rattle.ps_store.proofs.OwnLogs.{other_log}
 

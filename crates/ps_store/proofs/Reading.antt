@@ -1,10 +1,9 @@
 -- What is read of a store.
-use Rattle.std.proofs.Common.{◌≡◌, ℕ, ◌≤◌, Bool, true, false, Option, Some, None, List, [], ◌∷◌, refl, sym, ap, ◌∙◌, subst, length, filter, cond, inl, inr}
+use Rattle.std.proofs.Common.{◌≡◌, ℕ, ◌≤◌, Bool, true, false, Option, Some, None, List, [], ◌∷◌, refl, sym, ap, ◌∙◌, subst, length, cond}
 use Rattle.std.specs.Prelude.{bytes_eq, if◌then◌else◌, is_some}
 use Rattle.std.specs.List.Sorted.{IsStrictlySortedBy}
 use Rattle.std.proofs.lemmas.Slice.Eq.{bytes_eq-Decides}
 use Rattle.ps_bucket_log.specs.declared.ops.Op.{Op}
-use Rattle.ps_bucket_log.specs.Logs.{IsRising}
 use Rattle.ps_bucket_log.specs.Ops.{upto, newest}
 use Rattle.ps_store.specs.declared.events.Event.{Event}
 use Rattle.ps_store.specs.declared.fixed.Fixed.{Fixed}

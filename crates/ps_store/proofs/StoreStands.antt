@@ -25,7 +25,7 @@ use Rattle.ps_store.specs.declared.stores.Store.{Store}
 use Rattle.ps_store.specs.declared.tails.Tail.{Tail}
 use Rattle.ps_store.specs.declared.totals.Totals.{Totals}
 use Rattle.ps_store.specs.Ledgers.{Ledger, fresh, unwritten, timed_of, end_of, write_next, head_of}
-use Rattle.ps_store.specs.Originals.{Entered, Timed, timed, timed_from, entries_at, columns_of, standing_entries, in_bucket}
+use Rattle.ps_store.specs.Originals.{Entered, Timed, timed, timed_from, standing_entries, in_bucket}
 use Rattle.ps_store.specs.Generations.{Coming}
 use Rattle.ps_store.specs.StepLaws.{transactions_upto}
 use Rattle.ps_store.specs.Reach.{Reached, reached, settled}

@@ -1,11 +1,8 @@
 -- The generation that was being built comes into force.
-use Rattle.std.proofs.Common.{◌≡◌, ℕ, zero, suc, ◌+◌, ◌-◌, ◌≤◌, ◌<◌, max, Bool, true, false, Option, Some, None, List, [], ◌∷◌, ◌++◌, refl, sym, ap, ◌∙◌, subst, length, map, take, arith}
-use Rattle.std.specs.Prelude.{Ok, IsSome, nat_le, if◌then◌else◌, unwrap_or}
-use Rattle.std.proofs.lemmas.Bool.Decides.{nat_tests}
+use Rattle.std.proofs.Common.{◌≡◌, ℕ, ◌+◌, ◌-◌, ◌≤◌, ◌<◌, max, Option, Some, None, List, [], ◌∷◌, ◌++◌, refl, sym, ap, ◌∙◌, subst, length, arith}
+use Rattle.std.specs.Prelude.{Ok, IsSome, unwrap_or}
 use Rattle.ps_data.specs.declared.ids.OpId.{OpId}
-use Rattle.ps_bucket_log.specs.Ops.{newest}
-use Rattle.ps_rows.specs.declared.changes.Transaction.{Transaction}
-use Rattle.ps_rows.specs.Source.{Key, Source}
+use Rattle.ps_rows.specs.Source.{Key}
 use Rattle.ps_params.specs.Indexes.{Index}
 use Rattle.ps_params.specs.Notes.{SameFrom}
 use Rattle.ps_store.specs.declared.building.Building.{Building}
@@ -20,24 +17,21 @@ use Rattle.ps_store.specs.declared.stores.Store.{Store}
 use Rattle.ps_store.specs.declared.totals.Totals.{Totals}
 use Rattle.ps_store.specs.Deploys.{Switches}
 use Rattle.ps_store.specs.Generations.{Coming, Switched, queue_in}
-use Rattle.ps_store.specs.Laws.{Rises}
-use Rattle.ps_store.specs.Ledgers.{Ledger, end_of, head_of, unwritten, switch_to, ledger_of}
+use Rattle.ps_store.specs.Ledgers.{Ledger, head_of, unwritten, switch_to, ledger_of}
 use Rattle.ps_store.specs.Limits.{greatest}
 use Rattle.ps_store.specs.Originals.{Timed, timed, standing_entries}
-use Rattle.ps_store.specs.Reach.{Reached, reached, settled_from}
-use Rattle.ps_store.specs.Readings.{committed_of}
-use Rattle.ps_store.specs.StepLaws.{transactions_upto}
+use Rattle.ps_store.specs.Reach.{Reached, reached}
 use Rattle.ps_store.specs.Steps.{changes_of}
-use Rattle.ps_store.specs.StoreGenerations.{StandsIn, HasSwitched, HavePlaces, IndexStandsFor, IsBuilding, IsNoted}
-use Rattle.ps_store.specs.Stores.{IsKept, IndexStands, Stands, StoreStandsFor}
-use Rattle.ps_store.specs.Tails.{Ascend, notes_after}
+use Rattle.ps_store.specs.StoreGenerations.{HasSwitched, HavePlaces, IndexStandsFor, IsBuilding, IsNoted}
+use Rattle.ps_store.specs.Stores.{IsKept, Stands, StoreStandsFor}
+use Rattle.ps_store.specs.Tails.{Ascend}
 use Rattle.ps_store.proofs.Abandoning.{IsOf, is_built}
 use Rattle.ps_store.proofs.Coming.{stands_event}
 use Rattle.ps_store.proofs.EndingsNoted.{noted_is}
 use Rattle.ps_store.proofs.Endings.{lives}
-use Rattle.ps_store.proofs.Fronts.{upto_timed, upto-timed}
+use Rattle.ps_store.proofs.Fronts.{upto-timed}
 use Rattle.ps_store.proofs.Generating.{IsLane}
-use Rattle.ps_store.proofs.Going.{IsWell, ComesWell, done_of, well_history, place_of}
+use Rattle.ps_store.proofs.Going.{IsWell, ComesWell, done_of, well_history}
 use Rattle.ps_store.proofs.Moments.{after_all}
 use Rattle.ps_store.proofs.Noted.{noted_alike}
 use Rattle.ps_store.proofs.Placing.{all_reached, upto_low}

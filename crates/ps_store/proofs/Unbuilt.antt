@@ -67,31 +67,37 @@ module _ (limits : Limits) (l : Ledger) (coming : Coming) (is_built : l.building
     | inl is ↦ subst (IsOther limits l) (sym is) (wanting (λ empty. first_there t ts (sym next ∙ sym held ∙ empty)))
     | inr found ↦
         let same : t ≡ found.0 = same_first t found.0 ts found.1 (sym next ∙ sym held ∙ found.2) in
-        subst (IsOther limits l) (sym found.3) (no_wide found.0.change.table found.0.change.id (limits.entries + 1), record {
-          coming = coming;
-          is_built = is_built;
-          next = found.0;
-          rest = found.1;
-          queue = sym held ∙ found.2;
-          wide = subst (λ (u : Timed). limits.entries < length (entries_after k u)) same more;
-          table_is = refl;
-          id_is = refl;
-          count_is = refl;
-        })
+        subst (IsOther limits l) (sym found.3) (
+          no_wide found.0.change.table found.0.change.id (limits.entries + 1),
+          record {
+            coming = coming;
+            is_built = is_built;
+            next = found.0;
+            rest = found.1;
+            queue = sym held ∙ found.2;
+            wide = subst (λ (u : Timed). limits.entries < length (entries_after k u)) same more;
+            table_is = refl;
+            id_is = refl;
+            count_is = refl;
+          },
+        )
   ]
 
   full : (fault : BuildFault) (t : Timed) (ts : List Timed) → coming.queue ≡ t ∷ ts → length (entries_after k t) ≤ limits.entries → limits.ops < l.last + length (next_ops k t)
       → fault ≡ building.OpsFull last → IsOther limits l fault
-  full fault t ts next narrow more is = subst (IsOther limits l) (sym is) (no_full last, record {
-    coming = coming;
-    is_built = is_built;
-    next = t;
-    rest = ts;
-    queue = next;
-    narrow = narrow;
-    full = more;
-    last_is = last_is;
-  })
+  full fault t ts next narrow more is = subst (IsOther limits l) (sym is) (
+    no_full last,
+    record {
+      coming = coming;
+      is_built = is_built;
+      next = t;
+      rest = ts;
+      queue = next;
+      narrow = narrow;
+      full = more;
+      last_is = last_is;
+    },
+  )
 
   by_first : (fault : BuildFault) (t : Timed) (ts : List Timed) → coming.queue ≡ t ∷ ts → (o : Option Refusal) → IsNamedOf queue last o fault → (rest : Run) → 1 ≤ rest.count
       → (stopped k 0 (refusal_of limits k t) rest).count ≡ 0 → o ≡ (stopped k 0 (refusal_of limits k t) rest).refusal → IsOther limits l fault

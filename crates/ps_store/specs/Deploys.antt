@@ -25,7 +25,7 @@ use Rattle.ps_store.specs.declared.plans.Refusal.TheVariants as refusals
 use Rattle.ps_store.specs.declared.stores.Checkpoint.{Checkpoint}
 use Rattle.ps_store.specs.declared.stores.Store.{Store}
 use Rattle.ps_store.specs.declared.totals.Totals.{Totals}
-use Rattle.ps_store.specs.Generations.{lane_next, Lane, Coming, queue_in}
+use Rattle.ps_store.specs.Generations.{lane_next, Coming, queue_in}
 use Rattle.ps_store.specs.Ledgers.{Ledger, build_next, ledger_of}
 use Rattle.ps_store.specs.Originals.{Timed, key_of, entries_at, in_bucket}
 use Rattle.ps_store.specs.Readings.{building_of}

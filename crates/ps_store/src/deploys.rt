@@ -38,7 +38,12 @@ impl Store {
         have_numbers(&rules);
         let number = last + 1;
         let limits = *self.fixed.limits();
-        let building = Building::begin(alloc, number, Shared::new(alloc, rules, limits)?, &self.rows)?;
+        let building = Building::begin(
+            alloc,
+            number,
+            Shared::new(alloc, rules, limits)?,
+            &self.rows,
+        )?;
         self.generations.make_places(alloc, &building.mark)?;
         self.generations.building = Some(building);
         self.generations.begun = number;

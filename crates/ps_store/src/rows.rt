@@ -67,11 +67,7 @@ impl Live {
     {
         let (table, id) = copy_key(alloc, key)?;
         let row = Some(self.row.copy(alloc)?);
-        Ok(Waiting::new(
-            self.position,
-            self.index,
-            Change { table, id, row },
-        ))
+        Ok(Waiting::new(self.position, self.index, Change { table, id, row }))
     }
 }
 

@@ -168,7 +168,12 @@ pub(crate) fn take_front(
 }
 
 /// Writes a change into the rows and the index, where the row that is noted comes a second time. Takes no memory.
-pub(crate) fn advance_one(rows: &mut Rows, index: &mut ParameterIndex, waiting: Waiting, row: Option<Row>)
+pub(crate) fn advance_one(
+    rows: &mut Rows,
+    index: &mut ParameterIndex,
+    waiting: Waiting,
+    row: Option<Row>,
+)
     requires place { has_place rows.old (key_of waiting) ≡ true }
     requires room { 1 ≤ index.old.spare }
     requires rises { index.old.last ≤ waiting.position }

@@ -1,6 +1,6 @@
 use Rattle.std.proofs.Common.{◌≡◌, ℕ, ◌+◌, ◌<◌, List, Some, get_or, take, length, sym, ap, ◌∙◌, subst, inl, inr, arith}
 use Rattle.std.specs.Str.{IsUtf8}
-use Rattle.std.specs.Prelude.{Ok, Err}
+use Rattle.std.specs.Prelude.{Err}
 use Rattle.ps_data.specs.declared.texts.TextFault.TheVariants.{NotUtf8}
 use Rattle.ps_data.specs.Texts.{IsTextOf}
 use Rattle.ps_store.specs.StoreGenerations.{digits_in, mark_in}

@@ -1,8 +1,7 @@
-use Rattle.std.proofs.Common.{rules, ◌≡◌, List, [], refl, sym, ap, ◌∙◌, arith}
+use Rattle.std.proofs.Common.{rules, refl, ◌∙◌, arith}
 use Rattle.ps_store.specs.declared.building.Building.{Building}
-use Rattle.ps_store.specs.Originals.{Timed}
 use Rattle.ps_store.specs.StoreGenerations.{SameBuilding}
-use Rattle.ps_store.proofs.Alike.{same_parts, building_same}
+use Rattle.ps_store.proofs.Alike.{same_parts}
 use Rattle.ps_store.proofs.BuiltBatch.{there, refused, take_newer, take_rising, take_count, take_rows, take_rise, grown, wants}
 use Rattle.ps_store.proofs.building.Building.take_batch.Goals as goal
 

@@ -1,11 +1,9 @@
-use Rattle.std.proofs.Common.{◌≡◌, Bool, true, false, Option, Some, None, List, option_map, refl, sym, ap, ◌∙◌, subst}
+use Rattle.std.proofs.Common.{◌≡◌, Bool, true, false, Option, Some, None, refl, sym, ap, ◌∙◌, subst}
 use Rattle.std.specs.Prelude.{bytes_eq, is_some, unwrap_or, if◌then◌else◌}
 use Rattle.std.specs.BTreeMap.{get}
 use Rattle.std.specs.Cmp.Lexicographic.{slice_cmp}
 use Rattle.std.specs.Ordering.{nat_cmp}
-use Rattle.ps_store.specs.declared.building.Building.{Building}
-use Rattle.ps_store.specs.declared.generations.Generations.{Generations}
-use Rattle.ps_store.specs.StoreGenerations.{Endings, mark_in, ending_from, ending_by}
+use Rattle.ps_store.specs.StoreGenerations.{Endings}
 use Rattle.ps_store.proofs.Alike.{itself_alike, endings_same}
 use Rattle.ps_store.proofs.Maps.{Puts, tied, equal, read_after, read_kept}
 use Rattle.ps_store.proofs.generations.Generations.make_place.Goals as goal

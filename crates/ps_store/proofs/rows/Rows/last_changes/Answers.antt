@@ -1,5 +1,4 @@
-use Rattle.std.proofs.Common.{◌≡◌, List, [], ◌++◌, sym, ap, ◌∙◌, map}
-use Rattle.ps_rows.specs.Source.{Source}
+use Rattle.std.proofs.Common.{List, ◌++◌, ap, ◌∙◌, map}
 use Rattle.ps_store.specs.Generations.{last_change}
 use Rattle.ps_store.specs.Originals.{Timed}
 use Rattle.ps_store.proofs.MomentsSorted.{live_is, queue_sorted}

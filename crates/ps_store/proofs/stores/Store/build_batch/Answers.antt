@@ -1,6 +1,4 @@
-use Rattle.std.proofs.Common.{◌≡◌, ℕ, ◌+◌, ◌≤◌, refl, sym, ap, ◌∙◌, arith}
-use Rattle.ps_data.specs.declared.ids.OpId.{OpId}
-use Rattle.ps_store.specs.declared.deploying.Built.{Built}
+use Rattle.std.proofs.Common.{◌≡◌, ℕ, ◌+◌, ◌≤◌, refl, arith}
 use Rattle.ps_store.specs.declared.totals.Totals.{Totals}
 use Rattle.ps_store.specs.Deploys.{with_batch, HasGrown}
 use Rattle.ps_store.specs.Ledgers.{ledger_of}

@@ -1,4 +1,4 @@
-use Rattle.std.proofs.Common.{sym, ap, subst}
+use Rattle.std.proofs.Common.{sym, ap}
 use Rattle.std.specs.Prelude.{option_map}
 use Rattle.ps_store.specs.Generations.{Coming}
 use Rattle.ps_store.proofs.Abandoning.{none_built, number_is}

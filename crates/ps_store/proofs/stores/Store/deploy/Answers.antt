@@ -1,8 +1,7 @@
-use Rattle.std.proofs.Common.{◌≡◌, ℕ, ◌+◌, sym, ap, ◌∙◌, refl, arith}
-use Rattle.ps_definitions.specs.RuleSets.{RuleSet}
+use Rattle.std.proofs.Common.{◌≡◌, ap, ◌∙◌, arith}
 use Rattle.ps_store.specs.declared.fixed.Fixed.{Fixed}
 use Rattle.ps_store.specs.declared.fixed.Limits.{Limits}
-use Rattle.ps_store.proofs.Beginning.{deploy_building, deploy_full, deploy_wants, deploy_done}
+use Rattle.ps_store.proofs.Beginning.{deploy_done}
 use Rattle.ps_store.proofs.stores.Store.deploy.Goals as goal
 
 pub returns : goal.returns
