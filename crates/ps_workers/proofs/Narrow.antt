@@ -6,7 +6,7 @@ use Rattle.std.proofs.lemmas.Bool.Decides.{nat_tests}
 use Rattle.ps_rows.specs.declared.changes.Transaction.{Transaction}
 use Rattle.ps_definitions.specs.RuleSets.{RuleSet}
 use Rattle.ps_store.specs.declared.events.Event.{Event}
-use Rattle.ps_store.specs.declared.events.Event.TheVariants.{Feed, Close, Write, Commit, Compact, WriteCheckpoint, Deploy, Build, Switch, Abandon}
+use Rattle.ps_store.specs.declared.events.Event.TheVariants.{Feed, Close, Write, Commit, Compact, WriteCheckpoint}
 use Rattle.ps_store.specs.declared.fixed.Fixed.{Fixed}
 use Rattle.ps_store.specs.declared.stores.Store.{Store}
 use Rattle.ps_store.specs.Histories.{has_deploy}
@@ -15,6 +15,7 @@ use Rattle.ps_store.specs.Ledgers.{Ledger, fresh, timed_of, unwritten, entries_a
 use Rattle.ps_store.specs.Originals.{Timed, timed, key_of, entries_at}
 use Rattle.ps_store.specs.Runs.{refusal_of, run_from, stopped}
 use Rattle.ps_store.specs.Stores.{StoreStandsFor, next_run}
+use Rattle.ps_store.proofs.Coming.{plain_push}
 use Rattle.ps_store.proofs.OneGeneration.{one_history}
 
 -- ---- lists
@@ -50,19 +51,6 @@ length_take (suc n) [] h = absurd (omega (arith, h))
 length_take (suc n) (x ∷ xs) h = let e = length_take n xs (omega (arith, h)) in omega (arith, e)
 
 -- ---- events
-
-plain_push : (history : List Event) (event : Event) → has_deploy history ≡ false → has_deploy (event ∷ []) ≡ false → has_deploy (history ++ event ∷ []) ≡ false
-plain_push [] event plain own = own
-plain_push (Feed t ∷ history) event plain own = plain_push history event plain own
-plain_push (Close ∷ history) event plain own = plain_push history event plain own
-plain_push (Write n ∷ history) event plain own = plain_push history event plain own
-plain_push (Commit ∷ history) event plain own = plain_push history event plain own
-plain_push (Compact bucket ∷ history) event plain own = plain_push history event plain own
-plain_push (WriteCheckpoint user client ∷ history) event plain own = plain_push history event plain own
-plain_push (Deploy rules ∷ history) event plain own = absurd (cc plain)
-plain_push (Build n ∷ history) event plain own = plain_push history event plain own
-plain_push (Switch ∷ history) event plain own = plain_push history event plain own
-plain_push (Abandon ∷ history) event plain own = plain_push history event plain own
 
 module _ (fixed : Fixed) (history : List Event) (h : IsLockHistory fixed history) where
   abbrev l : Ledger
