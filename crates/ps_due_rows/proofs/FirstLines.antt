@@ -17,7 +17,7 @@ use Rattle.ps_store.specs.Laws.{last_position}
 use Rattle.ps_store.specs.Ledgers.{Ledger, fresh, timed_of, ledger_after, ledger_of, reached_by}
 use Rattle.ps_store.specs.Originals.{timed, timed_from}
 use Rattle.ps_store.specs.Stores.{Commits}
-use Rattle.ps_store.proofs.Coming.{plain_push}
+use Rattle.ps_store.proofs.NoDeploys.{plain_push}
 use Rattle.ps_file_lines.specs.Lines.{lines_of, is_blank}
 use Rattle.ps_snapshot.specs.declared.faults.FillFault.{FillFault}
 use Rattle.ps_snapshot.specs.declared.faults.FillFault.TheVariants.{LineTooLong, BadJson, BadShape, BadPosition, BadValue, BadChunk, NotRising, NotCovered, TooWide, OpsFull}

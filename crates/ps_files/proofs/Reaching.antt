@@ -21,7 +21,7 @@ use Rattle.ps_store.specs.Limits.{usual_limits}
 use Rattle.ps_store.specs.Originals.{Timed, timed, timed_from}
 use Rattle.ps_store.specs.Runs.{run_from}
 use Rattle.ps_store.specs.Stores.{StoreStandsFor, IsRefused, Commits, next_run}
-use Rattle.ps_store.proofs.Coming.{plain_push}
+use Rattle.ps_store.proofs.NoDeploys.{plain_push}
 use Rattle.ps_files.specs.declared.faults.Fault.{Fault}
 use Rattle.ps_files.specs.declared.faults.Fault.TheVariants.{Usage, Rules, Change, PastLimit, TooManyBuckets, Claims, Keys, TooLong, CannotRead, CannotWrite, Script, Memory}
 use Rattle.ps_files.specs.declared.faults.Limit.{Limit}

@@ -12,7 +12,7 @@ use Rattle.ps_store.specs.Ledgers.{Ledger, fresh, timed_of, unwritten, write_nex
 use Rattle.ps_store.specs.Originals.{Timed, timed, timed_from}
 use Rattle.ps_store.specs.Stores.{StoreStandsFor, IsRefused, next_run}
 use Rattle.ps_store.specs.declared.faults.WriteFault.TheVariants as writing
-use Rattle.ps_store.proofs.Coming.{plain_push}
+use Rattle.ps_store.proofs.NoDeploys.{plain_push}
 use Rattle.ps_data.specs.declared.ids.OpId.{OpId}
 use Rattle.ps_snapshot.specs.Writing.{too_wide as is_too_wide, ids_full as are_full, stop_on, stop_by, written_on as all_written_on, CanBeWritten, IsPending, IsRefusedBy, WritesSome}
 use Rattle.ps_snapshot.proofs.Runs.{is_wide, is_full, counted, more_written, first_stop}

@@ -42,6 +42,7 @@ pub mod Members
 pub mod Moments
 pub mod MomentsSorted
 pub mod Moving
+pub mod NoDeploys
 pub mod Noted
 pub mod Numbering
 pub mod OneGeneration

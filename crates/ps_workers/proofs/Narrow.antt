@@ -15,7 +15,7 @@ use Rattle.ps_store.specs.Ledgers.{Ledger, fresh, timed_of, unwritten, entries_a
 use Rattle.ps_store.specs.Originals.{Timed, timed, key_of, entries_at}
 use Rattle.ps_store.specs.Runs.{refusal_of, run_from, stopped}
 use Rattle.ps_store.specs.Stores.{StoreStandsFor, next_run}
-use Rattle.ps_store.proofs.Coming.{plain_push}
+use Rattle.ps_store.proofs.NoDeploys.{plain_push}
 use Rattle.ps_store.proofs.OneGeneration.{one_history}
 
 -- ---- lists
