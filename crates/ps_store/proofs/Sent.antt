@@ -111,4 +111,4 @@ generations_field : IsSend Generations.the_field.row
 generations_field = search (sendable, crosses, maps.crosses, building, shared_field, texts.the_send, endings.the_send) depth 20
 
 pub store_send : IsSend Store.the_row
-store_send = search (sendable, shared_field, index_field, generations_field, logs.the_field_send, rows.the_field_send, tails.the_field_send, totals.the_field_send, checkpoints.the_field_send, positions.the_field_send, ops.the_field_send, numbers.the_send) depth 40
+store_send = search (sendable, crosses, shared_field, index_field, generations_field, logs.the_field_send, rows.the_field_send, tails.the_field_send, totals.the_field_send, checkpoints.the_field_send, positions.the_field_send, ops.the_field_send, numbers.the_send) depth 40
