@@ -21,18 +21,28 @@ pub fn rules_of(alloc: Global, text: &str) -> Result<Rules, Stop> {
     Ok(read_rules(alloc, text.as_bytes())?)
 }
 
-// The limits that five numbers say.
+// A limit of generations, the usual one where there is no word.
+fn generations_in(word: &str) -> Result<u32, Stop> {
+    if word.is_empty() {
+        return Ok(1_000_000);
+    }
+    short_number_in(word)
+}
+
+// The limits that five numbers say, and a sixth for generations where there is one.
 fn limits_read(words: &str) -> Result<Limits, Stop> {
     let (ops, words) = cut(words);
     let (numbers, words) = cut(words);
     let (positions, words) = cut(words);
-    let (buckets, entries) = cut(words);
+    let (buckets, words) = cut(words);
+    let (entries, generations) = cut(words);
     Ok(Limits {
         ops: number_in(ops)?,
         numbers: number_in(numbers)?,
         positions: number_in(positions)?,
         buckets: short_number_in(buckets)?,
         entries: short_number_in(entries)?,
+        generations: generations_in(generations)?,
     })
 }
 
@@ -45,9 +55,11 @@ fn are_within(limits: &Limits) -> bool
         && limits.positions <= GREATEST
         && limits.buckets <= 1000
         && limits.entries <= 1000
+        && limits.generations <= 1_000_000
 }
 
-/// The limits that five numbers say, in the order of their names in `Limits`; the usual ones where there is no word.
+/// The limits that five or six numbers say, in the order of their names in `Limits`; the usual one for generations where there is
+/// no sixth, and the usual ones where there is no word.
 pub fn limits_of(words: &str) -> Result<Limits, Stop>
     ensures { IfOk result AreWithin }
 {

@@ -48,7 +48,7 @@ module _ (ts : List Transaction) (store : Store) (h : HasCommitted made_rule_set
   counted one rows count synced is =
       is
       ∙ ap length (synced.rows_are
-      ∙ ap (λ (rules : RuleSet). due rules made_asker (ledger_of made_rule_set h.history).fed (ledger_of made_rule_set h.history).position) (one made_rule_set h.history h.stands.legal h.stands.plain).rules_are
+      ∙ ap (λ (rules : RuleSet). due rules made_asker (ledger_of made_rule_set h.history).fed (ledger_of made_rule_set h.history).position) (one made_rule_set h.history h.stands.legal h.one).rules_are
       ∙ ap (λ (fed : List Transaction). due made_rule_set made_asker fed (ledger_of made_rule_set h.history).position) h.fed ∙ ap (due made_rule_set made_asker ts) h.position)
 
 -- ---- the summary of a store

@@ -1,4 +1,3 @@
-pub mod Sent
 pub mod Closed
 pub mod Coming
 pub mod Answering

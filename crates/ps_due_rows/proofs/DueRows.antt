@@ -27,7 +27,7 @@ module _ (one : LedgersTellOneGeneration) (reads : OneGenerationReads) (rules : 
   -- the asker's buckets at the checkpoint are those at the last position
   own_are : names_of l asker ≡ own_buckets rules asker ts
   own_are =
-      (reads rules h.history h.stands.legal h.stands.plain).names asker
+      (reads rules h.history h.stands.legal h.one).names asker
       ∙ ap (λ (fed : List Transaction). bucket_names rules.definitions asker (rows_in (source_at fed l.position))) h.fed
       ∙ ap (λ p. bucket_names rules.definitions asker (rows_in (source_at ts p))) h.position
 
@@ -36,7 +36,7 @@ module _ (one : LedgersTellOneGeneration) (reads : OneGenerationReads) (rules : 
   synced_are_due rows synced = (
     omega (arith, synced.few, ap length own_are),
     synced.rows_are
-        ∙ ap (λ (r : RuleSet). due_by r.definitions asker l.fed l.position) (one rules h.history h.stands.legal h.stands.plain).rules_are
+        ∙ ap (λ (r : RuleSet). due_by r.definitions asker l.fed l.position) (one rules h.history h.stands.legal h.one).rules_are
         ∙ ap (λ (fed : List Transaction). due_by rules.definitions asker fed l.position) h.fed
         ∙ ap (λ p. due_by rules.definitions asker ts p) h.position,
   )

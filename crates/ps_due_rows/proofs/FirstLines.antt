@@ -17,6 +17,7 @@ use Rattle.ps_store.specs.Laws.{last_position}
 use Rattle.ps_store.specs.Ledgers.{Ledger, fresh, timed_of, ledger_after, ledger_of, reached_by}
 use Rattle.ps_store.specs.Originals.{timed, timed_from}
 use Rattle.ps_store.specs.Stores.{Commits}
+use Rattle.ps_store.proofs.NoDeploys.{plain_push}
 use Rattle.ps_file_lines.specs.Lines.{lines_of, is_blank}
 use Rattle.ps_snapshot.specs.declared.faults.FillFault.{FillFault}
 use Rattle.ps_snapshot.specs.declared.faults.FillFault.TheVariants.{LineTooLong, BadJson, BadShape, BadPosition, BadValue, BadChunk, NotRising, NotCovered, TooWide, OpsFull}
@@ -214,10 +215,11 @@ module _ (law : LedgersTellHistories) (rules : RuleSet) (fed : List Transaction)
       record {
         history = h.history ++ Commit ∷ [];
         stands = c.2;
+        one = plain_push h.history Commit h.one refl;
         fed = ap (λ (x : Ledger). x.fed) next ∙ h.fed_are;
         position = ap (λ (x : Ledger). x.position) next ∙ reached_last;
       }
-  commits new (Err none) c = record { history = h.history; stands = c.1; fed = h.fed_are; position = sym c.0 ∙ reached_last }
+  commits new (Err none) c = record { history = h.history; stands = c.1; one = h.one; fed = h.fed_are; position = sym c.0 ∙ reached_last }
 
 -- the end was read
 pub ended_well : (rules : RuleSet) (lines : List Line) (number end : ℕ) (store : Store) → (copy_of lines).end ≡ Some end → IsServed rules (copy_of lines).fed store
@@ -244,7 +246,7 @@ file_fed rules bytes lines result is h =
 
 -- what is written of change lines is served
 pub written_feeds : (rules : RuleSet) (meant : Result (List Transaction) Fault) (result : Result Store Fault) → Writes rules meant result → Feeds rules meant result
-written_feeds rules meant (Ok store) h = (h.0, h.1, record { history = h.2.history; stands = h.2.stands; fed = h.2.fed; position = h.2.position })
+written_feeds rules meant (Ok store) h = (h.0, h.1, record { history = h.2.history; stands = h.2.stands; one = h.2.one; fed = h.2.fed; position = h.2.position })
 written_feeds rules meant (Err Usage) h = h
 written_feeds rules meant (Err (Rules line column why)) h = h
 written_feeds rules meant (Err (Change line why)) h = h

@@ -1,10 +1,11 @@
 -- Filling a store by the lines of a first copy, and what any file that is fed leaves.
-use Rattle.std.specs.Prelude.{◌≡◌, ℕ, ◌+◌, ◌≤◌, List, [], ◌∷◌, ◌++◌, length, Option, Result, Ok, Err}
+use Rattle.std.specs.Prelude.{◌≡◌, ℕ, ◌+◌, ◌≤◌, false, List, [], ◌∷◌, ◌++◌, length, Option, Result, Ok, Err}
 use Rattle.std.specs.Borrow.{Bor}
 use Rattle.ps_rows.specs.declared.changes.Transaction.{Transaction}
 use Rattle.ps_definitions.specs.RuleSets.{RuleSet}
 use Rattle.ps_store.specs.declared.events.Event.{Event}
 use Rattle.ps_store.specs.declared.stores.Store.{Store}
+use Rattle.ps_store.specs.Histories.{has_deploy}
 use Rattle.ps_store.specs.Laws.{last_position}
 use Rattle.ps_store.specs.Ledgers.{ledger_of}
 use Rattle.ps_store.specs.Stores.{StoreStandsFor}
@@ -56,10 +57,11 @@ refused_at number filling.Memory = Memory
 
 -- ---- a store
 
--- all changes of the transactions are written into a store of valid rules, and the last position is the checkpoint's
+-- all changes of the transactions are written into a store of valid rules, with no new ones, and the last position is the checkpoint's
 pub record IsServed (rules : RuleSet) (transactions : List Transaction) (store : Store) : Type 0 where
   pub history : List Event
   pub stands : StoreStandsFor (usual rules) store history
+  pub one : has_deploy history ≡ false
   pub fed : (ledger_of rules history).fed ≡ transactions
   pub position : (ledger_of rules history).position ≡ last_position 0 transactions
 

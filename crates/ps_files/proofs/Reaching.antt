@@ -21,6 +21,7 @@ use Rattle.ps_store.specs.Limits.{usual_limits}
 use Rattle.ps_store.specs.Originals.{Timed, timed, timed_from}
 use Rattle.ps_store.specs.Runs.{run_from}
 use Rattle.ps_store.specs.Stores.{StoreStandsFor, IsRefused, Commits, next_run}
+use Rattle.ps_store.proofs.NoDeploys.{plain_push}
 use Rattle.ps_files.specs.declared.faults.Fault.{Fault}
 use Rattle.ps_files.specs.declared.faults.Fault.TheVariants.{Usage, Rules, Change, PastLimit, TooManyBuckets, Claims, Keys, TooLong, CannotRead, CannotWrite, Script, Memory}
 use Rattle.ps_files.specs.declared.faults.Limit.{Limit}
@@ -98,6 +99,7 @@ module _ (rules : RuleSet) (done : List Transaction) (old : Store) (h : HasCommi
       record {
         history = h.history ++ Feed t ∷ [];
         stands = stands;
+        one = plain_push h.history (Feed t) h.one refl;
         fed = fed;
         feed_open = ap (λ (l : Ledger). l.closed) next ∙ h.feed_open;
         plain = subst IsPlain (sym next) h.plain;
@@ -126,7 +128,7 @@ module _ (law : LedgersTellHistories) (one : LedgersTellOneGeneration) (rules : 
   front = take l.written (timed l.fed)
 
   knows : Knows rules front l
-  knows = known rules l (one rules h.history h.stands.legal h.stands.plain)
+  knows = known rules l (one rules h.history h.stands.legal h.one)
 
   pub none_passes_left : left ≡ 0 → passed ≡ None
   none_passes_left none = sym h.passed_is ∙ ap (first_passed rules.definitions front) (by (unwritten l) (h.left_are ∙ none)) where
@@ -188,6 +190,7 @@ module _ (law : LedgersTellHistories) (one : LedgersTellOneGeneration) (rules : 
         record {
           history = h.history ++ Write n ∷ [];
           stands = stands;
+          one = plain_push h.history (Write n) h.one refl;
           fed = fed ∙ h.fed;
           feed_open = ap (λ (x : Ledger). x.closed) next ∙ on.closed ∙ h.feed_open;
           plain = subst IsPlain (sym next) (on.plain h.plain);
@@ -222,6 +225,7 @@ module _ (law : LedgersTellHistories) (one : LedgersTellOneGeneration) (rules : 
       record {
         history = h.history ++ Commit ∷ [];
         stands = stands;
+        one = plain_push h.history Commit h.one refl;
         fed = ap (λ (x : Ledger). x.fed) next ∙ h.fed;
         feed_open = ap (λ (x : Ledger). x.closed) next ∙ h.feed_open;
         plain = subst IsPlain (sym next) h.plain;
@@ -329,7 +333,7 @@ pub started : (rules : RuleSet) (changes : Bor (List ℕ)) (store : Store) → S
 unfolding transactions_of
 started rules changes store stands = record {
   done = [];
-  committed = record { history = []; stands = stands; fed = refl; feed_open = refl; plain = λ bucket. refl; written = refl; position = refl; events = refl };
+  committed = record { history = []; stands = stands; one = refl; fed = refl; feed_open = refl; plain = λ bucket. refl; written = refl; position = refl; events = refl };
   meaning = refl;
   counted = omega arith;
 }

@@ -22,7 +22,7 @@ pub record IsWriting (rules : RuleSet) (made left : List Transaction) (store : S
 pub writing_starts : (rules : RuleSet) (made left : List Transaction) (store : Store) → left ≡ made → CanBeFed 0 made → StoreStandsFor (usual rules) store [] → IsWriting rules made left store
 writing_starts rules made left store is can stands = record {
   done = [];
-  committed = record { history = []; stands = stands; fed = refl; feed_open = refl; plain = λ bucket. refl; written = refl; position = refl; events = refl };
+  committed = record { history = []; stands = stands; one = refl; fed = refl; feed_open = refl; plain = λ bucket. refl; written = refl; position = refl; events = refl };
   meaning = ap (admitted rules.definitions []) (sym is);
   can_be_fed = subst (CanBeFed 0) (sym is) can;
 }

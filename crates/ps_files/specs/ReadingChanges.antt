@@ -7,6 +7,7 @@ use Rattle.ps_store.specs.declared.events.Event.{Event}
 use Rattle.ps_store.specs.declared.events.Event.TheVariants.{Commit}
 use Rattle.ps_store.specs.declared.fixed.Fixed.{Fixed}
 use Rattle.ps_store.specs.declared.stores.Store.{Store}
+use Rattle.ps_store.specs.Histories.{has_deploy}
 use Rattle.ps_store.specs.Laws.{last_position}
 use Rattle.ps_store.specs.Ledgers.{Ledger, unwritten, ledger_of}
 use Rattle.ps_store.specs.Limits.{usual_limits}
@@ -29,11 +30,12 @@ IsPlain l = (bucket : List ℕ) → l.log bucket ≡ in_bucket bucket l.entered
 abbrev pub usual : RuleSet → Fixed
 usual rules = record { rules = rules; limits = usual_limits }
 
--- the transactions are fed, so many of their changes are not written, and the first of these that passes a limit passes this one; where none
--- does, the writes of these and a commit are left of the transactions' history
+-- the transactions are fed, with no new rules, so many of their changes are not written, and the first of these that passes a limit passes this
+-- one; where none does, the writes of these and a commit are left of the transactions' history
 pub record IsPending (rules : RuleSet) (transactions : List Transaction) (left : ℕ) (passed : Option Limit) (store : Store) : Type 0 where
   pub history : List Event
   pub stands : StoreStandsFor (usual rules) store history
+  pub one : has_deploy history ≡ false
   pub fed : (ledger_of rules history).fed ≡ transactions
   pub feed_open : (ledger_of rules history).closed ≡ false
   pub plain : IsPlain (ledger_of rules history)
@@ -42,11 +44,12 @@ pub record IsPending (rules : RuleSet) (transactions : List Transaction) (left :
   pub behind : (ledger_of rules history).position < last_position 0 transactions
   pub events : passed ≡ None → history ++ (writes left ++ Commit ∷ []) ≡ history_of transactions
 
--- each of the transactions is fed, written in batches and committed before the next: all changes are written, and the last position is the
--- checkpoint's
+-- each of the transactions is fed, written in batches and committed before the next, with no new rules: all changes are written, and the last
+-- position is the checkpoint's
 pub record HasCommitted (rules : RuleSet) (transactions : List Transaction) (store : Store) : Type 0 where
   pub history : List Event
   pub stands : StoreStandsFor (usual rules) store history
+  pub one : has_deploy history ≡ false
   pub fed : (ledger_of rules history).fed ≡ transactions
   pub feed_open : (ledger_of rules history).closed ≡ false
   pub plain : IsPlain (ledger_of rules history)

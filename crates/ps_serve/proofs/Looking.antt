@@ -46,7 +46,7 @@ module _ (named : Option Lock) (entries : List (Event × ℕ)) (lock : Lock) (he
   came = subst (λ (xs : List Event). IsPrefix xs now) front looks.looks.knew
 
   valid : IsValid (fixed_of lock) now
-  valid = record { rules = looks.stood.1.rules; numbers = looks.stood.1.query_numbers; legal = looks.stood.1.legal }
+  valid = record { rules = looks.stood.1.0.rules; numbers = looks.stood.1.0.query_numbers; legal = looks.stood.1.0.legal }
 
   pub stands_on : StandsAt named entries lock (Some reader') fixed (history ++ came.0)
   stands_on = record {

@@ -95,29 +95,29 @@ module _ (tells : LedgersTellHistories) (one : LedgersTellOneGeneration) (feeds 
   back = run.earlier.0
 
   whole : IsLegal rules (run.seen ++ back)
-  whole = subst (IsLegal rules) (sym run.earlier.1) run.stood.1.legal
+  whole = subst (IsLegal rules) (sym run.earlier.1) run.stood.1.0.legal
 
   legal : IsLegal rules run.seen
   legal = legal_front (fresh rules) run.seen back whole
 
   plain : has_deploy run.seen ≡ false
-  plain = plain_front run.seen back (ap has_deploy run.earlier.1 ∙ run.stood.1.plain)
+  plain = plain_front run.seen back (ap has_deploy run.earlier.1 ∙ run.stood.1.1.1)
 
   fed : l.fed ≡ ts
   fed = (feeds rules run.seen).fed ∙ fed_whole tells feeds rules ts run.seen later legal
 
   fed_last : last.fed ≡ ts
-  fed_last = (feeds rules run.history).fed ∙ fed_whole tells feeds rules ts run.history begins run.stood.1.legal
+  fed_last = (feeds rules run.history).fed ∙ fed_whole tells feeds rules ts run.history begins run.stood.1.0.legal
 
   no_less : l.written ≤ last.written
   no_less =
       let both : written_in run.history ≡ written_in run.seen + written_in back = ap written_in (sym run.earlier.1) ∙ written_both run.seen back in
-      omega (arith, both, (tells rules run.seen legal).count, (tells rules run.history run.stood.1.legal).count)
+      omega (arith, both, (tells rules run.seen legal).count, (tells rules run.history run.stood.1.0.legal).count)
 
   narrow : AllByRecursion (IsNarrow (usual rules)) (take l.written (timed ts))
   narrow =
       let all : AllByRecursion (IsNarrow (usual rules)) (take last.written (timed ts)) =
-      subst (λ (us : List Transaction). AllByRecursion (IsNarrow (usual rules)) (take last.written (timed us))) fed_last run.narrow in
+      subst (λ (us : List Transaction). AllByRecursion (IsNarrow (usual rules)) (take last.written (timed us))) fed_last run.stood.1.1.0 in
       all_less (IsNarrow (usual rules)) l.written last.written (timed ts) no_less all
 
   few : operations_of rules.definitions (take l.written (timed ts)) ≤ usual_limits.ops
@@ -125,12 +125,12 @@ module _ (tells : LedgersTellHistories) (one : LedgersTellOneGeneration) (feeds 
       let more = take (last.written - l.written) (drop l.written (timed ts)) in
       let size : last.written ≡ l.written + (last.written - l.written) = omega (arith, no_less) in
       let firsts : take last.written (timed ts) ≡ take l.written (timed ts) ++ more = ap (λ n. take n (timed ts)) size ∙ take_on l.written (last.written - l.written) (timed ts) in
-      let told = one rules run.history run.stood.1.legal run.stood.1.plain in
+      let told = one rules run.history run.stood.1.0.legal run.stood.1.1.1 in
       let ids : last.last ≡ operations_of rules.definitions (take last.written (timed last.fed)) = told.last ∙ ap length told.entered in
       let by_ts : operations_of rules.definitions (take last.written (timed last.fed)) ≡ operations_of rules.definitions (take last.written (timed ts)) =
       ap (λ (us : List Transaction). operations_of rules.definitions (take last.written (timed us))) fed_last in
       let by_parts : operations_of rules.definitions (take last.written (timed ts)) ≡ operations_of rules.definitions (take l.written (timed ts) ++ more) = ap (operations_of rules.definitions) firsts in
-      let within : last.last ≤ usual_limits.ops = subst (λ (f : Fixed). last.last ≤ f.limits.ops) run.stood.1.fixed_is run.stood.1.stands.kept.last in
+      let within : last.last ≤ usual_limits.ops = subst (λ (f : Fixed). last.last ≤ f.limits.ops) run.stood.1.0.fixed_is run.stood.1.0.stands.kept.last in
       omega (arith, ids, by_ts, by_parts, within, ops_grow rules.definitions [] 1 (take l.written (timed ts)) more)
 
   -- the limit that the changes pass is the one that those pass which the writer has not written

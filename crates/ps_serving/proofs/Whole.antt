@@ -75,7 +75,8 @@ module _ (tells : LedgersTellHistories) (generation : LedgersTellOneGeneration) 
       → ServesFed (fixed_by inputs) (site_by said inputs) may_give (opening_by said inputs) (most_of said) doors doors' mid out' result
       → ServesSo may_give said files files' doors doors' out out' result
   serves_so (Ok done) s =
-      let stands = s.run.stood.1 in
+      let kept = s.run.stood.1 in
+      let stands = kept.0 in
       record {
         inputs = inputs;
         read = read;
@@ -94,7 +95,7 @@ module _ (tells : LedgersTellHistories) (generation : LedgersTellOneGeneration) 
             let fed = fed_whole tells feeds inputs.rules inputs.transactions.items s.run.history begins stands.legal in
             one inputs.rules inputs.transactions.items s.run.history (record {
               legal = stands.legal;
-              plain = stands.plain;
+              plain = kept.1.1;
               fed = fed;
               written = written_whole tells feeds inputs.rules inputs.transactions.items s.run.seen s.run.history s.run.earlier stands.legal fed s.drained.closed s.drained.written;
             });

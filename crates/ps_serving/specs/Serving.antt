@@ -11,7 +11,6 @@ use Rattle.ps_serve.specs.declared.sites.Site.{Site}
 use Rattle.ps_store.specs.declared.events.Event.{Event}
 use Rattle.ps_store.specs.declared.faults.WriteFault.TheVariants as writing
 use Rattle.ps_store.specs.declared.fixed.Fixed.{Fixed}
-use Rattle.ps_store.specs.Keeping.{AreNarrow}
 use Rattle.ps_store.specs.Ledgers.{Ledger, ledger_of}
 use Rattle.ps_store.specs.Originals.{timed}
 use Rattle.ps_store.specs.Stores.{IsRefused}
@@ -63,11 +62,10 @@ IsPast fixed l (LineBytes count) = ⊥
 IsPast fixed l (Entries count) = IsTooWide fixed l count
 IsPast fixed l (Operations last) = (id : OpId) × (id.0 ≡ last) × IsRefused fixed.limits l (writing.OpsFull id)
 
--- the lock's last history, which begins so and each of whose written changes was narrow; and one of its beginnings, which the writer saw last
+-- the lock's last history, which begins so; and one of its beginnings, which the writer saw last
 pub record HasRun (fixed : Fixed) (start : List Event) : Type 0 where
   pub history : List Event
   pub stood : IsStoodFor fixed history
-  pub narrow : AreNarrow fixed (ledger_of fixed.rules history)
   pub begins : IsPrefix start history
   pub seen : List Event
   pub later : IsPrefix start seen

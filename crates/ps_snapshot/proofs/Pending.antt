@@ -12,6 +12,7 @@ use Rattle.ps_store.specs.Ledgers.{Ledger, fresh, timed_of, unwritten, write_nex
 use Rattle.ps_store.specs.Originals.{Timed, timed, timed_from}
 use Rattle.ps_store.specs.Stores.{StoreStandsFor, IsRefused, next_run}
 use Rattle.ps_store.specs.declared.faults.WriteFault.TheVariants as writing
+use Rattle.ps_store.proofs.NoDeploys.{plain_push}
 use Rattle.ps_data.specs.declared.ids.OpId.{OpId}
 use Rattle.ps_snapshot.specs.Writing.{too_wide as is_too_wide, ids_full as are_full, stop_on, stop_by, written_on as all_written_on, CanBeWritten, IsPending, IsRefusedBy, WritesSome}
 use Rattle.ps_snapshot.proofs.Runs.{is_wide, is_full, counted, more_written, first_stop}
@@ -102,6 +103,7 @@ module _ (fixed : Fixed) (fed : List Transaction) (left : ℕ) (old : Store) (h 
       record {
         history = h.history ++ Feed t ∷ [];
         stands = stands;
+        one = plain_push h.history (Feed t) h.one refl;
         fed_are = ap (λ (l : Ledger). l.fed) next ∙ ap (λ (ts : List Transaction). ts ++ t ∷ []) h.fed_are;
         feed_open = ap (λ (l : Ledger). l.closed) next ∙ h.feed_open;
         left_are = omega (arith, written, were, none, count_more fed t);
@@ -137,6 +139,7 @@ module _ (fixed : Fixed) (fed : List Transaction) (left : ℕ) (old : Store) (h 
         record {
           history = h.history ++ Write n ∷ [];
           stands = stands;
+          one = plain_push h.history (Write n) h.one refl;
           fed_are = ap (λ (x : Ledger). x.fed) next ∙ on.fed ∙ h.fed_are;
           feed_open = ap (λ (x : Ledger). x.closed) next ∙ on.closed ∙ h.feed_open;
           left_are = omega (arith, written, few, were);

@@ -7,6 +7,7 @@ use Rattle.ps_store.specs.declared.faults.WriteFault.TheVariants as writing
 use Rattle.ps_store.specs.declared.fixed.Fixed.{Fixed}
 use Rattle.ps_store.specs.declared.fixed.Limits.{Limits}
 use Rattle.ps_store.specs.declared.stores.Store.{Store}
+use Rattle.ps_store.specs.Histories.{has_deploy}
 use Rattle.ps_store.specs.Ledgers.{Ledger, fresh, entries_after, next_ops, write_next, ledger_of}
 use Rattle.ps_store.specs.Originals.{Timed, timed}
 use Rattle.ps_store.specs.Stores.{StoreStandsFor, IsRefused}
@@ -54,10 +55,11 @@ pub record CanBeWritten (fixed : Fixed) (l : Ledger) : Type 0 where
   pub all : stop_on fixed (take l.written (timed l.fed)) ≡ None
   pub alike : IsAlike l (written_on fixed (take l.written (timed l.fed)))
 
--- these transactions are fed, all but so many of their changes are written, and the checkpoint is (0, 0)
+-- these transactions are fed, with no new rules, all but so many of their changes are written, and the checkpoint is (0, 0)
 pub record IsPending (fixed : Fixed) (fed : List Transaction) (left : ℕ) (store : Store) : Type 0 where
   pub history : List Event
   pub stands : StoreStandsFor fixed store history
+  pub one : has_deploy history ≡ false
   pub fed_are : (ledger_of fixed.rules history).fed ≡ fed
   pub feed_open : (ledger_of fixed.rules history).closed ≡ false
   pub left_are : left + (ledger_of fixed.rules history).written ≡ length (timed fed)

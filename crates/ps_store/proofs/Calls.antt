@@ -1,6 +1,6 @@
 -- What each call leaves.
-use Rattle.std.proofs.Common.{◌≡◌, ℕ, ◌+◌, ◌^◌, ◌≤◌, ◌<◌, max, true, false, Bool, None, List, [], ◌∷◌, ◌++◌, refl, sym, ap, ◌∙◌, subst, length, arith, length-append}
-use Rattle.std.specs.Prelude.{Ok, Err, nat_lt, Result, OnOk, OnErr, IsErrAnd}
+use Rattle.std.proofs.Common.{◌≡◌, ℕ, ◌+◌, ◌-◌, ◌^◌, ◌≤◌, ◌<◌, max, true, false, Bool, None, List, [], ◌∷◌, ◌++◌, refl, sym, ap, ◌∙◌, subst, length, arith, length-append}
+use Rattle.std.specs.Prelude.{Ok, Err, nat_lt, Result, OnOk, OnErr, IsErrAnd, Option, unwrap_or, drop, if◌then◌else◌}
 use Rattle.std.proofs.lemmas.Bool.Decides.{nat_tests}
 use Rattle.ps_data.specs.declared.ids.Position.{Position}
 use Rattle.ps_write_cp.specs.declared.faults.NumberFault.{NumberFault}
@@ -22,19 +22,27 @@ use Rattle.ps_store.specs.declared.stores.Store.{Store}
 use Rattle.ps_store.specs.declared.tails.Tail.{Tail}
 use Rattle.ps_store.specs.declared.totals.Totals.{Totals}
 use Rattle.ps_definitions.specs.RuleSets.{AreRules}
-use Rattle.ps_store.specs.Histories.{TellsOne}
 use Rattle.ps_store.specs.Laws.{HaveNumbers}
-use Rattle.ps_store.specs.Ledgers.{Ledger, timed_of, end_of, head_of, ledger_of, last_number, made_by}
+use Rattle.ps_store.specs.Ledgers.{Ledger, timed_of, end_of, head_of, ledger_of, last_number, made_by, unwritten}
 use Rattle.ps_store.specs.Limits.{greatest, AreWithin}
-use Rattle.ps_store.specs.Originals.{Timed}
+use Rattle.ps_store.specs.Originals.{Timed, timed}
 use Rattle.ps_store.specs.Reach.{Reached, reached, settled}
 use Rattle.ps_store.specs.Rows.{row_at}
 use Rattle.ps_store.specs.StoreLogs.{log_at}
 use Rattle.ps_store.specs.Totals.{totals_of, with_transaction}
 use Rattle.ps_store.specs.Stores.{StoreStandsFor, Feeds, Commits, IsKept, Uploads, MakesNumber}
+use Rattle.std.proofs.Common.{append_assoc}
+use Rattle.ps_bucket_log.specs.declared.ops.Op.{Op}
+use Rattle.ps_store.specs.declared.building.Building.{Building}
+use Rattle.ps_store.specs.Generations.{is_of}
+use Rattle.ps_store.specs.StoreGenerations.{ending_at, GenerationsStand, HavePlaces, IsBuilding}
+use Rattle.ps_store.specs.Tails.{Ascend}
+use Rattle.ps_store.proofs.Advancing.{ascend_append}
 use Rattle.ps_store.proofs.Coming.{stands_event, stands_still}
-use Rattle.ps_store.proofs.OneGeneration.{tells_one}
-use Rattle.ps_store.proofs.StoreStands.{unwritten_fed, head_fed, kept_fed, index_fed, kept_commit, index_commit, kept_fresh, numbers_later}
+use Rattle.ps_store.proofs.Going.{IsWell, well_history}
+use Rattle.ps_store.proofs.Moving.{GoesOnUp, generations_moved, same_up}
+use Rattle.ps_store.proofs.Reached.{committed_is, committed_fed}
+use Rattle.ps_store.proofs.StoreStands.{ascend_at, unwritten_fed, head_fed, kept_fed, index_fed, kept_commit, index_commit, kept_fresh, numbers_later}
 
 -- nothing is fed
 pub stands_fresh : (store : Store) → AreWithin store.fixed.limits → AreRules store.fixed.rules → HaveNumbers store.fixed.rules.definitions → ((bucket : List ℕ) → log_at store.logs bucket ≡ []) → ((key : Key) → row_at store.rows key ≡ None)
@@ -42,17 +50,19 @@ pub stands_fresh : (store : Store) → AreWithin store.fixed.limits → AreRules
     → store.index.rules ≡ store.fixed.rules → store.index.notes ≡ [] → store.index.last ≡ 0 → store.index.forgotten ≡ 0
     → store.last.0 ≡ 0 → store.totals ≡ record { transactions = 0; changes = 0; operations = 0; buckets = 0; sum = record { 0 = 0 } } → store.checkpoint.position.0 ≡ 0 → store.checkpoint.op.0 ≡ 0 → store.head.0 ≡ 0 → store.closed ≡ false
     → StandsFor store.numbers [] → store.numbers.top ≡ store.fixed.limits.numbers → store.numbers.head ≡ 0
+    → store.wrote.0 ≡ 0 → store.committed ≡ 0 → store.generations.number ≡ 1 → store.generations.mark ≡ [] → store.generations.by ≡ None → store.generations.building ≡ None → store.generations.begun ≡ 1
+    → ((bucket : List ℕ) → ending_at store.generations bucket ≡ None)
     → StoreStandsFor store.fixed store []
-stands_fresh store limits are query_numbers logs rows changes reach rules notes index_last forgotten last totals position op head closed made top number_head = record {
+stands_fresh store limits are query_numbers logs rows changes reach rules notes index_last forgotten last totals position op head closed made top number_head wrote committed number mark by building begun endings = record {
   fixed_is = refl;
   limits = limits;
   rules = are;
   query_numbers = query_numbers;
   legal = tt;
-  plain = refl;
   stands = record {
-    rules = refl;
-    logs = logs;
+    rules = ap (λ (o : Option Fixed). (unwrap_or o store.fixed).rules) (sym by);
+    by_limits = ap (λ (o : Option Fixed). (unwrap_or o store.fixed).limits) by;
+    logs = λ bucket. logs bucket ∙ none_in (is_of 1 bucket);
     changes = changes;
     reach = reach;
     rows = rows;
@@ -63,22 +73,36 @@ stands_fresh store limits are query_numbers logs rows changes reach rules notes 
       ascend = omega (arith, index_last);
     };
     last = last;
+    wrote = wrote;
     totals = totals;
     position = position;
     op = op;
+    committed = committed;
     head = head;
     closed = closed;
     numbers = record { made_are = made; top_is = top; behind = omega (arith, number_head) };
+    generations = record {
+      number_is = number;
+      mark_is = mark;
+      begun_is = begun;
+      building_is = subst (λ (o : Option Building). IsBuilding store.fixed.limits (λ bucket. []) 0 [] 0 o None) (sym building) tt;
+      endings = endings;
+      places = subst (λ (o : Option Building). HavePlaces store.generations o) (sym building) tt;
+    };
     kept = kept_fresh store.fixed.rules store.fixed.limits;
   };
 }
+  where
+    nothing : List Op
+    nothing = []
+
+    none_in : (b : Bool) → nothing ≡ (if b then nothing else nothing)
+    none_in true = refl
+    none_in false = refl
 
 module _ (fixed : Fixed) (old : Store) (history : List Event) (h : StoreStandsFor fixed old history) where
   abbrev l : Ledger
   l = ledger_of fixed.rules history
-
-  one : TellsOne fixed.rules l
-  one = tells_one fixed.rules history h.legal h.plain
 
   -- ---- a transaction is fed
 
@@ -91,18 +115,22 @@ module _ (fixed : Fixed) (old : Store) (history : List Event) (h : StoreStandsFo
   pub feed_wants : (tail : Tail) → tail.changes.items ≡ old.tail.changes.items → reached tail.reach ≡ reached old.tail.reach → StoreStandsFor fixed (record old { tail = tail }) history
   feed_wants tail changes reach = stands_still fixed old (record old { tail = tail }) history h refl (record {
     rules = h.stands.rules;
+    by_limits = h.stands.by_limits;
     logs = h.stands.logs;
     changes = changes ∙ h.stands.changes;
     reach = reach ∙ h.stands.reach;
     rows = h.stands.rows;
     index = h.stands.index;
     last = h.stands.last;
+    wrote = h.stands.wrote;
     totals = h.stands.totals;
     position = h.stands.position;
     op = h.stands.op;
+    committed = h.stands.committed;
     head = h.stands.head;
     closed = h.stands.closed;
     numbers = h.stands.numbers;
+    generations = h.stands.generations;
     kept = h.stands.kept;
   })
 
@@ -110,30 +138,49 @@ module _ (fixed : Fixed) (old : Store) (history : List Event) (h : StoreStandsFo
   pub feed_counts : (t : Transaction) → old.head.0 < t.position.0 → t.position.0 ≤ greatest → old.totals.transactions + 1 < 2 ^ 64
   feed_counts t later low = omega (arith, ap (λ (c : Totals). c.transactions) h.stands.totals, h.stands.kept.heads, h.stands.head, later, low)
 
+  -- what is being built goes on to the transaction's changes
+  goes_on : (t : Transaction) → head_of l.fed < t.position.0 → GoesOnUp (unwritten l) (head_of l.fed) (drop l.written (timed (l.fed ++ t ∷ []))) (head_of (l.fed ++ t ∷ []))
+  goes_on t past last queue ascends =
+      let more : queue ++ drop l.written (timed (l.fed ++ t ∷ [])) ≡ (queue ++ unwritten l) ++ timed_of t =
+      ap (λ (us : List Timed). queue ++ us) (unwritten_fed l t h.stands.kept.within) ∙ sym (append_assoc queue (unwritten l) (timed_of t)) in
+      subst (λ (n : ℕ). Ascend last (queue ++ drop l.written (timed (l.fed ++ t ∷ []))) n) (sym (head_fed l.fed t))
+      (subst (λ (us : List Timed). Ascend last us t.position.0) (sym more)
+      (ascend_append (queue ++ unwritten l) (timed_of t) last (head_of l.fed) t.position.0 ascends (omega (arith, past)) (ascend_at t.position.0 0 t.changes)))
+
+  generations_fed : (t : Transaction) → head_of l.fed < t.position.0
+      → GenerationsStand old.fixed.limits old.generations l.force.number l.building l.begun l.ended l.log l.position (drop l.written (timed (l.fed ++ t ∷ []))) (head_of (l.fed ++ t ∷ []))
+  generations_fed t past =
+      generations_moved l.log l.position l.position (unwritten l) (drop l.written (timed (l.fed ++ t ∷ []))) (head_of l.fed) (head_of (l.fed ++ t ∷ [])) (omega arith) (goes_on t past)
+      old.fixed.limits old.generations l.force.number l.building l.begun l.ended h.stands.generations
+
   pub feed_done : (t : Transaction) (tail : Tail) (totals : Totals) → length t.changes ≤ 2 ^ 64 → totals ≡ with_transaction old.totals → old.closed ≡ false → old.head.0 < t.position.0 → t.position.0 ≤ greatest
       → tail.changes.items ≡ old.tail.changes.items ++ timed_of t
-      → reached tail.reach ≡ settled old.last.0 (record (reached old.tail.reach) { left = (reached old.tail.reach).left ++ end_of t ∷ [] })
+      → reached tail.reach ≡ settled old.wrote.0 (record (reached old.tail.reach) { left = (reached old.tail.reach).left ++ end_of t ∷ [] })
       → StoreStandsFor fixed (record old { tail = tail; totals = totals; head = t.position }) (history ++ Feed t ∷ [])
   feed_done t tail totals few counted is later low changes reach =
       let past : head_of l.fed < t.position.0 = omega (arith, later, h.stands.head) in
       let within = h.stands.kept.within in
-      stands_event fixed old (record old { tail = tail; totals = totals; head = t.position }) history (Feed t) h refl refl (sym h.stands.closed ∙ is, past, low) (record {
+      stands_event fixed old (record old { tail = tail; totals = totals; head = t.position }) history (Feed t) h refl (sym h.stands.closed ∙ is, past, low) (record {
         rules = h.stands.rules;
+        by_limits = h.stands.by_limits;
         logs = h.stands.logs;
         changes = changes ∙ ap (λ (us : List Timed). us ++ timed_of t) h.stands.changes ∙ sym (unwritten_fed l t within);
         reach =
             reach
-            ∙ ap (λ (r : Reached). settled old.last.0 (record r { left = r.left ++ end_of t ∷ [] })) h.stands.reach
-            ∙ ap (λ (n : ℕ). settled n (record l.reach { left = l.reach.left ++ end_of t ∷ [] })) (h.stands.last ∙ sym one.wrote);
+            ∙ ap (λ (r : Reached). settled old.wrote.0 (record r { left = r.left ++ end_of t ∷ [] })) h.stands.reach
+            ∙ ap (λ (n : ℕ). settled n (record l.reach { left = l.reach.left ++ end_of t ∷ [] })) h.stands.wrote;
         rows = h.stands.rows;
         index = index_fed old.fixed.limits l t past low few old.index within h.stands.index;
         last = h.stands.last;
+        wrote = h.stands.wrote;
         totals = counted ∙ ap with_transaction h.stands.totals ∙ (λ i. record (totals_of l) { transactions = sym (length-append l.fed (t ∷ [])) i });
         position = h.stands.position;
         op = h.stands.op;
+        committed = h.stands.committed ∙ committed_fed l t (well_history fixed.rules history h.rules h.query_numbers h.legal) past;
         head = sym (head_fed l.fed t);
         closed = h.stands.closed;
         numbers = numbers_later old.fixed.limits.numbers old.numbers l.numbers (head_of l.fed) (head_of (l.fed ++ t ∷ [])) (omega (arith, head_fed l.fed t, past)) h.stands.numbers;
+        generations = generations_fed t past;
         kept = kept_fed old.fixed.limits l t past low few h.stands.kept;
       })
 
@@ -172,20 +219,24 @@ module _ (fixed : Fixed) (old : Store) (history : List Event) (h : StoreStandsFo
   -- ---- nothing more is fed
 
   pub close_done : StoreStandsFor fixed (record old { closed = true }) (history ++ Close ∷ [])
-  close_done = stands_event fixed old (record old { closed = true }) history Close h refl refl tt (record {
+  close_done = stands_event fixed old (record old { closed = true }) history Close h refl tt (record {
     rules = h.stands.rules;
+    by_limits = h.stands.by_limits;
     logs = h.stands.logs;
     changes = h.stands.changes;
     reach = h.stands.reach;
     rows = h.stands.rows;
     index = record { rules = h.stands.index.rules; forgotten = h.stands.index.forgotten; notes = h.stands.index.notes; ascend = h.stands.index.ascend };
     last = h.stands.last;
+    wrote = h.stands.wrote;
     totals = h.stands.totals;
     position = h.stands.position;
     op = h.stands.op;
+    committed = h.stands.committed;
     head = h.stands.head;
     closed = refl;
     numbers = h.stands.numbers;
+    generations = h.stands.generations;
     kept = record {
       within = h.stands.kept.within;
       tied = h.stands.kept.tied;
@@ -209,34 +260,41 @@ module _ (fixed : Fixed) (old : Store) (history : List Event) (h : StoreStandsFo
   pub commit_none : (reached old.tail.reach).position ≡ old.checkpoint.position.0 → l.reach.position ≡ l.position
   commit_none is = ap (λ (r : Reached). r.position) (sym h.stands.reach) ∙ is ∙ h.stands.position
 
-  pub commit_done : (checkpoint : Checkpoint) (index : Index) → checkpoint.position.0 ≡ (reached old.tail.reach).position → checkpoint.op.0 ≡ (reached old.tail.reach).op
+  pub commit_done : (checkpoint : Checkpoint) (index : Index) (committed : ℕ) → checkpoint.position.0 ≡ (reached old.tail.reach).position
+      → checkpoint.op.0 ≡ max old.checkpoint.op.0 (reached old.tail.reach).op → committed ≡ old.totals.transactions - length (reached old.tail.reach).left
       → ((reached old.tail.reach).position ≡ old.checkpoint.position.0 → ⊥)
       → index.rules ≡ old.index.rules → index.last ≡ old.index.last → index.forgotten ≡ max old.index.forgotten checkpoint.position.0
       → SameFrom index.forgotten old.index.notes index.notes
-      → Commits fixed history (record old { index = index; checkpoint = checkpoint }) (Ok checkpoint)
-  commit_done checkpoint index position op apart rules last forgotten notes =
+      → Commits fixed history (record old { index = index; checkpoint = checkpoint; committed = committed }) (Ok checkpoint)
+  commit_done checkpoint index committed position op counted apart rules last forgotten notes =
       let at : checkpoint.position.0 ≡ l.reach.position = position ∙ ap (λ (r : Reached). r.position) h.stands.reach in
-      let same : l.reach.op ≡ max l.op l.reach.op = omega (arith, one.op) in
-      let op_at : checkpoint.op.0 ≡ max l.op l.reach.op = op ∙ ap (λ (r : Reached). r.op) h.stands.reach ∙ same in
+      let op_at : checkpoint.op.0 ≡ max l.op l.reach.op = op ∙ (λ i. max (h.stands.op i) (h.stands.reach i).op) in
       let up : l.position ≤ l.reach.position = h.stands.kept.checkpoint in
       let can : l.position < l.reach.position = past l.position l.reach.position up (λ e. apart (sym position ∙ at ∙ sym e ∙ sym h.stands.position)) in
-      let floor : index.forgotten ≡ max old.index.forgotten l.reach.position = forgotten ∙ ap (λ (n : ℕ). max old.index.forgotten n) at in (
+      let floor : index.forgotten ≡ max old.index.forgotten l.reach.position = forgotten ∙ ap (λ (n : ℕ). max old.index.forgotten n) at in
+      let well : IsWell l = well_history fixed.rules history h.rules h.query_numbers h.legal in
+      let store : Store = record old { index = index; checkpoint = checkpoint; committed = committed } in (
         at,
         op_at,
-        stands_event fixed old (record old { index = index; checkpoint = checkpoint }) history Commit h refl refl can (record {
+        stands_event fixed old store history Commit h refl can (record {
           rules = h.stands.rules;
+          by_limits = h.stands.by_limits;
           logs = h.stands.logs;
           changes = h.stands.changes;
           reach = h.stands.reach;
           rows = h.stands.rows;
           index = index_commit old.index index l up rules last floor notes h.stands.index;
           last = h.stands.last;
+          wrote = h.stands.wrote;
           totals = h.stands.totals;
           position = at;
           op = op_at;
+          committed = omega (arith, counted, ap (λ (t : Totals). t.transactions) h.stands.totals, ap (λ (r : Reached). length r.left) h.stands.reach, committed_is l well);
           head = h.stands.head;
           closed = h.stands.closed;
           numbers = h.stands.numbers;
+          generations = generations_moved l.log l.position l.reach.position (unwritten l) (unwritten l) (head_of l.fed) (head_of l.fed) up (same_up (unwritten l) (head_of l.fed))
+              old.fixed.limits old.generations l.force.number l.building l.begun l.ended h.stands.generations;
           kept = kept_commit old.fixed.limits l h.stands.kept;
         }),
       )
@@ -285,17 +343,20 @@ module _ (fixed : Fixed) (old : Store) (history : List Event) (h : StoreStandsFo
       let low : last_number l user client < greatest = omega (arith, less, h.limits.numbers) in
       let one : (record { user = user; client = client; head = old.head }) ≡ made_by user client l.fed =
       ap (λ (n : ℕ). record { user = user; client = client; head = record { 0 = n } }) h.stands.head in
-      stands_event fixed old (record old { numbers = numbers }) history (WriteCheckpoint user client) h refl refl low (record {
+      stands_event fixed old (record old { numbers = numbers }) history (WriteCheckpoint user client) h refl low (record {
         rules = h.stands.rules;
+        by_limits = h.stands.by_limits;
         logs = h.stands.logs;
         changes = h.stands.changes;
         reach = h.stands.reach;
         rows = h.stands.rows;
         index = record { rules = h.stands.index.rules; forgotten = h.stands.index.forgotten; notes = h.stands.index.notes; ascend = h.stands.index.ascend };
         last = h.stands.last;
+        wrote = h.stands.wrote;
         totals = h.stands.totals;
         position = h.stands.position;
         op = h.stands.op;
+        committed = h.stands.committed;
         head = h.stands.head;
         closed = h.stands.closed;
         numbers = record {
@@ -303,21 +364,25 @@ module _ (fixed : Fixed) (old : Store) (history : List Event) (h : StoreStandsFo
           top_is = top ∙ h.stands.numbers.top_is;
           behind = omega (arith, head, h.stands.head);
         };
+        generations = h.stands.generations;
         kept = kept_numbers (l.numbers ++ made_by user client l.fed ∷ []) h.stands.kept;
       })
 
   number_kept : (numbers : Kept) → HaveSame old.numbers numbers → numbers.top ≡ old.numbers.top → StoreStandsFor fixed (record old { numbers = numbers }) history
   number_kept numbers same top = stands_still fixed old (record old { numbers = numbers }) history h refl (record {
     rules = h.stands.rules;
+    by_limits = h.stands.by_limits;
     logs = h.stands.logs;
     changes = h.stands.changes;
     reach = h.stands.reach;
     rows = h.stands.rows;
     index = h.stands.index;
     last = h.stands.last;
+    wrote = h.stands.wrote;
     totals = h.stands.totals;
     position = h.stands.position;
     op = h.stands.op;
+    committed = h.stands.committed;
     head = h.stands.head;
     closed = h.stands.closed;
     numbers = record {
@@ -325,6 +390,7 @@ module _ (fixed : Fixed) (old : Store) (history : List Event) (h : StoreStandsFo
       top_is = top ∙ h.stands.numbers.top_is;
       behind = omega (arith, same.last, h.stands.numbers.behind);
     };
+    generations = h.stands.generations;
     kept = h.stands.kept;
   })
 

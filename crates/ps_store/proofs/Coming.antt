@@ -1,12 +1,10 @@
 -- One more event of a history.
-use Rattle.std.proofs.Common.{◌≡◌, false, List, [], ◌∷◌, ◌++◌, sym, ◌∙◌, subst, fold}
+use Rattle.std.proofs.Common.{◌≡◌, List, [], ◌∷◌, ◌++◌, sym, ◌∙◌, subst, fold}
 use Rattle.ps_definitions.specs.RuleSets.{RuleSet}
 use Rattle.ps_store.specs.declared.events.Event.{Event}
-use Rattle.ps_store.specs.declared.events.Event.TheVariants.{Feed, Close, Write, Commit, Compact, WriteCheckpoint, Deploy, Build, Switch, Abandon}
 use Rattle.ps_store.specs.declared.fixed.Fixed.{Fixed}
 use Rattle.ps_store.specs.declared.stores.Store.{Store}
 use Rattle.ps_store.specs.Ledgers.{Ledger, fresh, ledger_after, ledger_of, CanCome, IsLegalFrom}
-use Rattle.ps_store.specs.Histories.{has_deploy}
 use Rattle.ps_store.specs.Stores.{Stands, StoreStandsFor}
 use Rattle.ps_store.proofs.Lanes.{fold_push}
 
@@ -17,30 +15,15 @@ pub legal_push : (history : List Event) (l : Ledger) (event : Event) → IsLegal
 legal_push [] l event h can = (can, tt)
 legal_push (e ∷ history) l event h can = (h.0, legal_push history (ledger_after l e) event h.1 can)
 
--- no new rules in a history, and none in an event behind it
-pub plain_push : (history : List Event) (event : Event) → has_deploy history ≡ false → has_deploy (event ∷ []) ≡ false → has_deploy (history ++ event ∷ []) ≡ false
-plain_push [] event h plain = plain
-plain_push (Feed t ∷ history) event h plain = plain_push history event h plain
-plain_push (Close ∷ history) event h plain = plain_push history event h plain
-plain_push (Write n ∷ history) event h plain = plain_push history event h plain
-plain_push (Commit ∷ history) event h plain = plain_push history event h plain
-plain_push (Compact bucket ∷ history) event h plain = plain_push history event h plain
-plain_push (WriteCheckpoint user client ∷ history) event h plain = plain_push history event h plain
-plain_push (Deploy rules ∷ history) event h plain = absurd (cc)
-plain_push (Build n ∷ history) event h plain = plain_push history event h plain
-plain_push (Switch ∷ history) event h plain = plain_push history event h plain
-plain_push (Abandon ∷ history) event h plain = plain_push history event h plain
-
 -- an event came
-pub stands_event : (fixed : Fixed) (old new : Store) (history : List Event) (event : Event) → StoreStandsFor fixed old history → has_deploy (event ∷ []) ≡ false → new.fixed ≡ old.fixed
+pub stands_event : (fixed : Fixed) (old new : Store) (history : List Event) (event : Event) → StoreStandsFor fixed old history → new.fixed ≡ old.fixed
     → CanCome (ledger_of fixed.rules history) event → Stands new (ledger_after (ledger_of fixed.rules history) event) → StoreStandsFor fixed new (history ++ event ∷ [])
-stands_event fixed old new history event h plain same can stands = record {
+stands_event fixed old new history event h same can stands = record {
   fixed_is = same ∙ h.fixed_is;
   limits = h.limits;
   rules = h.rules;
   query_numbers = h.query_numbers;
   legal = legal_push history (fresh fixed.rules) event h.legal can;
-  plain = plain_push history event h.plain plain;
   stands = subst (Stands new) (sym (ledger_push fixed.rules history event)) stands;
 }
 
@@ -52,6 +35,5 @@ stands_still fixed old new history h same stands = record {
   rules = h.rules;
   query_numbers = h.query_numbers;
   legal = h.legal;
-  plain = h.plain;
   stands = stands;
 }

@@ -156,7 +156,7 @@ behind_mark : (mark a b : List ℕ) → slice_cmp nat_cmp (mark ++ a) (mark ++ b
 behind_mark [] a b = refl
 behind_mark (n ∷ mark) a b = ap (λ (o : Ordering). ordering_then o (slice_cmp nat_cmp (mark ++ a) (mark ++ b))) (nat_itself n) ∙ behind_mark mark a b
 
-marked_rise : (number : ℕ) (names : List (List ℕ)) → NamesRise names → NamesRise (with_mark number names)
+pub marked_rise : (number : ℕ) (names : List (List ℕ)) → NamesRise names → NamesRise (with_mark number names)
 marked_rise number [] h = tt
 marked_rise number (x ∷ xs) h = (
   λ y i.

@@ -301,7 +301,7 @@ timed_low : (fed : List Transaction) (p : ℕ) → Rises p fed → AllUpTo (head
 timed_low [] p h = tt
 timed_low (t ∷ fed) p h = all_append (head_from t.position.0 fed) (timed_of t) (timed fed) (all_timed (head_from t.position.0 fed) t.position.0 0 t.changes (head_above fed t.position.0 h.1)) (timed_low fed t.position.0 h.1)
 
-fed_low : (l : Ledger) → Rises 0 l.fed → AllUpTo (head_of l.fed) (done_of l) × AllUpTo (head_of l.fed) (unwritten l)
+pub fed_low : (l : Ledger) → Rises 0 l.fed → AllUpTo (head_of l.fed) (done_of l) × AllUpTo (head_of l.fed) (unwritten l)
 fed_low l h = all_parts (head_of l.fed) (done_of l) (unwritten l) (subst (AllUpTo (head_of l.fed)) (parted l.written (timed l.fed)) (timed_low l.fed 0 h))
 
 well_fed : (l : Ledger) (t : Transaction) → head_of l.fed < t.position.0 → IsWell l → IsWell (ledger_after l (Feed t))

@@ -1,5 +1,5 @@
 -- A course whose logs stand for their originals is lawful, by the laws of one bucket; also where generations end.
-use Rattle.std.proofs.Common.{refl, ◌≡◌, ◌≢◌, ℕ, suc, ◌+◌, ◌%◌, ◌^◌, ◌<◌, ◌≤◌, ◌⊎◌, inl, inr, Bool, true, false, cond, Option, Some, None, IfSome, List, [], ◌∷◌, ◌++◌, filter, length, sym, ap, ◌∙◌, subst, arith}
+use Rattle.std.proofs.Common.{refl, ◌≡◌, ◌≢◌, ℕ, suc, ◌+◌, ◌^◌, ◌<◌, ◌≤◌, ◌⊎◌, inl, inr, Bool, true, false, cond, Option, Some, None, IfSome, List, [], ◌∷◌, ◌++◌, filter, length, sym, ap, ◌∙◌, subst, arith}
 use Rattle.std.proofs.Math.Nat.{mod-lt}
 use Rattle.std.specs.Cmp.Lexicographic.{slice_cmp}
 use Rattle.std.specs.List.{AllByRecursion, AllZip}

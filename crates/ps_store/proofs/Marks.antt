@@ -31,15 +31,15 @@ use Rattle.ps_queries.specs.Meaning.{Asker}
 use Rattle.ps_queries.specs.Vectors.{SourceRow}
 use Rattle.ps_definitions.specs.Vectors.{parameter_vectors}
 use Rattle.ps_params.specs.Names.{definition_names, bucket_names, IsTold, AreTold as ArePlainTold}
-use Rattle.ps_store.specs.Readings.{IsToldBehindMark, AreTold}
+use Rattle.ps_store.specs.Readings.{with_mark, IsToldBehindMark, AreTold}
 
 -- ---- texts
 
-begins_itself : (mark text : List ℕ) → begins_with mark (mark ++ text) ≡ true
+pub begins_itself : (mark text : List ℕ) → begins_with mark (mark ++ text) ≡ true
 begins_itself [] text = refl
 begins_itself (b ∷ mark) text = and_from (b == b) (begins_with mark (mark ++ text)) (eq-eqb b b refl) (begins_itself mark text)
 
-behind : (mark text : List ℕ) → begins_with mark text ≡ true → (rest : List ℕ) × (text ≡ mark ++ rest)
+pub behind : (mark text : List ℕ) → begins_with mark text ≡ true → (rest : List ℕ) × (text ≡ mark ++ rest)
 behind [] text h = (text, refl)
 behind (b ∷ mark) [] h = absurd (cc)
 behind (b ∷ mark) (c ∷ text) h =
@@ -48,15 +48,15 @@ behind (b ∷ mark) (c ∷ text) h =
     let r = behind mark text parts.1 in
     (r.0, (λ i. sym same i ∷ r.1 i))
 
-abbrev AreDigits : List ℕ → Type 0
+abbrev pub AreDigits : List ℕ → Type 0
 AreDigits [] = Unit {0}
 AreDigits (x ∷ xs) = (48 ≤ x) × (x ≤ 57) × AreDigits xs
 
-digits_push : (xs : List ℕ) (x : ℕ) → AreDigits xs → 48 ≤ x → x ≤ 57 → AreDigits (xs ++ x ∷ [])
+pub digits_push : (xs : List ℕ) (x : ℕ) → AreDigits xs → 48 ≤ x → x ≤ 57 → AreDigits (xs ++ x ∷ [])
 digits_push [] x h low high = (low, high, tt)
 digits_push (y ∷ xs) x h low high = (h.0, h.1, digits_push xs x h.2 low high)
 
-decimal_digits : (n : ℕ) → n ≤ greatest → AreDigits (decimal n) × (0 < length (decimal n))
+pub decimal_digits : (n : ℕ) → n ≤ greatest → AreDigits (decimal n) × (0 < length (decimal n))
 decimal_digits n low = decimal_by_steps (λ m ds. AreDigits ds × (0 < length ds)) (λ m small. ((omega arith, omega arith, tt), omega arith))
     (λ m ds large k. (digits_push ds (48 + m % 10) k.0 (omega arith) (omega arith), omega (arith, length-append ds ((48 + m % 10) ∷ [])))) n (omega (arith, low))
 
@@ -70,25 +70,25 @@ same_front (x ∷ xs) (y ∷ ys) p q h k e =
     let rest = same_front xs ys p q h.2 k.2 (cc) in
     (let tail : xs ≡ ys = rest.0 in cc, rest.1)
 
-is_digit : (x : ℕ) → 48 ≤ x → x ≤ 57 → is_ascii_digit x ≡ true
+pub is_digit : (x : ℕ) → 48 ≤ x → x ≤ 57 → is_ascii_digit x ≡ true
 is_digit x low high = grind (arith, nat_tests)
 
-digit_first : (ds text : List ℕ) → 0 < length ds → AreDigits ds → begins_with_digit (ds ++ text) ≡ true
+pub digit_first : (ds text : List ℕ) → 0 < length ds → AreDigits ds → begins_with_digit (ds ++ text) ≡ true
 digit_first [] text some h = absurd (omega arith)
 digit_first (x ∷ xs) text some h = is_digit x h.0 h.1
 
 -- ---- marks
 
-above : (number : ℕ) → nat_le number 1 ≡ false → 1 < number
+pub above : (number : ℕ) → nat_le number 1 ≡ false → 1 < number
 above number h = grind (arith, nat_tests)
 
-first_one : (number : ℕ) → nat_le number 1 ≡ true → number ≤ 1
+pub first_one : (number : ℕ) → nat_le number 1 ≡ true → number ≤ 1
 first_one number h = grind (arith, nat_tests)
 
-mark_is : (number : ℕ) → nat_le number 1 ≡ false → mark_of number ≡ decimal number ++ 35 ∷ []
+pub mark_is : (number : ℕ) → nat_le number 1 ≡ false → mark_of number ≡ decimal number ++ 35 ∷ []
 mark_is number h = ap (λ (b : Bool). if b then [] else decimal number ++ 35 ∷ []) h
 
-mark_none : (number : ℕ) → nat_le number 1 ≡ true → mark_of number ≡ []
+pub mark_none : (number : ℕ) → nat_le number 1 ≡ true → mark_of number ≡ []
 mark_none number h = ap (λ (b : Bool). if b then [] else decimal number ++ 35 ∷ []) h
 
 letter_first : (x : ℕ) → is_ascii_alphabetic x || x == 95 ≡ true → is_ascii_digit x ≡ false
@@ -111,18 +111,18 @@ is_of_marked number name h = by (nat_le number 1) refl
         ∙ begins_itself (mark_of number) name
 
 -- what a bucket of a generation is
-parts_of : (number : ℕ) (bucket : List ℕ) → (b : Bool) → nat_le number 1 ≡ b → is_of number bucket ≡ true
+pub parts_of : (number : ℕ) (bucket : List ℕ) → (b : Bool) → nat_le number 1 ≡ b → is_of number bucket ≡ true
     → (if b then not (begins_with_digit bucket) else begins_with (decimal number ++ 35 ∷ []) bucket) ≡ true
 parts_of number bucket true e h = sym (ap (λ (c : Bool). if c then not (begins_with_digit bucket) else begins_with (mark_of number) bucket) e) ∙ h
 parts_of number bucket false e h =
     ap (λ (m : List ℕ). begins_with m bucket) (sym (mark_is number e))
     ∙ sym (ap (λ (c : Bool). if c then not (begins_with_digit bucket) else begins_with (mark_of number) bucket) e) ∙ h
 
-hash_behind : (xs rest : List ℕ) → (xs ++ 35 ∷ []) ++ rest ≡ xs ++ 35 ∷ rest
+pub hash_behind : (xs rest : List ℕ) → (xs ++ 35 ∷ []) ++ rest ≡ xs ++ 35 ∷ rest
 hash_behind [] rest = refl
 hash_behind (x ∷ xs) rest = ap (λ ys. x ∷ ys) (hash_behind xs rest)
 
-numbered_name : (number : ℕ) (bucket : List ℕ) → begins_with (decimal number ++ 35 ∷ []) bucket ≡ true → (rest : List ℕ) × (bucket ≡ decimal number ++ 35 ∷ rest)
+pub numbered_name : (number : ℕ) (bucket : List ℕ) → begins_with (decimal number ++ 35 ∷ []) bucket ≡ true → (rest : List ℕ) × (bucket ≡ decimal number ++ 35 ∷ rest)
 numbered_name number bucket h = let r = behind (decimal number ++ 35 ∷ []) bucket h in (r.0, r.1 ∙ hash_behind (decimal number) r.0)
 
 not_first : (number : ℕ) (bucket : List ℕ) → number ≤ greatest → not (begins_with_digit bucket) ≡ true → begins_with (decimal number ++ 35 ∷ []) bucket ≡ true → ⊥
@@ -275,9 +275,35 @@ told_plain name word told number plain low is = by (nat_le number 1) refl
         let wrong : true ≡ false = sym digit ∙ word_first name word in
         absurd (cc)
 
-told_each : (names : List (List ℕ)) → ((name : List ℕ) → Has names name → begins_word name ≡ true) → ArePlainTold names → AreTold names
-told_each [] words told = tt
-told_each (name ∷ names) words told = (told_plain name (words name (inl refl)) told.0, told_each names (λ other i. words other (inr i)) told.1)
+-- and of a name behind a mark of its own, that mark ends at the first `#`
+told_marked : (own : ℕ) (name : List ℕ) → own ≤ greatest → begins_word name ≡ true → IsTold name → IsToldBehindMark (mark_of own ++ name)
+told_marked own name high word told number plain low is = by (nat_le own 1) refl (nat_le number 1) refl
+  where
+    by : (a : Bool) → nat_le own 1 ≡ a → (b : Bool) → nat_le number 1 ≡ b → IsTold plain
+    by true e b f = told_plain name word told number plain low (sym (ap (λ (m : List ℕ). m ++ name) (mark_none own e)) ∙ is)
+    by false e true f = λ definition values named bucket.
+        let d = decimal_digits own high in
+        let numbered : plain ≡ decimal own ++ 35 ∷ name =
+        sym (is ∙ ap (λ (m : List ℕ). m ++ plain) (mark_none number f)) ∙ ap (λ (m : List ℕ). m ++ name) (mark_is own e) ∙ hash_behind (decimal own) name in
+        let digit : begins_with_digit plain ≡ true = ap begins_with_digit numbered ∙ digit_first (decimal own) (35 ∷ name) d.1 d.0 in
+        let none : begins_with_digit plain ≡ false = ap begins_with_digit bucket ∙ word_first (bucket_name_of definition values) (bucket_begins definition values named) in
+        let wrong : true ≡ false = sym digit ∙ none in
+        absurd (cc)
+    by false e false f =
+        let there : decimal own ++ 35 ∷ name ≡ decimal number ++ 35 ∷ plain =
+        sym (ap (λ (m : List ℕ). m ++ name) (mark_is own e) ∙ hash_behind (decimal own) name) ∙ is ∙ ap (λ (m : List ℕ). m ++ plain) (mark_is number f) ∙ hash_behind (decimal number) plain in
+        subst IsTold (same_front (decimal own) (decimal number) name plain (decimal_digits own high).0 (decimal_digits number low).0 there).1 told
 
-pub all_told : (rules : RuleSet) (asker : Asker) (rows : List SourceRow) → AreRules rules → ArePlainTold (bucket_names rules.definitions asker rows) → AreTold (bucket_names rules.definitions asker rows)
-all_told rules asker rows are told = told_each (bucket_names rules.definitions asker rows) (names_begin rules asker rows are) told
+told_each : (own : ℕ) → own ≤ greatest → (names : List (List ℕ)) → ((name : List ℕ) → Has names name → begins_word name ≡ true) → ArePlainTold names → AreTold (with_mark own names)
+told_each own high [] words told = tt
+told_each own high (name ∷ names) words told = (told_marked own name high (words name (inl refl)) told.0, told_each own high names (λ other i. words other (inr i)) told.1)
+
+pub all_told : (own : ℕ) (rules : RuleSet) (asker : Asker) (rows : List SourceRow) → own ≤ greatest → AreRules rules → ArePlainTold (bucket_names rules.definitions asker rows)
+    → AreTold (with_mark own (bucket_names rules.definitions asker rows))
+all_told own rules asker rows high are told = told_each own high (bucket_names rules.definitions asker rows) (names_begin rules asker rows are) told
+
+-- the buckets of an asker, with a mark, are of its generation
+pub names_own : (own : ℕ) (rules : RuleSet) (asker : Asker) (rows : List SourceRow) → AreRules rules → (name : List ℕ) → Has (with_mark own (bucket_names rules.definitions asker rows)) name → is_of own name ≡ true
+names_own own rules asker rows are name h =
+    let f = from_map (λ (plain : List ℕ). mark_of own ++ plain) (bucket_names rules.definitions asker rows) name h in
+    subst (λ (n : List ℕ). is_of own n ≡ true) f.2 (is_of_marked own f.0 (names_begin rules asker rows are f.0 f.1))

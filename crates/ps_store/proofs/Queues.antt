@@ -35,14 +35,14 @@ has_queued t u (x ∷ us) h = by (is_earlier t x) (has_queued t u us)
     by false rest = elim h [ inl e ↦ inr (rest (inl e)) | inr k ↦ elim k [ inl e ↦ inl e | inr d ↦ inr (rest (inr d)) ] ]
 
 -- it is the last change of a row
-from_queue : (rows : Source) (t : Timed) → Has (queue_of rows) t → (row : Key × Version) × Has rows row × (last_change row ≡ t)
+pub from_queue : (rows : Source) (t : Timed) → Has (queue_of rows) t → (row : Key × Version) × Has rows row × (last_change row ≡ t)
 from_queue [] t h = absurd h
 from_queue (row ∷ rows) t h = elim (from_queued (last_change row) t (queue_of rows) h) [
   | inl e ↦ (row, inl refl, e)
   | inr k ↦ let r = from_queue rows t k in (r.0, inr r.1, r.2)
 ]
 
-has_queue : (rows : Source) (row : Key × Version) → Has rows row → Has (queue_of rows) (last_change row)
+pub has_queue : (rows : Source) (row : Key × Version) → Has rows row → Has (queue_of rows) (last_change row)
 has_queue [] row h = absurd h
 has_queue (x ∷ rows) row h = has_queued (last_change x) (last_change row) (queue_of rows)
     (elim h [ inl e ↦ inl (ap last_change e) | inr k ↦ inr (has_queue rows row k) ])
@@ -57,7 +57,7 @@ equal a b h = keys_exact a b (is (key_cmp a b) h)
     is Equal p = refl
     is Greater p = cc
 
-itself : (a b : Key) → a ≡ b → eq_by_cmp key_cmp a b ≡ true
+pub itself : (a b : Key) → a ≡ b → eq_by_cmp key_cmp a b ≡ true
 itself a b e = subst (λ (c : Key). eq_by_cmp key_cmp a c ≡ true) e ((eq_by_cmp_equiv keys_total).refl a)
 
 apart : (a b : Key) → (a ≡ b → ⊥) → eq_by_cmp key_cmp a b ≡ false
@@ -110,7 +110,7 @@ apart_queued t (x ∷ us) none apart = by (is_earlier t x) (apart_queued t us (�
     )
 
 -- a row of a source in order is in it once
-key_behind : (row : Key × Version) (rows : Source) (other : Key × Version) → T (is_sorted key_cmp (row ∷ rows)) → Has rows other → row.0 ≡ other.0 → ⊥
+pub key_behind : (row : Key × Version) (rows : Source) (other : Key × Version) → T (is_sorted key_cmp (row ∷ rows)) → Has rows other → row.0 ≡ other.0 → ⊥
 key_behind row rows other sorted h same =
     let there : find key_cmp other.0 (row ∷ rows) ≡ Some other.1 = find_there (row ∷ rows) other.0 other.1 sorted (inr h) in
     below_itself row rows other sorted h same
@@ -136,7 +136,7 @@ key_behind row rows other sorted h same =
     below_itself : (row : Key × Version) (rows : Source) (other : Key × Version) → T (is_sorted key_cmp (row ∷ rows)) → Has rows other → row.0 ≡ other.0 → ⊥
     below_itself row rows other sorted h same = none_below row.0 rows other (first _ _ sorted) h same
 
-sorted_behind : (row : Key × Version) (rows : Source) → T (is_sorted key_cmp (row ∷ rows)) → T (is_sorted key_cmp rows)
+pub sorted_behind : (row : Key × Version) (rows : Source) → T (is_sorted key_cmp (row ∷ rows)) → T (is_sorted key_cmp rows)
 sorted_behind row rows sorted = second _ _ sorted
   where
     second : (a b : Bool) → T (a && b) → T b
@@ -169,7 +169,7 @@ queue_leaves rows sorted = same_entries key_cmp keys_total keys_exact (after_all
 -- ---- moments
 
 -- two changes are not at one moment, and the earlier one comes first
-abbrev Ascend : List Timed → Type 0
+abbrev pub Ascend : List Timed → Type 0
 Ascend [] = Unit {0}
 Ascend (u ∷ us) = ((w : Timed) → Has us w → is_earlier u w ≡ true) × Ascend us
 
@@ -203,7 +203,7 @@ other_way t u differ h = by (nat_lt t.position u.position) refl (nat_lt u.positi
         let other : t.index ≡ u.index → ⊥ = differ same in
         grind (arith, nat_tests)
 
-queue_ascends : (rows : Source) → ((a b : Key × Version) → Has rows a → Has rows b → a.1.position ≡ b.1.position → a.1.index ≡ b.1.index → a.0 ≡ b.0) → T (is_sorted key_cmp rows) → Ascend (queue_of rows)
+pub queue_ascends : (rows : Source) → ((a b : Key × Version) → Has rows a → Has rows b → a.1.position ≡ b.1.position → a.1.index ≡ b.1.index → a.0 ≡ b.0) → T (is_sorted key_cmp rows) → Ascend (queue_of rows)
 queue_ascends [] differ sorted = tt
 queue_ascends (row ∷ rows) differ sorted = ascend_queued (last_change row) (queue_of rows)
     (λ u h. other_way (last_change row) u (λ p i.

@@ -14,7 +14,7 @@ use Rattle.ps_store.specs.Originals.{Timed, key_of, after, columns_of}
 
 -- ---- notes
 
-after_more : (table id : List ℕ) (upto : ℕ) (row : Option (List Column)) (notes : List Note) (note : Note)
+pub after_more : (table id : List ℕ) (upto : ℕ) (row : Option (List Column)) (notes : List Note) (note : Note)
     → row_after table id upto row (notes ++ note ∷ []) ≡ (if counts_for table id upto note then note.row else row_after table id upto row notes)
 after_more table id upto row [] note = refl
 after_more table id upto row (x ∷ notes) note = after_more table id upto (if counts_for table id upto x then x.row else row) notes note

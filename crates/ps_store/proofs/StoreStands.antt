@@ -1,6 +1,8 @@
 -- The store stands for a ledger, before and after a call.
-use Rattle.std.proofs.Common.{◌≡◌, ℕ, zero, suc, ◌+◌, ◌*◌, ◌^◌, ◌≤◌, ◌<◌, max, Option, List, [], ◌∷◌, ◌++◌, refl, sym, ap, ◌∙◌, subst, length, map, take, drop, fold, arith, append_assoc, append-nil, length-append, length-take, length-drop}
+use Rattle.std.proofs.Common.{◌≡◌, ℕ, zero, suc, ◌+◌, ◌*◌, ◌^◌, ◌≤◌, ◌<◌, max, Bool, true, false, Option, Some, None, List, [], ◌∷◌, ◌++◌, refl, sym, ap, ◌∙◌, subst, length, map, take, drop, fold, arith, append_assoc, append-nil, length-append, length-take, length-drop, inl, inr}
+use Rattle.std.specs.Prelude.{nat_lt, if◌then◌else◌, unwrap_or}
 use Rattle.std.specs.FinMap.Entries.{find}
+use Rattle.std.proofs.lemmas.Bool.Decides.{nat_tests}
 use Rattle.ps_data.specs.declared.ids.OpId.{OpId}
 use Rattle.ps_data.specs.declared.ids.Position.{Position}
 use Rattle.ps_bucket_log.specs.declared.ops.Op.{Op}
@@ -17,14 +19,15 @@ use Rattle.ps_write_cp.specs.Numbers.{Made as MadeNumber, heads_of}
 use Rattle.ps_store.specs.declared.fixed.Fixed.{Fixed}
 use Rattle.ps_store.specs.declared.fixed.Limits.{Limits}
 use Rattle.ps_store.specs.declared.plans.Made.{Made}
-use Rattle.ps_store.specs.declared.plans.Planned.{Planned}
+use Rattle.ps_store.specs.declared.plans.Plan.{Plan}
 use Rattle.ps_store.specs.declared.reach.End.{End}
 use Rattle.ps_store.specs.declared.stores.Store.{Store}
 use Rattle.ps_store.specs.declared.tails.Tail.{Tail}
 use Rattle.ps_store.specs.declared.totals.Totals.{Totals}
 use Rattle.ps_store.specs.Ledgers.{Ledger, fresh, unwritten, timed_of, end_of, write_next, head_of}
-use Rattle.ps_store.specs.Originals.{Entered, Timed, timed, timed_from, entries_at, columns_of, standing_entries, in_bucket}
-use Rattle.ps_store.specs.Plans.{IsStart, IsRun}
+use Rattle.ps_store.specs.Originals.{Entered, Timed, timed, timed_from, standing_entries, in_bucket}
+use Rattle.ps_store.specs.Generations.{Coming}
+use Rattle.ps_store.specs.StepLaws.{transactions_upto}
 use Rattle.ps_store.specs.Reach.{Reached, reached, settled}
 use Rattle.ps_store.specs.Rows.{row_at}
 use Rattle.ps_store.specs.Runs.{Run, run_from, ops_from, lasts_from}
@@ -33,10 +36,19 @@ use Rattle.ps_store.specs.StoreLogs.{log_at, has_ops, first_ops, Continue}
 use Rattle.ps_store.specs.Stores.{Stands, IndexStands, IsKept, IsSame, IsFilled, NumbersStand}
 use Rattle.ps_store.specs.Tails.{repeated, positions_of, timed_positions, IsSettled, Tied, Ascend, EndsRise, ids, AreRowsOf, reach_after, rows_after, notes_after}
 use Rattle.ps_store.specs.Totals.{names_of, ops_of as counted_ops, totals_of, with_changes}
+use Rattle.ps_store.specs.StoreGenerations.{by_of, log_in, GenerationsStand, HasGenerations, IsCopyOf}
+use Rattle.ps_store.proofs.Alike.{generations_alike}
 use Rattle.ps_store.proofs.Compacting.{next_entered}
+use Rattle.ps_store.proofs.Going.{IsWell, ComesWell, done_of}
+use Rattle.ps_store.proofs.Marks.{AreOf}
+use Rattle.ps_store.proofs.OwnLogs.{ops_own, own_log, first_own, log_mine, in_newest}
+use Rattle.ps_store.proofs.Plainly.{Since, since_all}
+use Rattle.ps_store.proofs.PlanMarked.{IsWritten}
+use Rattle.ps_store.proofs.Queued.{with_queued, next_building, next_begun, next_ended, IsApart, generations_queued}
+use Rattle.ps_store.proofs.Reaching.{parted}
 use Rattle.ps_store.proofs.Counting.{AreFilled, filled_append, names_more, sum_append}
 use Rattle.ps_store.proofs.Advancing.{tied_settled, ascend_append, IsOn, settled_on, reach_on, ends_push, end_push, rows_front, notes_append, same_after}
-use Rattle.ps_store.proofs.Lanes.{length_lasts, next_rules, next_log, next_last, next_reach, next_written, next_rows, next_rests, Rises, rises_ops, newest_within, rising_more, continues, IsFront, run_is_front, take_front, drop_again, IsLow, run_is_low}
+use Rattle.ps_store.proofs.Lanes.{length_lasts, next_rules, next_number, next_log, next_last, next_reach, next_written, next_rows, next_rests, Rises, rises_ops, newest_within, rising_more, continues, IsFront, run_is_front, take_front, drop_again, IsLow, run_is_low}
 
 -- ---- nothing changed
 
@@ -64,22 +76,31 @@ numbers_alike top top' kept kept' made made' head head' same_top same_kept same_
 pub numbers_later : (top : ℕ) (kept : Kept) (made : List MadeNumber) (head later : ℕ) → head ≤ later → NumbersStand top kept made head → NumbersStand top kept made later
 numbers_later top kept made head later up h = record { made_are = h.made_are; top_is = h.top_is; behind = omega (arith, h.behind, up) }
 
+-- the rules in force stay
+by_same : (old new : Store) → IsSame old new → by_of new ≡ by_of old
+by_same old new same = λ i. unwrap_or (same.generations.by i) (same.fixed i)
+
 pub stands_same : (old new : Store) (l : Ledger) → IsSame old new → Stands old l → Stands new l
 stands_same old new l same h = record {
-  rules = h.rules ∙ ap (λ (f : Fixed). f.rules) (sym same.fixed);
+  rules = h.rules ∙ ap (λ (f : Fixed). f.rules) (sym (by_same old new same));
+  by_limits = ap (λ (f : Fixed). f.limits) (by_same old new same) ∙ h.by_limits ∙ ap (λ (f : Fixed). f.limits) (sym same.fixed);
   logs = λ bucket. same.logs bucket ∙ h.logs bucket;
   changes = ap (λ (t : Tail). t.changes.items) same.tail ∙ h.changes;
   reach = ap (λ (t : Tail). reached t.reach) same.tail ∙ h.reach;
   rows = λ key. same.rows key ∙ h.rows key;
   index = index_same old.index new.index l same.index_rules same.index_last same.index_forgotten same.index_notes h.index;
   last = ap (λ (id : OpId). id.0) same.last ∙ h.last;
+  wrote = ap (λ (id : OpId). id.0) same.wrote ∙ h.wrote;
   totals = same.totals ∙ h.totals;
   position = ap (λ c. c.position.0) same.checkpoint ∙ h.position;
   op = ap (λ c. c.op.0) same.checkpoint ∙ h.op;
+  committed = same.committed ∙ h.committed;
   head = ap (λ (p : Position). p.0) same.head ∙ h.head;
   closed = same.closed ∙ h.closed;
   numbers = numbers_alike old.fixed.limits.numbers new.fixed.limits.numbers old.numbers new.numbers l.numbers l.numbers (head_of l.fed) (head_of l.fed)
       (ap (λ (f : Fixed). f.limits.numbers) same.fixed) same.numbers refl refl h.numbers;
+  generations = subst (λ (f : Fixed). HasGenerations f.limits new.generations l) (sym same.fixed)
+      (generations_alike old.fixed.limits old.generations new.generations l.force.number l.building l.begun l.ended l.log l.position (unwritten l) (head_of l.fed) same.generations h.generations);
   kept = subst (λ (f : Fixed). IsKept f.limits l) (sym same.fixed) h.kept;
 }
 
@@ -118,14 +139,21 @@ totals_written ts l h =
       sum = record { 0 = (sym (sum_append l.entered (ops_from l ts)) ∙ ap (λ (es : List Entered). sum_of (counted_ops es)) entered) i };
     }
 
-pub is_start : (store : Store) (l : Ledger) → l.force.number ≡ 1 → l.wrote ≡ l.last → Stands store l → IsStart store.fixed.rules store.rows store.last.0 l
-is_start store l number wrote h = record {
-  rules_are = h.rules;
-  stand = λ key. ap columns_of (h.rows key);
-  last = h.last;
-  number = number;
-  wrote = wrote;
-}
+-- the last id of a Write after changes: that of the last operation, or the one before where there is none
+wrote_after : (ts : List Timed) (l : Ledger) → l.wrote ≤ l.last → (fold write_next l ts).wrote ≡ (if nat_lt 0 (length (ops_from l ts)) then (fold write_next l ts).last else l.wrote)
+wrote_after ts l low = by (nat_lt 0 (length (ops_from l ts))) refl (since_all l.last l.wrote low ts l (inl (refl, refl)))
+  where
+    some : (n : ℕ) → nat_lt 0 n ≡ true → 0 < n
+    some n h = grind (arith, nat_tests)
+
+    none : (n : ℕ) → nat_lt 0 n ≡ false → n ≤ 0
+    none n h = grind (arith, nat_tests)
+
+    by : (b : Bool) → nat_lt 0 (length (ops_from l ts)) ≡ b → Since l.last l.wrote (fold write_next l ts) → (fold write_next l ts).wrote ≡ (if b then (fold write_next l ts).last else l.wrote)
+    by true e (inl g) = absurd (omega (arith, some (length (ops_from l ts)) e, g.0, next_last ts l))
+    by true e (inr g) = g.1
+    by false e (inl g) = g.1
+    by false e (inr g) = absurd (omega (arith, none (length (ops_from l ts)) e, g.0, next_last ts l))
 
 length_map : {A B : Type 0} (f : A → B) (xs : List A) → length (map f xs) ≡ length xs
 length_map f [] = refl
@@ -141,8 +169,7 @@ take_joined zero n xs = let e : 0 + n ≡ n = omega arith in ap (λ k. take k xs
 take_joined (suc w) n [] = take_nil (suc w + n) [] refl ∙ sym (take_nil n [] refl)
 take_joined (suc w) n (x ∷ xs) = let e : suc w + n ≡ suc (w + n) = omega arith in ap (λ k. take k (x ∷ xs)) e ∙ ap (λ ys. x ∷ ys) (take_joined w n xs)
 
-module _ (old : Store) (l : Ledger) (h : Stands old l) (usual : old.fixed.limits.entries ≤ 1000) (limit : ℕ) (planned : Planned)
-    (is_run : IsRun old.fixed.rules old.rows old.tail.changes.items l planned (take limit (unwritten l)) (run_from old.fixed.limits l 0 (take limit (unwritten l)))) where
+module _ (old : Store) (l : Ledger) (h : Stands old l) (well : IsWell l) (usual : old.fixed.limits.entries ≤ 1000) (limit : ℕ) where
   abbrev run : Run
   run = run_from old.fixed.limits l 0 (take limit (unwritten l))
 
@@ -155,7 +182,7 @@ module _ (old : Store) (l : Ledger) (h : Stands old l) (usual : old.fixed.limits
   abbrev ts : List Timed
   ts = take run.count (unwritten l)
 
-  ts_are : take run.count (take limit (unwritten l)) ≡ ts
+  pub ts_are : take run.count (take limit (unwritten l)) ≡ ts
   ts_are = take_front run.count limit (unwritten l) (omega (arith, count_front, front.within))
 
   ledger_is : run.ledger ≡ fold write_next l ts
@@ -164,196 +191,260 @@ module _ (old : Store) (l : Ledger) (h : Stands old l) (usual : old.fixed.limits
   low : IsLow old.fixed.limits l (length (take limit (unwritten l))) run.ledger
   low = run_is_low old.fixed.limits usual (take limit (unwritten l)) l 0 h.kept.narrow h.kept.last
 
-  n_within : run.count ≤ length (unwritten l)
-  n_within = omega (arith, count_front, front.within, length-take limit (unwritten l))
+  pub count_there : run.count ≤ length (unwritten l)
+  count_there = omega (arith, count_front, front.within, length-take limit (unwritten l))
 
   length_ts : length ts ≡ run.count
-  length_ts = omega (arith, length-take run.count (unwritten l), n_within)
-
-  ops_are : planned.plan.entered.items ≡ ops_from l ts
-  ops_are = is_run.plan.entered ∙ ap (ops_from l) ts_are
-
-  lasts_are : ids planned.plan.made.items ≡ lasts_from l ts
-  lasts_are = is_run.plan.lasts ∙ ap (lasts_from l) ts_are
-
-  pub count_is : length planned.plan.made.items ≡ run.count
-  count_is = sym (length_map (λ (m : Made). m.last.0) planned.plan.made.items) ∙ ap length lasts_are ∙ length_lasts ts l ∙ length_ts
-
-  -- how many operations there are
-  pub ops_count : l.last + length planned.plan.entered.items ≡ run.ledger.last
-  ops_count = sym (ap (λ (n : Ledger). n.last) ledger_is ∙ next_last ts l ∙ ap (λ (es : List Entered). l.last + length es) (sym ops_are))
+  length_ts = omega (arith, length-take run.count (unwritten l), count_there)
 
   -- the last id is within the limit
   pub low_of_run : run.ledger.last ≤ old.fixed.limits.ops
   low_of_run = low.ids
 
-  pub ops_low : limit ≤ 1000000 → length planned.plan.entered.items ≤ 2000000000
-  ops_low most = omega (arith, ops_count, low.grown, length-take limit (unwritten l), most)
-
   pub count_low : run.count ≤ limit
   count_low = omega (arith, count_front, front.within, length-take limit (unwritten l))
 
-  module _ (mid : Store) (same : IsSame old mid) where
-    -- the plan's operations continue the logs
-    pub newer : Continue (log_at mid.logs) planned.plan.entered.items
-    newer = continues planned.plan.entered.items (log_at mid.logs) l.last (fold write_next l ts).last
-        (λ bucket. subst (λ (ops : List Op). newest ops ≤ l.last) (sym (same.logs bucket ∙ h.logs bucket)) (h.kept.newest bucket))
-        (subst (λ (es : List Entered). Rises l.last es (fold write_next l ts).last) (sym ops_are) (rises_ops ts l))
+  own : AreOf l.force.number (ops_from l ts)
+  own = ops_own ts l well.force.are
 
-    tail_is : mid.tail.changes.items ≡ unwritten l
-    tail_is = ap (λ (t : Tail). t.changes.items) same.tail ∙ h.changes
+  module _ (plan : Plan) (w : IsWritten l.force.rules plan l ts) where
+    pub count_is : length plan.made.items ≡ run.count
+    count_is = sym (length_map (λ (m : Made). m.last.0) plan.made.items) ∙ ap length w.lasts ∙ length_lasts ts l ∙ length_ts
 
-    -- the changes are there
-    pub counted : length planned.plan.made.items ≤ length mid.tail.changes.items
-    counted = omega (arith, count_is, n_within, ap length tail_is)
+    -- how many operations there are
+    pub ops_count : l.last + length plan.entered.items ≡ run.ledger.last
+    ops_count = sym (ap (λ (n : Ledger). n.last) ledger_is ∙ next_last ts l ∙ ap (λ (es : List Entered). l.last + length es) (sym w.entered))
 
-    -- with their rows
-    pub rows_are_there : AreRowsOf mid.index.rules.definitions planned.plan.made.items mid.tail.changes.items
-    rows_are_there =
-        let rules_same : old.fixed.rules ≡ mid.index.rules = sym (same.index_rules ∙ h.index.rules ∙ h.rules) in
-        let there : AreRowsOf old.fixed.rules.definitions planned.plan.made.items ts = subst (AreRowsOf old.fixed.rules.definitions planned.plan.made.items) ts_are is_run.plan.rows_are in
-        subst (λ (r : RuleSet). AreRowsOf r.definitions planned.plan.made.items mid.tail.changes.items) rules_same
-        (subst (AreRowsOf old.fixed.rules.definitions planned.plan.made.items) (sym tail_is) (rows_front old.fixed.rules.definitions run.count planned.plan.made.items (unwritten l) there))
+    pub ops_low : limit ≤ 1000000 → length plan.entered.items ≤ 2000000000
+    ops_low most = omega (arith, ops_count, low.grown, length-take limit (unwritten l), most)
 
-    module _ (new : Store) (filled : IsFilled mid planned.plan new) where
-      abbrev after : Ledger
-      after = fold write_next l ts
+    module _ (mid : Store) (same : IsSame old mid) where
+      logs_are : (bucket : List ℕ) → log_at mid.logs bucket ≡ log_in l.force.number l.log bucket
+      logs_are bucket = same.logs bucket ∙ h.logs bucket
 
-      written_is : after.written ≡ l.written + run.count
-      written_is = omega (arith, next_written ts l, length_ts)
+      -- the plan's operations continue the logs
+      pub newer : Continue (log_at mid.logs) plan.entered.items
+      newer = continues plan.entered.items (log_at mid.logs) l.last (fold write_next l ts).last
+          (λ bucket. subst (λ (ops : List Op). newest ops ≤ l.last) (sym (logs_are bucket)) (in_newest l.force.number l.log bucket l.last (h.kept.newest bucket)))
+          (subst (λ (es : List Entered). Rises l.last es (fold write_next l ts).last) (sym w.entered) (rises_ops ts l))
 
-      fed_is : after.fed ≡ l.fed
-      fed_is = (next_rests ts l).fed
+      tail_is : mid.tail.changes.items ≡ unwritten l
+      tail_is = ap (λ (t : Tail). t.changes.items) same.tail ∙ h.changes
 
-      changes_are : new.tail.changes.items ≡ unwritten after
-      changes_are =
-          filled.changes
-          ∙ ap (λ (n : ℕ). drop n mid.tail.changes.items) count_is
-          ∙ ap (λ (us : List Timed). drop run.count us) tail_is
-          ∙ drop_again l.written run.count (timed l.fed)
-          ∙ ap (λ (n : ℕ). drop n (timed l.fed)) (sym written_is)
-          ∙ ap (λ (fed : List Transaction). drop after.written (timed fed)) (sym fed_is)
+      -- the changes are there
+      pub counted : length plan.made.items ≤ length mid.tail.changes.items
+      counted = omega (arith, count_is, count_there, ap length tail_is)
 
-      reach_is : reached new.tail.reach ≡ after.reach
-      reach_is =
-          filled.reach
-          ∙ ap (λ (r : Reached). reach_after r (ids planned.plan.made.items)) (ap (λ (t : Tail). reached t.reach) same.tail ∙ h.reach)
-          ∙ ap (λ (ns : List ℕ). reach_after l.reach ns) lasts_are
-          ∙ sym (next_reach ts l)
+      -- with their rows
+      pub rows_are_there : AreRowsOf mid.index.rules.definitions plan.made.items mid.tail.changes.items
+      rows_are_there =
+          let rules_same : l.force.rules ≡ mid.index.rules = sym (same.index_rules ∙ h.index.rules) in
+          subst (λ (r : RuleSet). AreRowsOf r.definitions plan.made.items mid.tail.changes.items) rules_same
+          (subst (AreRowsOf l.force.rules.definitions plan.made.items) (sym tail_is) (rows_front l.force.rules.definitions run.count plan.made.items (unwritten l) w.rows_are))
 
-      rows_are : (key : Key) → row_at new.rows key ≡ find key_cmp key after.force.source
-      rows_are key =
-          let rows : row_at mid.rows ≡ (λ (q : Key). find key_cmp q l.force.source) = λ j q. (same.rows q ∙ h.rows q) j in
-          filled.rows key
-          ∙ ap (λ (f : Key → Option Version). rows_after f (take (length planned.plan.made.items) mid.tail.changes.items) key) rows
-          ∙ ap (λ (n : ℕ). rows_after (λ q. find key_cmp q l.force.source) (take n mid.tail.changes.items) key) count_is
-          ∙ ap (λ (us : List Timed). rows_after (λ q. find key_cmp q l.force.source) (take run.count us) key) tail_is
-          ∙ sym (next_rows ts l key)
+      module _ (new : Store) (copies : List Timed) (filled : IsFilled mid plan copies new) where
+        abbrev after : Ledger
+        after = fold write_next l ts
 
-      rules_are : after.force.rules ≡ l.force.rules
-      rules_are = next_rules ts l
+        written_is : after.written ≡ l.written + run.count
+        written_is = omega (arith, next_written ts l, length_ts)
 
-      last_is : new.last.0 ≡ run.ledger.last
-      last_is = ap (λ (id : OpId). id.0) filled.last ∙ is_run.plan.last ∙ ap (λ (us : List Timed). (fold write_next l us).last) ts_are ∙ ap (λ (n : Ledger). n.last) (sym ledger_is)
+        fed_is : after.fed ≡ l.fed
+        fed_is = (next_rests ts l).fed
 
-      fixed_is : new.fixed ≡ old.fixed
-      fixed_is = filled.fixed ∙ same.fixed
+        unwritten_is : drop run.count (unwritten l) ≡ unwritten after
+        unwritten_is =
+            drop_again l.written run.count (timed l.fed)
+            ∙ ap (λ (n : ℕ). drop n (timed l.fed)) (sym written_is)
+            ∙ ap (λ (fed : List Transaction). drop after.written (timed fed)) (sym fed_is)
 
-      on : IsOn l.reach.position l.reach.left after.reach
-      on = subst (IsOn l.reach.position l.reach.left) (sym (next_reach ts l)) (reach_on (lasts_from l ts) l.reach h.kept.ends_rise)
+        changes_are : new.tail.changes.items ≡ unwritten after
+        changes_are =
+            filled.changes
+            ∙ ap (λ (n : ℕ). drop n mid.tail.changes.items) count_is
+            ∙ ap (λ (us : List Timed). drop run.count us) tail_is
+            ∙ unwritten_is
 
-      kept_after : IsKept old.fixed.limits after
-      kept_after = record {
-        within = omega (arith, written_is, n_within, length-drop l.written (timed l.fed), h.kept.within, ap (λ (fed : List Transaction). length (timed fed)) fed_is);
-        tied = subst (λ (r : Reached). Tied (unwritten after) r) reach_is (subst (λ (us : List Timed). Tied us (reached new.tail.reach)) changes_are filled.tied);
-        ends_rise = on.rise;
-        last_is_head = on.same_end ∙ h.kept.last_is_head ∙ ap head_of (sym fed_is);
-        checkpoint = omega (arith, on.up, h.kept.checkpoint, (next_rests ts l).position);
-        heads = subst (λ (fed : List Transaction). length fed ≤ head_of fed) (sym fed_is) h.kept.heads;
-        low = subst (λ (fed : List Transaction). head_of fed ≤ greatest) (sym fed_is) h.kept.low;
-        sized = subst (λ (fed : List Transaction). length (timed fed) ≤ length fed * 2 ^ 64) (sym fed_is) h.kept.sized;
-        entered = omega (arith, ap length (next_entered ts l), length-append l.entered (ops_from l ts), next_last ts l, h.kept.entered);
-        filled = λ bucket.
-            ap has_ops (next_log bucket ts l)
-            ∙ filled_append l.log l.entered (ops_from l ts) h.kept.filled bucket
-            ∙ ap (λ (es : List Entered). has_ops (in_bucket bucket es)) (sym (next_entered ts l));
-        rising = λ bucket. subst (IsRising 0) (sym (next_log bucket ts l)) (rising_more bucket (l.log bucket) (ops_from l ts) l.last after.last (h.kept.rising bucket) (h.kept.newest bucket) (rises_ops ts l));
-        newest = λ bucket. subst (λ (ops : List Op). newest ops ≤ after.last) (sym (next_log bucket ts l)) (newest_within bucket (l.log bucket) (ops_from l ts) l.last after.last (h.kept.newest bucket) (rises_ops ts l));
-        last = subst (λ (n : Ledger). n.last ≤ old.fixed.limits.ops) ledger_is low.ids;
-        narrow = λ key. subst (λ (n : Ledger). length (standing_entries n.force.rules.definitions n.force.source key) ≤ old.fixed.limits.entries) ledger_is (low.narrow key);
-      }
+        reach_is : reached new.tail.reach ≡ after.reach
+        reach_is =
+            filled.reach
+            ∙ ap (λ (r : Reached). reach_after r (ids plan.made.items)) (ap (λ (t : Tail). reached t.reach) same.tail ∙ h.reach)
+            ∙ ap (λ (ns : List ℕ). reach_after l.reach ns) w.lasts
+            ∙ sym (next_reach ts l)
 
-      defs_are : mid.index.rules.definitions ≡ l.force.rules.definitions
-      defs_are = ap (λ (r : RuleSet). r.definitions) (same.index_rules ∙ h.index.rules)
+        rows_are : (key : Key) → row_at new.rows key ≡ find key_cmp key after.force.source
+        rows_are key =
+            let rows : row_at mid.rows ≡ (λ (q : Key). find key_cmp q l.force.source) = λ j q. (same.rows q ∙ h.rows q) j in
+            filled.rows key
+            ∙ ap (λ (f : Key → Option Version). rows_after f (take (length plan.made.items) mid.tail.changes.items) key) rows
+            ∙ ap (λ (n : ℕ). rows_after (λ q. find key_cmp q l.force.source) (take n mid.tail.changes.items) key) count_is
+            ∙ ap (λ (us : List Timed). rows_after (λ q. find key_cmp q l.force.source) (take run.count us) key) tail_is
+            ∙ sym (next_rows ts l key)
 
-      index_after : IndexStands new.index after
-      index_after = record {
-        rules = filled.index_rules ∙ same.index_rules ∙ h.index.rules ∙ sym rules_are;
-        forgotten = omega (arith, filled.index_forgotten, same.index_forgotten, h.index.forgotten, (next_rests ts l).position);
-        notes =
-            let before : SameFrom l.position (notes_after l.force.rules.definitions [] (take l.written (timed l.fed))) mid.index.notes =
-            (index_same old.index mid.index l same.index_rules same.index_last same.index_forgotten same.index_notes h.index).notes in
-            let step : SameFrom l.position (notes_after l.force.rules.definitions (notes_after l.force.rules.definitions [] (take l.written (timed l.fed))) ts) (notes_after l.force.rules.definitions mid.index.notes ts) =
-            same_after l.position l.force.rules.definitions ts (notes_after l.force.rules.definitions [] (take l.written (timed l.fed))) mid.index.notes before in
-            let left : notes_after l.force.rules.definitions (notes_after l.force.rules.definitions [] (take l.written (timed l.fed))) ts ≡ notes_after after.force.rules.definitions [] (take after.written (timed after.fed)) =
-            sym (notes_append l.force.rules.definitions [] (take l.written (timed l.fed)) ts)
-            ∙ ap (notes_after l.force.rules.definitions []) (sym (take_joined l.written run.count (timed l.fed)) ∙ ap (λ (n : ℕ). take n (timed l.fed)) (sym written_is) ∙ ap (λ (fed : List Transaction). take after.written (timed fed)) (sym fed_is))
-            ∙ ap (λ (r : RuleSet). notes_after r.definitions [] (take after.written (timed after.fed))) (sym rules_are) in
-            let right : notes_after l.force.rules.definitions mid.index.notes ts ≡ new.index.notes =
-            sym (filled.index_notes
-            ∙ ap (λ ds. notes_after ds mid.index.notes (take (length planned.plan.made.items) mid.tail.changes.items)) defs_are
-            ∙ ap (λ (n : ℕ). notes_after l.force.rules.definitions mid.index.notes (take n mid.tail.changes.items)) count_is
-            ∙ ap (λ (us : List Timed). notes_after l.force.rules.definitions mid.index.notes (take run.count us)) tail_is) in
-            subst (λ (p : ℕ). SameFrom p (notes_after after.force.rules.definitions [] (take after.written (timed after.fed))) new.index.notes) (sym (next_rests ts l).position)
-            (subst (λ (ns : List Note). SameFrom l.position ns new.index.notes) left (subst (λ (ns : List Note). SameFrom l.position (notes_after l.force.rules.definitions (notes_after l.force.rules.definitions [] (take l.written (timed l.fed))) ts) ns) right step));
-        ascend =
-            let start : Ascend mid.index.last mid.tail.changes.items (head_of l.fed) =
-            subst (λ (n : ℕ). Ascend n mid.tail.changes.items (head_of l.fed)) (sym same.index_last) (subst (λ (us : List Timed). Ascend old.index.last us (head_of l.fed)) (sym tail_is) h.index.ascend) in
-            subst (λ (us : List Timed). Ascend new.index.last us (head_of after.fed)) changes_are
-            (subst (λ (fed : List Transaction). Ascend new.index.last new.tail.changes.items (head_of fed)) (sym fed_is) (filled.index_ascend (head_of l.fed) start));
-      }
+        rules_are : after.force.rules ≡ l.force.rules
+        rules_are = next_rules ts l
 
-      stands_after : Stands new after
-      stands_after = record {
-        rules = rules_are ∙ h.rules ∙ ap (λ (f : Fixed). f.rules) (sym fixed_is);
-        logs = λ bucket.
-            filled.logs bucket
-            ∙ ap (λ (ops : List Op). ops ++ in_bucket bucket planned.plan.entered.items) (same.logs bucket ∙ h.logs bucket)
-            ∙ ap (λ (es : List Entered). l.log bucket ++ in_bucket bucket es) ops_are
-            ∙ sym (next_log bucket ts l);
-        changes = changes_are;
-        reach = reach_is;
-        rows = rows_are;
-        index = index_after;
-        last = last_is ∙ ap (λ (n : Ledger). n.last) ledger_is;
-        totals =
-            filled.totals
-            ∙ ap (λ (t : Totals). with_changes t (length planned.plan.made.items) (first_ops (log_at mid.logs) planned.plan.entered.items) planned.plan.entered.items) (same.totals ∙ h.totals)
-            ∙ ap (λ (logs : List ℕ → List Op). with_changes (totals_of l) (length planned.plan.made.items) (first_ops logs planned.plan.entered.items) planned.plan.entered.items) (λ i bucket. (same.logs bucket ∙ h.logs bucket) i)
-            ∙ ap (λ (es : List Entered). with_changes (totals_of l) (length planned.plan.made.items) (first_ops l.log es) es) ops_are
-            ∙ ap (λ (n : ℕ). with_changes (totals_of l) n (first_ops l.log (ops_from l ts)) (ops_from l ts)) (count_is ∙ sym length_ts)
-            ∙ totals_written ts l h.kept.filled;
-        position = ap (λ c. c.position.0) (filled.checkpoint ∙ same.checkpoint) ∙ h.position ∙ sym (next_rests ts l).position;
-        op = ap (λ c. c.op.0) (filled.checkpoint ∙ same.checkpoint) ∙ h.op ∙ sym (next_rests ts l).op;
-        head = ap (λ (p : Position). p.0) (filled.head ∙ same.head) ∙ h.head ∙ ap head_of (sym fed_is);
-        closed = filled.closed ∙ same.closed ∙ h.closed ∙ sym (next_rests ts l).closed;
-        numbers = numbers_alike old.fixed.limits.numbers new.fixed.limits.numbers old.numbers new.numbers l.numbers after.numbers (head_of l.fed) (head_of after.fed)
-            (ap (λ (f : Fixed). f.limits.numbers) fixed_is) (filled.numbers ∙ same.numbers) (next_rests ts l).numbers (ap head_of fed_is) h.numbers;
-        kept = subst (λ (f : Fixed). IsKept f.limits after) (sym fixed_is) kept_after;
-      }
+        number_is : after.force.number ≡ l.force.number
+        number_is = next_number ts l
 
-      -- the store stands for what is written
-      pub stands_written : Stands new (fold write_next l (take run.count (unwritten l)))
-      stands_written = stands_after
+        last_is : new.last.0 ≡ run.ledger.last
+        last_is = ap (λ (id : OpId). id.0) filled.last ∙ w.newest ∙ ap (λ (n : Ledger). n.last) (sym ledger_is)
 
-      pub last_of_run : new.last.0 ≡ run.ledger.last
-      last_of_run = last_is
+        wrote_is : new.wrote.0 ≡ after.wrote
+        wrote_is =
+            ap (λ (id : OpId). id.0) filled.wrote
+            ∙ by (nat_lt 0 (length plan.entered.items))
+            ∙ ap (λ (es : List Entered). if nat_lt 0 (length es) then after.last else l.wrote) w.entered
+            ∙ sym (wrote_after ts l well.wrote_low)
+          where
+            by : (b : Bool) → (if b then plan.last else mid.wrote).0 ≡ (if b then after.last else l.wrote)
+            by true = w.newest
+            by false = ap (λ (id : OpId). id.0) same.wrote ∙ h.wrote
 
-      pub within_limit : (fold write_next l (take run.count (unwritten l))).last ≤ old.fixed.limits.ops
-      within_limit = kept_after.last
+        fixed_is : new.fixed ≡ old.fixed
+        fixed_is = filled.fixed ∙ same.fixed
 
-      pub count_there : run.count ≤ length (unwritten l)
-      count_there = n_within
+        on : IsOn l.reach.position l.reach.left after.reach
+        on = subst (IsOn l.reach.position l.reach.left) (sym (next_reach ts l)) (reach_on (lasts_from l ts) l.reach h.kept.ends_rise)
+
+        kept_after : IsKept old.fixed.limits after
+        kept_after = record {
+          within = omega (arith, written_is, count_there, length-drop l.written (timed l.fed), h.kept.within, ap (λ (fed : List Transaction). length (timed fed)) fed_is);
+          tied = subst (λ (r : Reached). Tied (unwritten after) r) reach_is (subst (λ (us : List Timed). Tied us (reached new.tail.reach)) changes_are filled.tied);
+          ends_rise = on.rise;
+          last_is_head = on.same_end ∙ h.kept.last_is_head ∙ ap head_of (sym fed_is);
+          checkpoint = omega (arith, on.up, h.kept.checkpoint, (next_rests ts l).position);
+          heads = subst (λ (fed : List Transaction). length fed ≤ head_of fed) (sym fed_is) h.kept.heads;
+          low = subst (λ (fed : List Transaction). head_of fed ≤ greatest) (sym fed_is) h.kept.low;
+          sized = subst (λ (fed : List Transaction). length (timed fed) ≤ length fed * 2 ^ 64) (sym fed_is) h.kept.sized;
+          entered = omega (arith, ap length (next_entered ts l), length-append l.entered (ops_from l ts), next_last ts l, h.kept.entered);
+          filled = λ bucket.
+              ap has_ops (next_log bucket ts l)
+              ∙ filled_append l.log l.entered (ops_from l ts) h.kept.filled bucket
+              ∙ ap (λ (es : List Entered). has_ops (in_bucket bucket es)) (sym (next_entered ts l));
+          rising = λ bucket. subst (IsRising 0) (sym (next_log bucket ts l)) (rising_more bucket (l.log bucket) (ops_from l ts) l.last after.last (h.kept.rising bucket) (h.kept.newest bucket) (rises_ops ts l));
+          newest = λ bucket. subst (λ (ops : List Op). newest ops ≤ after.last) (sym (next_log bucket ts l)) (newest_within bucket (l.log bucket) (ops_from l ts) l.last after.last (h.kept.newest bucket) (rises_ops ts l));
+          last = subst (λ (n : Ledger). n.last ≤ old.fixed.limits.ops) ledger_is low.ids;
+          narrow = λ key. subst (λ (n : Ledger). length (standing_entries n.force.rules.definitions n.force.source key) ≤ old.fixed.limits.entries) ledger_is (low.narrow key);
+        }
+
+        defs_are : mid.index.rules.definitions ≡ l.force.rules.definitions
+        defs_are = ap (λ (r : RuleSet). r.definitions) (same.index_rules ∙ h.index.rules)
+
+        index_after : IndexStands new.index after
+        index_after = record {
+          rules = filled.index_rules ∙ same.index_rules ∙ h.index.rules ∙ sym rules_are;
+          forgotten = omega (arith, filled.index_forgotten, same.index_forgotten, h.index.forgotten, (next_rests ts l).position);
+          notes =
+              let before : SameFrom l.position (notes_after l.force.rules.definitions [] (take l.written (timed l.fed))) mid.index.notes =
+              (index_same old.index mid.index l same.index_rules same.index_last same.index_forgotten same.index_notes h.index).notes in
+              let step : SameFrom l.position (notes_after l.force.rules.definitions (notes_after l.force.rules.definitions [] (take l.written (timed l.fed))) ts) (notes_after l.force.rules.definitions mid.index.notes ts) =
+              same_after l.position l.force.rules.definitions ts (notes_after l.force.rules.definitions [] (take l.written (timed l.fed))) mid.index.notes before in
+              let left : notes_after l.force.rules.definitions (notes_after l.force.rules.definitions [] (take l.written (timed l.fed))) ts ≡ notes_after after.force.rules.definitions [] (take after.written (timed after.fed)) =
+              sym (notes_append l.force.rules.definitions [] (take l.written (timed l.fed)) ts)
+              ∙ ap (notes_after l.force.rules.definitions []) (sym (take_joined l.written run.count (timed l.fed)) ∙ ap (λ (n : ℕ). take n (timed l.fed)) (sym written_is) ∙ ap (λ (fed : List Transaction). take after.written (timed fed)) (sym fed_is))
+              ∙ ap (λ (r : RuleSet). notes_after r.definitions [] (take after.written (timed after.fed))) (sym rules_are) in
+              let right : notes_after l.force.rules.definitions mid.index.notes ts ≡ new.index.notes =
+              sym (filled.index_notes
+              ∙ ap (λ ds. notes_after ds mid.index.notes (take (length plan.made.items) mid.tail.changes.items)) defs_are
+              ∙ ap (λ (n : ℕ). notes_after l.force.rules.definitions mid.index.notes (take n mid.tail.changes.items)) count_is
+              ∙ ap (λ (us : List Timed). notes_after l.force.rules.definitions mid.index.notes (take run.count us)) tail_is) in
+              subst (λ (p : ℕ). SameFrom p (notes_after after.force.rules.definitions [] (take after.written (timed after.fed))) new.index.notes) (sym (next_rests ts l).position)
+              (subst (λ (ns : List Note). SameFrom l.position ns new.index.notes) left (subst (λ (ns : List Note). SameFrom l.position (notes_after l.force.rules.definitions (notes_after l.force.rules.definitions [] (take l.written (timed l.fed))) ts) ns) right step));
+          ascend =
+              let start : Ascend mid.index.last mid.tail.changes.items (head_of l.fed) =
+              subst (λ (n : ℕ). Ascend n mid.tail.changes.items (head_of l.fed)) (sym same.index_last) (subst (λ (us : List Timed). Ascend old.index.last us (head_of l.fed)) (sym tail_is) h.index.ascend) in
+              subst (λ (us : List Timed). Ascend new.index.last us (head_of after.fed)) changes_are
+              (subst (λ (fed : List Transaction). Ascend new.index.last new.tail.changes.items (head_of fed)) (sym fed_is) (filled.index_ascend (head_of l.fed) start));
+        }
+
+        -- the generation that is being built has the changes behind its queue
+        changes_parted : unwritten l ≡ ts ++ unwritten after
+        changes_parted = parted run.count (unwritten l) ∙ ap (λ (us : List Timed). ts ++ us) unwritten_is
+
+        logs_after : (λ (bucket : List ℕ). l.log bucket ++ in_bucket bucket (ops_from l ts)) ≡ after.log
+        logs_after = λ i bucket. sym (next_log bucket ts l) i
+
+        apart : (o : Option Coming) → ComesWell l.entered l.last l.begun (done_of l) (unwritten l) l.force.number o → IsApart l.log (ops_from l ts) l.force.number l.position (head_of l.fed) ts (unwritten after) o
+        apart None c = tt
+        apart (Some c) k = (k.0.from_one, omega (arith, k.0.begun_is, well.begun_low), λ e. omega (arith, e, k.2))
+
+        generations_after : IsCopyOf mid.generations.building (take (length plan.made.items) old.tail.changes.items) copies → HasGenerations old.fixed.limits new.generations after
+        generations_after copied =
+            let mid_is : GenerationsStand old.fixed.limits mid.generations l.force.number l.building l.begun l.ended l.log l.position (ts ++ unwritten after) (head_of l.fed) =
+            subst (λ (us : List Timed). GenerationsStand old.fixed.limits mid.generations l.force.number l.building l.begun l.ended l.log l.position us (head_of l.fed)) changes_parted
+            (generations_alike old.fixed.limits old.generations mid.generations l.force.number l.building l.begun l.ended l.log l.position (unwritten l) (head_of l.fed) same.generations h.generations) in
+            let copied_is : IsCopyOf mid.generations.building ts copies =
+            subst (λ (us : List Timed). IsCopyOf mid.generations.building us copies) ((λ i. take (count_is i) old.tail.changes.items) ∙ ap (take run.count) h.changes) copied in
+            let next = generations_queued l.log (ops_from l ts) l.force.number l.position (head_of l.fed) ts (unwritten after) old.fixed.limits mid.generations new.generations copies l.force.number l.building l.begun l.ended
+            (apart l.building well.coming) well.force.from_one (omega (arith, well.force.begun_is, well.begun_low)) own filled.generations copied_is mid_is in
+            let at_head : GenerationsStand old.fixed.limits new.generations l.force.number (with_queued ts l.building) l.begun l.ended (λ bucket. l.log bucket ++ in_bucket bucket (ops_from l ts)) l.position (unwritten after) (head_of after.fed) =
+            subst (GenerationsStand old.fixed.limits new.generations l.force.number (with_queued ts l.building) l.begun l.ended (λ bucket. l.log bucket ++ in_bucket bucket (ops_from l ts)) l.position (unwritten after)) (ap head_of (sym fed_is)) next in
+            let as_after : (record after {
+              force = record after.force { number = l.force.number };
+              building = with_queued ts l.building;
+              begun = l.begun;
+              ended = l.ended;
+              log = λ bucket. l.log bucket ++ in_bucket bucket (ops_from l ts);
+              position = l.position;
+            }) ≡ after =
+            λ i. record after {
+              force = record after.force { number = sym number_is i };
+              building = sym (next_building ts l) i;
+              begun = sym (next_begun ts l) i;
+              ended = sym (next_ended ts l) i;
+              log = logs_after i;
+              position = sym (next_rests ts l).position i;
+            } in
+            subst (HasGenerations old.fixed.limits new.generations) as_after at_head
+
+        stands_after : IsCopyOf mid.generations.building (take (length plan.made.items) old.tail.changes.items) copies → Stands new after
+        stands_after copied = record {
+          rules = rules_are ∙ h.rules ∙ sym (ap (λ (f : Fixed). f.rules) by_is);
+          by_limits = ap (λ (f : Fixed). f.limits) by_is ∙ h.by_limits ∙ ap (λ (f : Fixed). f.limits) (sym fixed_is);
+          logs = λ bucket.
+              filled.logs bucket
+              ∙ ap (λ (ops : List Op). ops ++ in_bucket bucket plan.entered.items) (logs_are bucket)
+              ∙ ap (λ (es : List Entered). log_in l.force.number l.log bucket ++ in_bucket bucket es) w.entered
+              ∙ own_log l.force.number l.log (ops_from l ts) bucket own
+              ∙ (λ i. log_in (sym number_is i) (logs_after i) bucket);
+          changes = changes_are;
+          reach = reach_is;
+          rows = rows_are;
+          index = index_after;
+          last = last_is ∙ ap (λ (n : Ledger). n.last) ledger_is;
+          wrote = wrote_is;
+          totals =
+              filled.totals
+              ∙ ap (λ (t : Totals). with_changes t (length plan.made.items) (first_ops (log_at mid.logs) plan.entered.items) plan.entered.items) (same.totals ∙ h.totals)
+              ∙ ap (λ (es : List Entered). with_changes (totals_of l) (length plan.made.items) (first_ops (log_at mid.logs) es) es) w.entered
+              ∙ ap (λ (n : ℕ). with_changes (totals_of l) (length plan.made.items) n (ops_from l ts))
+              (first_own l.force.number (log_at mid.logs) l.log (ops_from l ts) own (λ bucket mine. logs_are bucket ∙ log_mine l.force.number l.log bucket mine))
+              ∙ ap (λ (n : ℕ). with_changes (totals_of l) n (first_ops l.log (ops_from l ts)) (ops_from l ts)) (count_is ∙ sym length_ts)
+              ∙ totals_written ts l h.kept.filled;
+          position = ap (λ c. c.position.0) (filled.checkpoint ∙ same.checkpoint) ∙ h.position ∙ sym (next_rests ts l).position;
+          op = ap (λ c. c.op.0) (filled.checkpoint ∙ same.checkpoint) ∙ h.op ∙ sym (next_rests ts l).op;
+          committed = filled.committed ∙ same.committed ∙ h.committed ∙ (λ i. length (transactions_upto (sym (next_rests ts l).position i) (sym fed_is i)));
+          head = ap (λ (p : Position). p.0) (filled.head ∙ same.head) ∙ h.head ∙ ap head_of (sym fed_is);
+          closed = filled.closed ∙ same.closed ∙ h.closed ∙ sym (next_rests ts l).closed;
+          numbers = numbers_alike old.fixed.limits.numbers new.fixed.limits.numbers old.numbers new.numbers l.numbers after.numbers (head_of l.fed) (head_of after.fed)
+              (ap (λ (f : Fixed). f.limits.numbers) fixed_is) (filled.numbers ∙ same.numbers) (next_rests ts l).numbers (ap head_of fed_is) h.numbers;
+          generations = subst (λ (f : Fixed). HasGenerations f.limits new.generations after) (sym fixed_is) (generations_after copied);
+          kept = subst (λ (f : Fixed). IsKept f.limits after) (sym fixed_is) kept_after;
+        }
+          where
+            by_is : by_of new ≡ by_of old
+            by_is = (λ i. unwrap_or (filled.generations.by i) (filled.fixed i)) ∙ by_same old mid same
+
+        -- the store stands for what is written
+        pub stands_written : IsCopyOf mid.generations.building (take (length plan.made.items) old.tail.changes.items) copies → Stands new (fold write_next l (take run.count (unwritten l)))
+        stands_written copied = stands_after copied
+
+        pub last_of_run : new.last.0 ≡ run.ledger.last
+        last_of_run = last_is
+
+        pub within_limit : (fold write_next l (take run.count (unwritten l))).last ≤ old.fixed.limits.ops
+        within_limit = kept_after.last
 
 -- ---- a transaction is fed
 
@@ -426,7 +517,7 @@ length_from : (position index : ℕ) (changes : List Change) → length (timed_f
 length_from position index [] = refl
 length_from position index (c ∷ changes) = ap suc (length_from position (index + 1) changes)
 
-ascend_at : (position index : ℕ) (changes : List Change) → Ascend position (timed_from position index changes) position
+pub ascend_at : (position index : ℕ) (changes : List Change) → Ascend position (timed_from position index changes) position
 ascend_at position index [] = omega arith
 ascend_at position index (c ∷ changes) = (omega arith, ascend_at position (index + 1) changes)
 

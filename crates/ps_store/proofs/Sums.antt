@@ -1,5 +1,5 @@
 -- The checksum of each original operation has 32 bits.
-use Rattle.std.proofs.Common.{refl, ◌≡◌, ℕ, suc, ◌+◌, ◌*◌, ◌^◌, ◌<◌, Bool, true, false, cond, List, [], ◌∷◌, ◌++◌, filter, subst, sym, length, arith}
+use Rattle.std.proofs.Common.{refl, ◌≡◌, ℕ, ◌+◌, ◌*◌, ◌^◌, ◌<◌, Bool, true, false, cond, List, [], ◌∷◌, ◌++◌, filter, subst, sym, length, arith}
 use Rattle.std.specs.Int.{w32, from_le_bytes, byte_at}
 use Rattle.std.specs.List.{AllByRecursion}
 use Rattle.std.specs.Prelude.{bytes_eq, if◌then◌else◌, slice_index}

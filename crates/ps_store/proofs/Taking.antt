@@ -1,6 +1,6 @@
 -- What is taken of a store and read of it.
-use Rattle.std.proofs.Common.{◌≡◌, ℕ, suc, ◌+◌, ◌*◌, ◌≤◌, ◌<◌, Bool, true, false, cond, Option, None, List, [], ◌∷◌, ◌++◌, refl, sym, ap, ◌∙◌, subst, length, map, filter, flat_map, take, arith, append_assoc, append-nil}
-use Rattle.std.specs.Prelude.{nat_le, bytes_eq, ◌&&◌, if◌then◌else◌, Result, Ok, Err, IfOk}
+use Rattle.std.proofs.Common.{◌≡◌, ℕ, suc, ◌+◌, ◌*◌, ◌≤◌, ◌<◌, Bool, true, false, cond, Option, Some, None, option_map, List, [], ◌∷◌, ◌++◌, refl, sym, ap, ◌∙◌, subst, length, map, filter, flat_map, take, arith, append_assoc, append-nil, inl, inr}
+use Rattle.std.specs.Prelude.{nat_le, bytes_eq, ◌&&◌, if◌then◌else◌, is_some, Result, Ok, Err, IfOk}
 use Rattle.std.specs.Cmp.Lexicographic.{slice_cmp}
 use Rattle.std.specs.List.Sorted.{IsStrictlySortedBy}
 use Rattle.std.specs.Ordering.{nat_cmp}
@@ -34,16 +34,22 @@ use Rattle.ps_store.specs.Ledgers.{Ledger, ledger_of}
 use Rattle.ps_store.specs.LedgerLaws.{IsWhole}
 use Rattle.ps_store.specs.Noting.{noted}
 use Rattle.ps_store.specs.Originals.{Timed, timed_from, timed}
-use Rattle.ps_store.specs.Readings.{AreTold, names_of, bucket_upto, Takes, batch_of, covered_of}
+use Rattle.ps_store.specs.Readings.{AreTold, names_of, bucket_upto, Takes, batch_in, batch_of, covered_of}
 use Rattle.ps_store.specs.StepLaws.{transactions_upto}
 use Rattle.ps_store.specs.StoreLogs.{log_at}
 use Rattle.ps_store.specs.Stores.{StoreStandsFor}
+use Rattle.ps_store.specs.Generations.{mark_of, is_of, Ending, ending_of}
+use Rattle.ps_store.specs.Limits.{greatest}
+use Rattle.ps_store.specs.StoreGenerations.{by_of, prefixed, log_of, ending_from, ending_at}
+use Rattle.ps_store.specs.declared.generations.Ending.{Ending as StoredEnding}
 use Rattle.ps_store.specs.Tails.{notes_after}
-use Rattle.ps_store.proofs.Looking.{same_lengths}
 use Rattle.ps_store.proofs.Telling.{counts_history}
 use Rattle.ps_store.proofs.Fronts.{upto_timed, upto-timed, written_upto}
-use Rattle.ps_store.proofs.Marks.{all_told}
-use Rattle.ps_store.proofs.OneGeneration.{reads_one}
+use Rattle.ps_store.proofs.Marks.{all_told, names_own}
+use Rattle.ps_store.proofs.OwnLogs.{log_mine}
+use Rattle.ps_store.proofs.Going.{IsWell, well_history}
+use Rattle.ps_store.proofs.Members.{Has}
+use Rattle.ps_store.proofs.CourseReadings.{marked_rise}
 use Rattle.ps_store.proofs.Ordered.{in_order_rise, names_sorted}
 
 -- ---- notes of changes
@@ -107,6 +113,16 @@ pub names_kept : (op : ℕ) (log : List ℕ → List Op) (names : List (List ℕ
 names_kept op log [] = refl
 names_kept op log (name ∷ names) = ap (λ ns. name ∷ ns) (names_kept op log names)
 
+-- functions that give the same of each name
+same_at : (f g : List ℕ → TakenBucket) (names : List (List ℕ)) → ((name : List ℕ) → Has names name → f name ≡ g name) → map f names ≡ map g names
+same_at f g [] same = refl
+same_at f g (name ∷ names) same = λ i. same name (inl refl) i ∷ same_at f g names (λ other has. same other (inr has)) i
+
+-- shorter logs are no longer
+no_longer : (logs others : List ℕ → List Op) (n : ℕ) (names : List (List ℕ)) → ((name : List ℕ) → length (logs name) ≤ length (others name)) → AreNoLonger others n names → AreNoLonger logs n names
+no_longer logs others n [] shorter low = tt
+no_longer logs others n (name ∷ names) shorter low = (omega (arith, shorter name, low.0), no_longer logs others n names shorter low.1)
+
 module _ (fixed : Fixed) (store : Store) (history : List Event) (h : StoreStandsFor fixed store history) where
   abbrev l : Ledger
   l = ledger_of fixed.rules history
@@ -150,73 +166,116 @@ module _ (fixed : Fixed) (store : Store) (history : List Event) (h : StoreStands
         ∙ ap (λ (r : RuleSet). bucket_names r.definitions asker (rows_in (source_at l.fed p))) h.stands.index.rules;
   }
 
-  pub same_rules : store.fixed.rules ≡ store.index.rules
+  pub same_rules : (by_of store).rules ≡ store.index.rules
   same_rules = sym (h.stands.index.rules ∙ h.stands.rules)
 
   pub not_forgotten : store.index.forgotten ≤ store.checkpoint.position.0
   not_forgotten = omega (arith, h.stands.index.forgotten, h.stands.position)
 
+  well : IsWell l
+  well = well_history fixed.rules history h.rules h.query_numbers h.legal
+
+  number_low : l.force.number ≤ greatest
+  number_low = omega (arith, well.force.begun_is, well.begun_low)
+
+  limit_is : store.fixed.limits.buckets ≡ fixed.limits.buckets
+  limit_is = ap (λ (f : Fixed). f.limits.buckets) h.fixed_is
+
+  -- the store's log of a bucket is that of the ledger, or none
+  log_shorter : (name : List ℕ) → length (log_at store.logs name) ≤ length (l.log name)
+  log_shorter name = subst (λ (ops : List Op). length ops ≤ length (l.log name)) (sym (h.stands.logs name)) (by (is_of l.force.number name))
+    where
+      by : (b : Bool) → length (if b then l.log name else []) ≤ length (l.log name)
+      by true = omega arith
+      by false = omega arith
+
   module _ (asker : Asker) (names : List (List ℕ)) (law : NotesReadAreTheSource)
-      (tells : (source : List SourceRow) → StandsAt store.index.rules.definitions store.index.notes store.checkpoint.position.0 source → names ≡ bucket_names store.fixed.rules.definitions asker source) where
+      (tells : (source : List SourceRow) → StandsAt store.index.rules.definitions store.index.notes store.checkpoint.position.0 source → names ≡ bucket_names (by_of store).rules.definitions asker source) where
     abbrev rows : List SourceRow
     rows = rows_in (source_at l.fed l.position)
 
     -- without a mark
-    plain_are : names ≡ bucket_names fixed.rules.definitions asker rows
-    plain_are = tells rows (stands_at law) ∙ ap (λ (f : Fixed). bucket_names f.rules.definitions asker rows) h.fixed_is
-
-    names_are : names ≡ names_of l asker
-    names_are = plain_are ∙ sym ((reads_one fixed.rules history h.legal h.plain).names asker)
-
-    limit_is : store.fixed.limits.buckets ≡ fixed.limits.buckets
-    limit_is = ap (λ (f : Fixed). f.limits.buckets) h.fixed_is
+    plain_are : names ≡ bucket_names l.force.rules.definitions asker rows
+    plain_are = tells rows (stands_at law) ∙ ap (λ (r : RuleSet). bucket_names r.definitions asker rows) (sym h.stands.rules)
 
     pub too_many : (count : ℕ) → count ≡ length names → store.fixed.limits.buckets < length names → Takes fixed history asker (Err (TooManyBuckets count))
-    too_many count is above = record {
-      count_is = is ∙ ap length names_are;
-      above = omega (arith, is, above, limit_is);
-    }
-
-    pub take_done : (buckets : List TakenBucket) (number : Option ℕ) → number ≡ covered_of l asker → ArePlainTold names → length names ≤ store.fixed.limits.buckets
-        → buckets ≡ map (λ (name : List ℕ). bucket_upto store.checkpoint.op.0 name (log_at store.logs name)) names
-        → Takes fixed history asker (Ok (record {
-          position = store.checkpoint.position;
-          head = store.head;
-          closed = store.closed;
-          last_op = store.checkpoint.op;
-          number = number;
-          buckets = buckets;
-        }))
-    take_done buckets number covers told few are =
-        let all : buckets ≡ map (λ (name : List ℕ). bucket_upto l.op name (l.log name)) (names_of l asker) =
-        are ∙ (λ i. map (λ (name : List ℕ). bucket_upto (h.stands.op i) name (h.stands.logs name i)) (names_are i)) in
-        let named : names ≡ map (λ (b : TakenBucket). b.name) buckets =
-        names_kept store.checkpoint.op.0 (log_at store.logs) names ∙ ap (map (λ (b : TakenBucket). b.name)) (sym are) in
+    too_many count is above =
+        let many : length names ≡ length (names_of l asker) = ap length plain_are ∙ sym (length_map (λ (name : List ℕ). mark_of l.force.number ++ name) (bucket_names l.force.rules.definitions asker rows)) in
         record {
-          value = λ i. record {
-            position = record { 0 = h.stands.position i };
-            head = record { 0 = h.stands.head i };
-            closed = h.stands.closed i;
-            last_op = record { 0 = h.stands.op i };
-            number = covers i;
-            buckets = all i;
-          };
-          few = omega (arith, few, limit_is, ap length are, length_map (λ (name : List ℕ). bucket_upto store.checkpoint.op.0 name (log_at store.logs name)) names);
-          rise = subst (IsStrictlySortedBy (slice_cmp nat_cmp)) (sym plain_are ∙ named)
-              (names_sorted (bucket_names fixed.rules.definitions asker rows) (in_order_rise (flat_map (definition_names asker rows) fixed.rules.definitions)));
-          told = subst AreTold (sym plain_are ∙ named) (all_told fixed.rules asker rows h.rules (subst ArePlainTold plain_are told));
+          count_is = is ∙ many;
+          above = omega (arith, is, above, limit_is);
         }
 
-    -- and the looks are counted by the names
-    pub take_few : (before after : ℕ) → ((n d : ℕ) → IsDepth n d → AreNoLonger (log_at store.logs) n names → after ≤ before + length names * (3 * (2 * d + 4)))
-        → TakesFew l asker before after
-    take_few before after cost n d depth low =
-        let shorter : AreNoLonger (log_at store.logs) n names = same_lengths (log_at store.logs) l.log n names h.stands.logs (subst (AreNoLonger l.log n) (sym names_are) low) in
-        subst (λ (ns : List (List ℕ)). after ≤ before + length ns * (3 * (2 * d + 4))) names_are (cost n d depth shorter)
+    module _ (marked : List (List ℕ)) (marked_is : marked ≡ prefixed store.generations.mark names) where
+      names_are : marked ≡ names_of l asker
+      names_are = marked_is ∙ (λ i. prefixed (h.stands.generations.mark_is i) (plain_are i))
+
+      -- their logs are those of the ledger
+      own_logs : (name : List ℕ) → Has (names_of l asker) name → log_at store.logs name ≡ l.log name
+      own_logs name has = h.stands.logs name ∙ log_mine l.force.number l.log name (names_own l.force.number l.force.rules asker rows well.force.are name has)
+
+      few_are : (buckets : List TakenBucket) → length names ≤ store.fixed.limits.buckets → buckets ≡ map (λ (name : List ℕ). bucket_upto store.checkpoint.op.0 name (log_at store.logs name)) marked
+          → length buckets ≤ fixed.limits.buckets
+      few_are buckets few are =
+          let length_marked : length marked ≡ length names = ap length marked_is ∙ length_map (λ (name : List ℕ). store.generations.mark ++ name) names in
+          omega (arith, few, limit_is, length_marked, ap length are, length_map (λ (name : List ℕ). bucket_upto store.checkpoint.op.0 name (log_at store.logs name)) marked)
+
+      pub take_done : (buckets : List TakenBucket) (number : Option ℕ) → number ≡ covered_of l asker → ArePlainTold names → length names ≤ store.fixed.limits.buckets
+          → buckets ≡ map (λ (name : List ℕ). bucket_upto store.checkpoint.op.0 name (log_at store.logs name)) marked
+          → Takes fixed history asker (Ok (record {
+            position = store.checkpoint.position;
+            head = store.head;
+            closed = store.closed;
+            last_op = store.checkpoint.op;
+            number = number;
+            buckets = buckets;
+          }))
+      take_done buckets number covers told few are =
+          let op_is : (λ (name : List ℕ). bucket_upto store.checkpoint.op.0 name (log_at store.logs name)) ≡ (λ (name : List ℕ). bucket_upto l.op name (log_at store.logs name)) =
+          λ i name. bucket_upto (h.stands.op i) name (log_at store.logs name) in
+          let all : buckets ≡ map (λ (name : List ℕ). bucket_upto l.op name (l.log name)) (names_of l asker) =
+          are
+          ∙ (λ i. map (op_is i) (names_are i))
+          ∙ same_at (λ (name : List ℕ). bucket_upto l.op name (log_at store.logs name)) (λ (name : List ℕ). bucket_upto l.op name (l.log name)) (names_of l asker) (λ name has. ap (bucket_upto l.op name) (own_logs name has)) in
+          let named : names_of l asker ≡ map (λ (b : TakenBucket). b.name) buckets =
+          names_kept l.op l.log (names_of l asker) ∙ ap (map (λ (b : TakenBucket). b.name)) (sym all) in
+          record {
+            value = λ i. record {
+              position = record { 0 = h.stands.position i };
+              head = record { 0 = h.stands.head i };
+              closed = h.stands.closed i;
+              last_op = record { 0 = h.stands.op i };
+              number = covers i;
+              buckets = all i;
+            };
+            few = few_are buckets few are;
+            rise = subst (IsStrictlySortedBy (slice_cmp nat_cmp)) named
+                (names_sorted (names_of l asker) (marked_rise l.force.number (bucket_names l.force.rules.definitions asker rows) (in_order_rise (flat_map (definition_names asker rows) l.force.rules.definitions))));
+            told = subst AreTold named (all_told l.force.number l.force.rules asker rows number_low well.force.are (subst ArePlainTold plain_are told));
+          }
+
+      -- and the looks are counted by the names
+      pub take_few : (before after : ℕ) → ((n d : ℕ) → IsDepth n d → AreNoLonger (log_at store.logs) n marked → after ≤ before + length marked * (3 * (2 * d + 4)))
+          → TakesFew l asker before after
+      take_few before after cost n d depth low =
+          let shorter : AreNoLonger (log_at store.logs) n marked = no_longer (log_at store.logs) l.log n marked log_shorter (subst (AreNoLonger l.log n) (sym names_are) low) in
+          subst (λ (ns : List (List ℕ)). after ≤ before + length ns * (3 * (2 * d + 4))) names_are (cost n d depth shorter)
 
   -- ---- a batch
 
-  pub batch_done : (bucket : List ℕ) (after upto : ℕ) (result : Result Batch Memory) → IfOk result (λ batch. batch ≡ logs.batch_of after upto (log_at store.logs bucket))
-      → IfOk result (λ batch. batch ≡ batch_of l bucket after upto)
-  batch_done bucket after upto result is = subst (λ (b : Batch). IfOk result (λ batch. batch ≡ b))
-      (ap (logs.batch_of after upto) (h.stands.logs bucket) ∙ sym ((reads_one fixed.rules history h.legal h.plain).batch bucket after upto)) is
+  module _ (bucket : List ℕ) (ending : Option StoredEnding) (found : option_map ending_from ending ≡ ending_at store.generations bucket) where
+    ending_is : option_map ending_from ending ≡ ending_of bucket l.ended
+    ending_is = found ∙ h.stands.generations.endings bucket
+
+    -- of a generation that lives it is read of the log
+    pub live_log : ending ≡ None → log_of l bucket ≡ l.log bucket
+    live_log none = ap (λ (o : Option Ending). if is_some o then [] else l.log bucket) (sym ending_is ∙ ap (option_map ending_from) none)
+
+    pub batch_live : ending ≡ None → (log : List Op) → log ≡ log_of l bucket → (after upto : ℕ) (result : Result Batch Memory) → IfOk result (λ batch. batch ≡ logs.batch_of after upto log)
+        → IfOk result (λ batch. batch ≡ batch_of l bucket after upto)
+    batch_live none log is after upto result said = subst (λ (b : Batch). IfOk result (λ batch. batch ≡ b))
+        (ap (logs.batch_of after upto) (is ∙ live_log none) ∙ ap (λ (o : Option Ending). batch_in o (l.log bucket) after upto) (sym (ap (option_map ending_from) none) ∙ ending_is)) said
+
+    -- of one that ended it is what its end says
+    pub batch_ended : (e : StoredEnding) (after upto : ℕ) → ending ≡ Some e → batch_in (Some (ending_from e)) (l.log bucket) after upto ≡ batch_of l bucket after upto
+    batch_ended e after upto is = ap (λ (o : Option Ending). batch_in o (l.log bucket) after upto) (sym (ap (option_map ending_from) is) ∙ ending_is)

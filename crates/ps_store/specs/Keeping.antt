@@ -1,9 +1,10 @@
 -- What a lock knows of a store between two turns.
-use Rattle.std.specs.Prelude.{◌≤◌, List, length, take}
+use Rattle.std.specs.Prelude.{◌≡◌, ◌≤◌, false, List, length, take}
 use Rattle.std.specs.List.{AllByRecursion}
 use Rattle.ps_store.specs.declared.events.Event.{Event}
 use Rattle.ps_store.specs.declared.fixed.Fixed.{Fixed}
 use Rattle.ps_store.specs.declared.stores.Store.{Store}
+use Rattle.ps_store.specs.Histories.{has_deploy}
 use Rattle.ps_store.specs.Ledgers.{Ledger, ledger_of}
 use Rattle.ps_store.specs.Originals.{Timed, timed, key_of, entries_at}
 use Rattle.ps_store.specs.Stores.{StoreStandsFor}
@@ -16,6 +17,10 @@ IsNarrow fixed t = length (entries_at fixed.rules.definitions (key_of t) t.chang
 abbrev pub AreNarrow : Fixed → Ledger → Type 0
 AreNarrow fixed l = AllByRecursion (IsNarrow fixed) (take l.written (timed l.fed))
 
--- the store stands for a history, each of whose written changes was narrow
+-- what a lock knows of its history: each written change was narrow, and no new rules came
+abbrev pub IsLockHistory : Fixed → List Event → Type 0
+IsLockHistory fixed history = AreNarrow fixed (ledger_of fixed.rules history) × (has_deploy history ≡ false)
+
+-- the store stands for such a history
 abbrev pub KeepsHistory : Fixed → Store → List Event → Type 0
-KeepsHistory fixed store history = StoreStandsFor fixed store history × AreNarrow fixed (ledger_of fixed.rules history)
+KeepsHistory fixed store history = StoreStandsFor fixed store history × IsLockHistory fixed history

@@ -18,10 +18,12 @@ pub mod Rows
 pub mod Tails
 pub mod Totals
 pub mod Plans
-pub mod Stores
-pub mod Keeping
 pub mod Readings
 pub mod Costs
+pub mod StoreGenerations
+pub mod Stores
+pub mod Deploys
+pub mod Keeping
 pub mod Histories
 pub mod LedgerLaws
 pub mod TotalsLaws

@@ -1,5 +1,5 @@
 -- Original operations: how the changes of a source are written into buckets. No compaction occurs in them.
-use Rattle.std.specs.Prelude.{ℕ, ◌+◌, Bool, ◌&&◌, not, List, [], ◌∷◌, ◌++◌, map, filter, flat_map, length, Option, Some, None, option_map, bytes_eq}
+use Rattle.std.specs.Prelude.{ℕ, ◌+◌, Bool, ◌&&◌, not, List, [], ◌∷◌, ◌++◌, map, filter, flat_map, length, Option, option_map, bytes_eq}
 use Rattle.std.specs.List.{list_any}
 use Rattle.std.specs.FinMap.Entries.{find}
 use Rattle.ps_data.specs.declared.columns.Column.{Column}

@@ -1,8 +1,9 @@
 -- The store stands for a history.
-use Rattle.std.specs.Prelude.{◌≡◌, ◌≢◌, ℕ, ◌+◌, ◌*◌, ◌^◌, ◌≤◌, ◌<◌, ◌⊎◌, max, true, false, List, [], ◌∷◌, ◌++◌, length, take, drop, Option, Some, None, Result, Ok, Err}
+use Rattle.std.specs.Prelude.{◌≡◌, ◌≢◌, ℕ, ◌+◌, ◌*◌, ◌^◌, ◌≤◌, ◌<◌, ◌⊎◌, max, true, false, if◌then◌else◌, nat_lt, List, [], ◌∷◌, ◌++◌, length, take, drop, Option, Some, None, Result, Ok, Err}
 use Rattle.std.specs.FinMap.Entries.{find}
 use Rattle.ps_bucket_log.specs.Logs.{IsRising}
 use Rattle.ps_bucket_log.specs.Ops.{newest}
+use Rattle.ps_data.specs.declared.ids.OpId.{OpId}
 use Rattle.ps_data.specs.declared.ids.Position.{Position}
 use Rattle.ps_rows.specs.declared.changes.Change.{Change}
 use Rattle.ps_rows.specs.declared.changes.Transaction.{Transaction}
@@ -34,13 +35,14 @@ use Rattle.ps_store.specs.declared.stores.Checkpoint.{Checkpoint}
 use Rattle.ps_store.specs.declared.stores.Store.{Store}
 use Rattle.ps_store.specs.declared.stores.Wrote.{Wrote}
 use Rattle.ps_store.specs.Ledgers.{Ledger, head_of, unwritten, entries_after, next_ops, ledger_of, IsLegal, last_number, force_ops}
-use Rattle.ps_store.specs.Histories.{has_deploy}
 use Rattle.ps_store.specs.Laws.{HaveNumbers}
 use Rattle.ps_store.specs.Limits.{greatest, AreWithin}
 use Rattle.ps_store.specs.Originals.{Timed, timed, standing_entries, in_bucket}
 use Rattle.ps_store.specs.Reach.{reached}
 use Rattle.ps_store.specs.Rows.{row_at}
+use Rattle.ps_store.specs.Readings.{committed_of}
 use Rattle.ps_store.specs.Runs.{Run, run_from}
+use Rattle.ps_store.specs.StoreGenerations.{by_of, log_in, IndexStandsFor, HasGenerations, IsAlike, IsQueued}
 use Rattle.ps_store.specs.StoreLogs.{log_at, has_ops, first_ops}
 use Rattle.ps_store.specs.Tails.{Tied, Ascend, EndsRise, last_end, ids, reach_after, rows_after, notes_after}
 use Rattle.ps_store.specs.Totals.{totals_of, with_changes}
@@ -49,11 +51,8 @@ use Rattle.ps_store.specs.Totals.{totals_of, with_changes}
 
 -- from the checkpoint's position on, rows stand as the written changes left them, those of a transaction that is written in part
 -- among them
-pub record IndexStands (index : Index) (l : Ledger) : Type 0 where
-  pub rules : index.rules ≡ l.force.rules
-  pub forgotten : index.forgotten ≤ l.position
-  pub notes : SameFrom l.position (notes_after l.force.rules.definitions [] (take l.written (timed l.fed))) index.notes
-  pub ascend : Ascend index.last (unwritten l) (head_of l.fed)
+abbrev pub IndexStands : Index → Ledger → Type 0
+IndexStands index l = IndexStandsFor index l.force.rules l.position (take l.written (timed l.fed)) (unwritten l) (head_of l.fed)
 
 -- the numbers are those of the write checkpoints that were made, under a greatest number, and none was made past the head
 pub record NumbersStand (top : ℕ) (kept : Kept) (made : List Made) (head : ℕ) : Type 0 where
@@ -81,29 +80,32 @@ pub record IsKept (limits : Limits) (l : Ledger) : Type 0 where
   pub narrow : (key : Key) → length (standing_entries l.force.rules.definitions l.force.source key) ≤ limits.entries
 
 pub record Stands (store : Store) (l : Ledger) : Type 0 where
-  pub rules : l.force.rules ≡ store.fixed.rules
-  pub logs : (bucket : List ℕ) → log_at store.logs bucket ≡ l.log bucket
+  pub rules : l.force.rules ≡ (by_of store).rules
+  pub by_limits : (by_of store).limits ≡ store.fixed.limits
+  pub logs : (bucket : List ℕ) → log_at store.logs bucket ≡ log_in l.force.number l.log bucket
   pub changes : store.tail.changes.items ≡ unwritten l
   pub reach : reached store.tail.reach ≡ l.reach
   pub rows : (key : Key) → row_at store.rows key ≡ find key_cmp key l.force.source
   pub index : IndexStands store.index l
   pub last : store.last.0 ≡ l.last
+  pub wrote : store.wrote.0 ≡ l.wrote
   pub totals : store.totals ≡ totals_of l
   pub position : store.checkpoint.position.0 ≡ l.position
   pub op : store.checkpoint.op.0 ≡ l.op
+  pub committed : store.committed ≡ committed_of l
   pub head : store.head.0 ≡ head_of l.fed
   pub closed : store.closed ≡ l.closed
   pub numbers : NumbersStand store.fixed.limits.numbers store.numbers l.numbers (head_of l.fed)
+  pub generations : HasGenerations store.fixed.limits store.generations l
   pub kept : IsKept store.fixed.limits l
 
--- the store stands for a history that is legal, under its first rules and its limits; no new rules come in it
+-- the store stands for a history that is legal, under its first rules and its limits
 pub record StoreStandsFor (fixed : Fixed) (store : Store) (history : List Event) : Type 0 where
   pub fixed_is : store.fixed ≡ fixed
   pub limits : AreWithin fixed.limits
   pub rules : AreRules fixed.rules
   pub query_numbers : HaveNumbers fixed.rules.definitions
   pub legal : IsLegal fixed.rules history
-  pub plain : has_deploy history ≡ false
   pub stands : Stands store (ledger_of fixed.rules history)
 
 -- ---- within a call
@@ -119,14 +121,21 @@ pub record IsSame (old new : Store) : Type 0 where
   pub index_forgotten : new.index.forgotten ≡ old.index.forgotten
   pub index_notes : SameFrom old.index.forgotten old.index.notes new.index.notes
   pub last : new.last ≡ old.last
+  pub wrote : new.wrote ≡ old.wrote
   pub totals : new.totals ≡ old.totals
   pub checkpoint : new.checkpoint ≡ old.checkpoint
+  pub committed : new.committed ≡ old.committed
   pub head : new.head ≡ old.head
   pub closed : new.closed ≡ old.closed
   pub numbers : new.numbers ≡ old.numbers
+  pub generations : IsAlike old.generations new.generations
 
--- a plan is written
-pub record IsFilled (old : Store) (plan : Plan) (new : Store) : Type 0 where
+-- the last id of a write after a plan: the one before, where it has no operation
+abbrev pub wrote_by : OpId → Plan → OpId
+wrote_by wrote plan = if nat_lt 0 (length plan.entered.items) then plan.last else wrote
+
+-- a plan is written, and its changes are put behind the queue of a generation that is being built
+pub record IsFilled (old : Store) (plan : Plan) (copies : List Timed) (new : Store) : Type 0 where
   pub fixed : new.fixed ≡ old.fixed
   pub logs : (bucket : List ℕ) → log_at new.logs bucket ≡ log_at old.logs bucket ++ in_bucket bucket plan.entered.items
   pub changes : new.tail.changes.items ≡ drop (length plan.made.items) old.tail.changes.items
@@ -138,11 +147,14 @@ pub record IsFilled (old : Store) (plan : Plan) (new : Store) : Type 0 where
   pub index_notes : new.index.notes ≡ notes_after old.index.rules.definitions old.index.notes (take (length plan.made.items) old.tail.changes.items)
   pub index_ascend : (head : ℕ) → Ascend old.index.last old.tail.changes.items head → Ascend new.index.last new.tail.changes.items head
   pub last : new.last ≡ plan.last
+  pub wrote : new.wrote ≡ wrote_by old.wrote plan
   pub totals : new.totals ≡ with_changes old.totals (length plan.made.items) (first_ops (log_at old.logs) plan.entered.items) plan.entered.items
   pub checkpoint : new.checkpoint ≡ old.checkpoint
+  pub committed : new.committed ≡ old.committed
   pub head : new.head ≡ old.head
   pub closed : new.closed ≡ old.closed
   pub numbers : new.numbers ≡ old.numbers
+  pub generations : IsQueued old.generations copies new.generations
 
 -- the row of the next change has more entries than one may have, or there is no memory to name it
 abbrev pub IsTooWide : Store → ℕ → WriteFault → Type 0

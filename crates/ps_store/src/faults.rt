@@ -69,7 +69,7 @@ impl From<Memory> for WriteFault {
 /// Why a bucket was not compacted.
 #[derive(Clone, Copy, Debug, PartialEq, Eq)]
 pub enum CompactFault {
-    /// The bucket never had an operation.
+    /// The name is no bucket of the generation in force that ever had an operation.
     NoBucket,
     /// Out of memory.
     Memory,

@@ -22,10 +22,12 @@ pub struct Limits {
     pub buckets: u32,
     /// The most entries of one row.
     pub entries: u32,
+    /// The greatest number of a generation of buckets.
+    pub generations: u32,
 }
 
 impl Limits {
-    /// 9223372036854775807 for ids, numbers and positions, and 1,000 for buckets and entries.
+    /// 9223372036854775807 for ids, numbers and positions, 1,000 for buckets and entries, and 1,000,000 for generations.
     pub fn usual() -> Limits
         ensures value { result ≡ usual_limits }
         ensures within { AreWithin result }
@@ -36,6 +38,7 @@ impl Limits {
             positions: GREATEST,
             buckets: 1000,
             entries: 1000,
+            generations: 1_000_000,
         }
     }
 }

@@ -6,7 +6,7 @@ ghost use Rattle.ps_store.specs.Histories.{LedgersTellHistories, LedgersTellOneG
 ghost use Rattle.ps_store.specs.CourseLaws.{CoursesAreLawful, PlacesStay, EndsAreWhole, UploadsAreCovered, CoveredNumbersAreLow, UploadsAreFed};
 ghost use Rattle.ps_store.specs.LedgerLaws.{LedgersTellFeeds, CheckpointsBegin, CheckpointsAreReached, SwitchesAreReached, LedgersTellReach, LedgersTellOps, OneGenerationReads, ReadersHoldCommitted, CommittedRowsAreDue};
 ghost use Rattle.ps_store.specs.TotalsLaws.{TotalsTell, WrittenTell, BucketNamesTell, CompactionKeepsTotals, GenerationsKeepTotals};
-ghost use Rattle.ps_store.specs.IndexLaws.{IndexesGiveBuckets};
+ghost use Rattle.ps_store.specs.IndexLaws.{IndexesGiveBuckets, IndexesGiveBuilt};
 ghost use Rattle.ps_store.specs.LogLaws.{LogsStand, ReadersComeThrough};
 ghost use Rattle.ps_store.specs.LongestRuns.{RunsAreLongest};
 ghost use Rattle.ps_store.specs.Worked.{GenerationsTakeOver};
@@ -190,9 +190,11 @@ pub fn places_are_fronts()
 {}
 
 /// A law: at the checkpoint's position, and at that of each later transaction that is written in whole, the index of a store's parameter
-/// rows gives each asker the buckets that the asker has over the source there.
+/// rows gives each asker the buckets that the asker has over the source there. That of a generation that is being built gives those over the
+/// rows that it has so far.
 pub fn indexes_give_buckets()
-    ensures { IndexesGiveBuckets }
+    ensures force { IndexesGiveBuckets }
+    ensures built { IndexesGiveBuilt }
 {
     notes_of_changes_are_the_source();
 }

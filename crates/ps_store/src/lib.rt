@@ -1,13 +1,19 @@
 //! The store of a service: how the changes of a source are written into buckets, and what the readers of buckets then hold.
 #![tactic(auto)]
 
+mod building;
+mod deploying;
+mod deploys;
 mod entered;
 mod events;
 mod faults;
 mod fixed;
+mod generations;
 mod kept;
+mod lasts;
 mod laws;
 mod logs;
+mod marking;
 mod numbers;
 mod places;
 mod plans;
@@ -21,6 +27,7 @@ mod totals;
 mod uncounted;
 mod waiting;
 
+pub use deploying::{BuildFault, Built, DeployFault, NothingBuilding, SwitchFault};
 pub use entered::Entered;
 pub use events::Event;
 pub use faults::{CompactFault, FeedFault, NothingToCommit, WriteFault};

@@ -50,6 +50,20 @@ impl Reach {
         self.op
     }
 
+    /// How many changes past what is reached are written.
+    pub(crate) fn over(&self) -> u64
+        ensures { result ≡ (reached self.now).over }
+    {
+        self.over
+    }
+
+    /// How many fed transactions are past what is reached.
+    pub(crate) fn waiting(&self) -> u64
+        ensures { result ≡ length (reached self.now).left }
+    {
+        self.ends.len() as u64
+    }
+
     // Passes the first transaction that is left, if all its changes are written, and says whether it did.
     fn pass(&mut self, last: OpId) -> bool
         ensures same { settled last.0 (reached self.new) ≡ settled last.0 (reached self.old) }

@@ -1,16 +1,21 @@
 //! The live rows. A place may stand empty, so that a row can come without memory; no contract sees an empty place but
 //! `has_place`.
 
-ghost use Rattle.std.specs.Prelude.{◌≡◌, None, true, IfOk, OnOk, if◌then◌else◌};
+ghost use Rattle.std.specs.Prelude.{◌≡◌, None, true, IfOk, OnOk, if◌then◌else◌, map, take, IsPermutation, IsSortedByKey};
 ghost use Rattle.std.specs.Option.{option_copied};
 ghost use Rattle.std.specs.Ordering.{eq_by_cmp};
-ghost use Rattle.ps_rows.specs.Source.{Key, key_cmp};
+ghost use Rattle.ps_rows.specs.Source.{Key, Source, key_cmp};
+ghost use Rattle.ps_store.specs.Generations.{last_change as last_change_of, queue_of};
 ghost use Rattle.ps_store.specs.Rows.{row_at, has_place};
+ghost use Rattle.ps_store.specs.Rows.{live_in, HaveOwnMoments, moment_of, moment_cmp};
+ghost use Rattle.ps_store.specs.StoreGenerations.{IsRowsOf};
+ghost use Rattle.ps_store.specs.Tails.{HasPlaces};
 
+use crate::waiting::{Waiting, push_all};
 use ps_data::{Memory, Position, Text};
-use ps_rows::Row;
+use ps_rows::{Change, Row};
 use std::alloc::Global;
-use std::collections::BTreeMap;
+use std::collections::{BTreeMap, VecDeque};
 use std::marker::Model;
 
 /// A table and an id.
@@ -55,6 +60,15 @@ impl Live {
     {
         &self.row
     }
+
+    // An equal change to the one that left the row.
+    fn last_change(&self, alloc: Global, key: &RowKey) -> Result<Waiting, Memory>
+        ensures { IfOk result (λ change. change ≡ last_change_of (key.now, self.now)) }
+    {
+        let (table, id) = copy_key(alloc, key)?;
+        let row = Some(self.row.copy(alloc)?);
+        Ok(Waiting::new(self.position, self.index, Change { table, id, row }))
+    }
 }
 
 /// An equal key.
@@ -90,6 +104,32 @@ impl Rows {
         }
     }
 
+    // Equal changes to those that left the rows, in the order of the rows.
+    fn changes_by_row(&self, alloc: Global) -> Result<Vec<Waiting>, Memory>
+        ensures { IfOk result (λ changes. changes.items ≡ map last_change_of (live_in self.now.places.entries)) }
+    {
+        let mut changes = Vec::new(alloc);
+        'places: for (key, place) in self.places.iter() {
+            if let Some(live) = place {
+                changes.push(live.last_change(alloc, key)?)?;
+            }
+        }
+        Ok(changes)
+    }
+
+    /// Equal changes to those that left the rows, in the order in which they came.
+    pub(crate) fn last_changes(&self, alloc: Global) -> Result<VecDeque<Waiting>, Memory>
+        ensures { IfOk result (λ queue. (source : Source) → IsRowsOf self.now source → HaveOwnMoments source → queue.items ≡ queue_of source) }
+    {
+        let _count = self.places.len();
+        let mut changes = self.changes_by_row(alloc)?;
+        sort_by_moment(&mut changes);
+        let mut queue = VecDeque::new(alloc);
+        queue.reserve(changes.len())?;
+        push_all(&mut queue, changes);
+        Ok(queue)
+    }
+
     /// Makes a place for a row. No row changes, also where it is out of memory.
     pub(crate) fn make_place(&mut self, key: RowKey) -> Result<(), Memory>
         ensures rows { (other : Key) → row_at self.new other ≡ row_at self.old other }
@@ -122,4 +162,30 @@ impl Rows {
             let _place = self.places.remove(key);
         }
     }
+}
+
+// Puts changes in the order of their moments. Takes no memory.
+fn sort_by_moment(changes: &mut Vec<Waiting>)
+    ensures same { IsPermutation changes.old.items changes.new.items }
+    ensures sorted { IsSortedByKey moment_of moment_cmp changes.new.items }
+{
+    changes.sort_unstable_by_key(|change: &Waiting| change.moment());
+}
+
+/// Makes a place for the row of each of the first changes. No row changes, also where it is out of memory.
+pub(crate) fn make_places(
+    alloc: Global,
+    rows: &mut Rows,
+    changes: &VecDeque<Waiting>,
+    count: usize,
+) -> Result<(), Memory>
+    ensures rows { (key : Key) → row_at rows.new key ≡ row_at rows.old key }
+    ensures ok { OnOk result (HasPlaces rows.new (take count changes.now.items)) }
+{
+    let within = count.min(changes.len());
+    'changes: for place in 0..within {
+        let key = changes[place].key(alloc)?;
+        rows.make_place(key)?;
+    }
+    Ok(())
 }

@@ -1,6 +1,7 @@
 //! The store.
 
-ghost use Rattle.std.specs.Prelude.{◌≡◌, ◌+◌, ◌≤◌, ◌<◌, ◌∷◌, ◌++◌, [], take, length, List, OnOk, IfOk, IsSome, All};
+ghost use Rattle.std.specs.Prelude.{◌≡◌, ◌+◌, ◌-◌, ◌≤◌, ◌<◌, ◌∷◌, ◌++◌, [], take, length, List, ℕ, Some, OnOk, IfOk, IsSome, All};
+ghost use Rattle.ps_bucket_log.specs.declared.ops.Op.{Op as OpSeen};
 ghost use Rattle.ps_rows.specs.declared.changes.Change.{Change as ChangeSeen};
 ghost use Rattle.ps_rows.specs.Source.{Key};
 ghost use Rattle.ps_sql_eval.specs.Evaluated.{asker_of};
@@ -10,23 +11,27 @@ ghost use Rattle.ps_store.specs.declared.fixed.Fixed.{Fixed as FixedSeen};
 ghost use Rattle.ps_store.specs.Costs.{TakesFew, ReadsFew};
 ghost use Rattle.ps_store.specs.Ledgers.{ledger_of, head_of};
 ghost use Rattle.ps_store.specs.Limits.{greatest, AreWithin};
-ghost use Rattle.ps_store.specs.Readings.{Takes, batch_of, covered_of, log_length_of};
+ghost use Rattle.ps_store.specs.Readings.{Takes, batch_in, batch_of, covered_of, log_length_of, nothing_read};
 ghost use Rattle.ps_store.specs.StoreLogs.{HasRoom, Continue, AreRising, log_at};
 ghost use Rattle.ps_store.specs.Rows.{row_at};
 ghost use Rattle.ps_store.specs.Reach.{reached};
 ghost use Rattle.ps_store.specs.Tails.{Tied, HasPlaces, NotFalling, AreRowsOf};
 ghost use Rattle.ps_store.specs.Totals.{totals_of, bucket_names_of, HaveRoom};
 ghost use Rattle.ps_store.specs.Stores.{StoreStandsFor, Writes, Feeds, Commits, Compacts, IsSame, IsFilled, IsTooWide, IsNamed, Uploads, MakesNumber};
+ghost use Rattle.ps_store.specs.StoreGenerations.{by_of, ending_from, log_of, FitsQueue, IsCopyOf, IsMarked};
 
 use crate::faults::{CompactFault, FeedFault, NothingToCommit, WriteFault};
 use crate::fixed::{Limits, Shared};
+use crate::generations::{Ending, Generations};
+use crate::lasts::keep_writes;
 use crate::laws::logs_stand_for_originals;
 use crate::logs::Logs;
+use crate::marking::{has_mark, mark_buckets, with_mark};
 use crate::numbers::have_numbers;
 use crate::plans::{Plan, Planned, Refusal, plan_run, tidy_all};
 use crate::readings::TakeFault;
 use crate::rooms::rooms_for;
-use crate::rows::Rows;
+use crate::rows::{Rows, make_places};
 use crate::tails::{Tail, advance};
 use crate::totals::{Totals, sum_of};
 use crate::waiting::Waiting;
@@ -43,6 +48,7 @@ use ps_sql_eval::Asker;
 use ps_write_cp::{NumberFault, WriteCheckpoints};
 use std::alloc::Global;
 use std::collections::VecDeque;
+use std::mem;
 use std::sync::ledger::Ledger;
 
 /// What clients are shown: the source at a position, and the operations up to an id.
@@ -50,7 +56,8 @@ use std::sync::ledger::Ledger;
 pub struct Checkpoint {
     /// The position of the last transaction of which, and of all before which, every change is written; 0 where none.
     pub position: Position,
-    /// The last id of the operations of the transactions up to there, 0 where none.
+    /// The last id that a write gave for a change of the transactions up to there, 0 where none; where a switch came later than
+    /// that id, its own.
     pub op: OpId,
 }
 
@@ -65,20 +72,23 @@ pub struct Wrote {
     pub last_op: OpId,
 }
 
-/// The store of a service: the transactions that were fed, their changes as operations of buckets, as far as they are
-/// written, and what of them clients are shown.
+/// The store of a service: the transactions that were fed, their changes as operations of the buckets of the generation in force,
+/// as far as they are written, and what of them clients are shown; and a generation that is being built by new rules, if one is.
 pub struct Store {
-    fixed: Shared,
-    logs: Logs,
-    rows: Rows,
-    tail: Tail,
-    index: ParameterIndex,
-    last: OpId,
-    totals: Totals,
-    checkpoint: Checkpoint,
-    head: Position,
-    closed: bool,
-    numbers: WriteCheckpoints,
+    pub(crate) fixed: Shared,
+    pub(crate) logs: Logs,
+    pub(crate) rows: Rows,
+    pub(crate) tail: Tail,
+    pub(crate) index: ParameterIndex,
+    pub(crate) last: OpId,
+    pub(crate) wrote: OpId,
+    pub(crate) totals: Totals,
+    pub(crate) checkpoint: Checkpoint,
+    pub(crate) committed: u64,
+    pub(crate) head: Position,
+    pub(crate) closed: bool,
+    pub(crate) numbers: WriteCheckpoints,
+    pub(crate) generations: Generations,
 }
 
 // By hand: docs/DECISIONS.md, "Drops".
@@ -91,11 +101,14 @@ impl Drop for Store {
             tail: _tail,
             index: _index,
             last: _last,
+            wrote: _wrote,
             totals: _totals,
             checkpoint: _checkpoint,
+            committed: _committed,
             head: _head,
             closed: _closed,
             numbers: _numbers,
+            generations: _generations,
         } = self;
     }
 }
@@ -116,14 +129,17 @@ impl Store {
             tail: Tail::new(alloc),
             index,
             last: OpId(0),
+            wrote: OpId(0),
             totals: Totals::new(),
             checkpoint: Checkpoint {
                 position: Position(0),
                 op: OpId(0),
             },
+            committed: 0,
             head: Position(0),
             closed: false,
             numbers: WriteCheckpoints::new(alloc, limits.numbers),
+            generations: Generations::new(alloc)?,
         })
     }
 
@@ -146,7 +162,7 @@ impl Store {
         self.tail.reserve(transaction.changes.len())?;
         self.totals.feed();
         self.head = transaction.position;
-        self.tail.feed(transaction, self.last);
+        self.tail.feed(transaction, self.wrote);
         Ok(())
     }
 
@@ -175,17 +191,45 @@ impl Store {
         self.closed = true;
     }
 
-    // Makes all the room that a plan wants. Nothing that is held changes, also where it is out of memory.
-    fn grow(&mut self, alloc: Global, plan: &Plan) -> Result<(), Memory>
-        ensures same { IsSame self.old self.new }
-        ensures room { OnOk result (HasRoom self.new.logs plan.now.entered.items) }
-        ensures notes { OnOk result (length plan.now.made.items ≤ self.new.index.spare) }
-        ensures places { OnOk result (HasPlaces self.new.rows (take (length plan.now.made.items) self.old.tail.changes.items)) }
+    // The rules in force, and the limits.
+    pub(crate) fn by(&self) -> &Shared
+        ensures { result.now ≡ by_of self.now }
     {
+        match &self.generations.by {
+            Some(by) => by,
+            None => &self.fixed,
+        }
+    }
+
+    // How many of the fed transactions are reached.
+    pub(crate) fn reached_count(&self) -> u64
+        ensures { result ≡ self.now.totals.transactions - length (reached self.now.tail.reach).left }
+    {
+        self.totals
+            .transactions
+            .saturating_sub(self.tail.reach.waiting())
+    }
+
+    // Makes all the room that a plan wants, and copies its changes for a generation that is being built; the plan's buckets get
+    // the mark of the generation in force. Nothing that is held changes, also where it is out of memory.
+    fn grow(&mut self, alloc: Global, plan: &mut Plan) -> Result<Vec<Waiting>, Memory>
+        ensures same { IsSame self.old self.new }
+        ensures plan { OnOk result (IsMarked self.old.generations.mark self.old.last.0 self.old.wrote.0 plan.old plan.new) }
+        ensures room { OnOk result (HasRoom self.new.logs plan.new.entered.items) }
+        ensures notes { OnOk result (length plan.new.made.items ≤ self.new.index.spare) }
+        ensures places { OnOk result (HasPlaces self.new.rows (take (length plan.new.made.items) self.old.tail.changes.items)) }
+        ensures copies { IfOk result (λ copies. IsCopyOf self.new.generations.building (take (length plan.new.made.items) self.old.tail.changes.items) copies.items) }
+        ensures queue { IfOk result (λ copies. FitsQueue self.new.generations.building copies.items) }
+    {
+        let entered = mem::replace(&mut plan.entered, Vec::new(alloc));
+        plan.entered = mark_buckets(alloc, &self.generations.mark, entered)?;
+        keep_writes(&mut plan.made, self.last, self.wrote);
         let rooms = rooms_for(alloc, plan.entered.as_slice())?;
         self.logs.reserve_all(alloc, &rooms)?;
         self.index.reserve(alloc, plan.made.len())?;
-        make_places(alloc, &mut self.rows, &self.tail.changes, plan.made.len())
+        make_places(alloc, &mut self.rows, &self.tail.changes, plan.made.len())?;
+        self.generations
+            .copy_next(alloc, &self.tail.changes, plan.made.len())
     }
 
     // Finds places for the notes of the last batch, as far as memory is there. Nothing that is held changes.
@@ -196,7 +240,7 @@ impl Store {
     }
 
     // Writes what is planned, in room that is there. Takes no memory.
-    fn fill(&mut self, plan: Plan)
+    fn fill(&mut self, plan: Plan, copies: Vec<Waiting>)
         requires room { HasRoom self.old.logs plan.entered.items }
         requires newer { Continue (log_at self.old.logs) plan.entered.items }
         requires tied { Tied self.old.tail.changes.items (reached self.old.tail.reach) }
@@ -207,7 +251,8 @@ impl Store {
         requires rise { NotFalling self.old.index.last self.old.tail.changes.items }
         requires rising { AreRising (log_at self.old.logs) }
         requires counts { HaveRoom self.old.totals (length plan.made.items) (length plan.entered.items) }
-        ensures { IsFilled self.old plan self.new }
+        requires queue { FitsQueue self.old.generations.building copies.items }
+        ensures { IsFilled self.old plan copies.items self.new }
     {
         let last = plan.last();
         let (seen, entered, made) = plan.into_parts();
@@ -219,6 +264,10 @@ impl Store {
         tidy_all(&mut self.rows, &seen);
         self.totals.write(changes, operations, first, sum);
         self.last = last;
+        if 0 < operations {
+            self.wrote = last;
+        }
+        self.generations.enqueue(copies);
     }
 
     // Why the next change cannot be written, in the words of the fault.
@@ -264,31 +313,31 @@ impl Store {
         }
         let planned = plan_run(
             alloc,
-            &self.fixed,
+            self.by(),
             &self.rows,
             self.last,
             &self.tail.changes,
             limit as usize,
         )?;
         let Planned {
-            plan,
+            mut plan,
             count,
             refusal,
         } = planned;
         if count == 0 {
             return Err(self.refused(alloc, refusal));
         }
-        if self.grow(alloc, &plan).is_err() {
+        let Ok(copies) = self.grow(alloc, &mut plan) else {
             let (seen, _entered, _made) = plan.into_parts();
             tidy_all(&mut self.rows, &seen);
             return Err(WriteFault::Memory);
-        }
+        };
         let wrote = Wrote {
             changes: count as u32,
             ops: plan.entered.len() as u32,
             last_op: plan.last(),
         };
-        self.fill(plan);
+        self.fill(plan, copies);
         self.settle(alloc);
         Ok(wrote)
     }
@@ -305,8 +354,9 @@ impl Store {
         self.index.forget(position);
         self.checkpoint = Checkpoint {
             position,
-            op: self.tail.reach.op(),
+            op: OpId(self.checkpoint.op.0.max(self.tail.reach.op().0)),
         };
+        self.committed = self.reached_count();
         Ok(self.checkpoint)
     }
 
@@ -315,7 +365,7 @@ impl Store {
     pub fn compact(&mut self, alloc: Global, bucket: &Text) -> Result<Report, CompactFault>
         ensures { (fixed : FixedSeen) (history : List EventSeen) → StoreStandsFor fixed self.old history → Compacts fixed history bucket.now self.new result }
     {
-        if self.log_length(bucket) == 0 {
+        if self.logs.count_upto(bucket, self.last) == 0 {
             return Err(CompactFault::NoBucket);
         }
         logs_stand_for_originals();
@@ -357,13 +407,14 @@ impl Store {
         notes_of_changes_are_the_source();
         let names = self
             .index
-            .rows_for(alloc, self.fixed.rules(), asker, self.checkpoint.position)?;
+            .rows_for(alloc, self.by().rules(), asker, self.checkpoint.position)?;
         let count = names.len();
         if count > self.fixed.limits().buckets as usize {
             return Err(TakeFault::TooManyBuckets {
                 count: count as u64,
             });
         }
+        let names = with_mark(alloc, &self.generations.mark, names)?;
         let number = self.covered(asker);
         let buckets = self.logs.buckets(alloc, names, self.checkpoint.op, steps)?;
         Ok(Taken {
@@ -377,7 +428,9 @@ impl Store {
     }
 
     /// The next operations of a bucket with ids past `after` and up to `upto`, as many as one batch may have; an empty batch
-    /// for a bucket that is not there. Where it gives n operations of a log of N, it takes at most n + 2d + 4 steps, with d as at `take`.
+    /// for a bucket that is not there. Where a switch past `upto` ended the bucket's generation, an empty one that is passed by it;
+    /// where one at most `upto`, or an abandoning, did, an empty one. Where it gives n operations of a log of N, it takes at most
+    /// n + 2d + 4 steps, with d as at `take`.
     pub fn read_batch<L: Ledger>(
         &self,
         alloc: Global,
@@ -391,7 +444,10 @@ impl Store {
         ensures cost { (fixed : FixedSeen) (history : List EventSeen) → StoreStandsFor fixed self.now history
             → ReadsFew (ledger_of fixed.rules history) bucket.now result steps.old steps.new }
     {
-        self.logs.read(alloc, bucket, after, upto, steps)
+        match self.generations.ending(alloc, bucket)? {
+            None => self.logs_of(bucket).read(alloc, bucket, after, upto, steps),
+            Some(ending) => Ok(ended_batch(alloc, ending, upto)),
+        }
     }
 
     /// Makes a write checkpoint of a user's client at the position of the last fed transaction, 0 where none, and gives its number: one more
@@ -449,24 +505,52 @@ impl Store {
     pub fn log_length(&self, bucket: &Text) -> u64
         ensures { (fixed : FixedSeen) (history : List EventSeen) → StoreStandsFor fixed self.now history → result ≡ log_length_of (ledger_of fixed.rules history) bucket.now }
     {
-        self.logs.count_upto(bucket, self.last)
+        self.logs_of(bucket).count_upto(bucket, self.last)
+    }
+
+    // The logs among which a bucket's would be: those of the generation that is being built, where its mark is in front of the
+    // name, else those of the one in force.
+    fn logs_of(&self, bucket: &Text) -> &Logs
+        ensures { (fixed : FixedSeen) (history : List EventSeen) → StoreStandsFor fixed self.now history
+            → log_at result.now bucket.now ≡ log_of (ledger_of fixed.rules history) bucket.now }
+    {
+        match &self.generations.building {
+            Some(building) => {
+                if has_mark(&building.mark, bucket) {
+                    &building.logs
+                } else {
+                    &self.logs
+                }
+            }
+            None => &self.logs,
+        }
     }
 }
 
-// Makes a place for the row of each of the first changes. No row changes, also where it is out of memory.
-fn make_places(
-    alloc: Global,
-    rows: &mut Rows,
-    changes: &VecDeque<Waiting>,
-    count: usize,
-) -> Result<(), Memory>
-    ensures rows { (key : Key) → row_at rows.new key ≡ row_at rows.old key }
-    ensures ok { OnOk result (HasPlaces rows.new (take count changes.now.items)) }
+// What is read up to an id of a bucket whose generation ended.
+fn ended_batch(alloc: Global, ending: Ending, upto: OpId) -> Batch
+    ensures { (log : List OpSeen) (after : ℕ) → result ≡ batch_in (Some (ending_from ending)) log after upto.0 }
 {
-    let within = count.min(changes.len());
-    'changes: for place in 0..within {
-        let key = changes[place].key(alloc)?;
-        rows.make_place(key)?;
+    match ending {
+        Ending::Switched(id) => {
+            if upto.0 < id.0 {
+                empty_batch(alloc, Some(id))
+            } else {
+                empty_batch(alloc, None)
+            }
+        }
+        Ending::Abandoned => empty_batch(alloc, None),
     }
-    Ok(())
+}
+
+// A batch without operations, which a switch may pass by.
+fn empty_batch(alloc: Global, passed: Option<OpId>) -> Batch
+    ensures { result ≡ record nothing_read { passed = passed } }
+{
+    Batch {
+        ops: Items::new(alloc),
+        has_more: false,
+        target: None,
+        passed,
+    }
 }

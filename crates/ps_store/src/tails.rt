@@ -1,9 +1,9 @@
 //! What is fed and not written.
 
-ghost use Rattle.std.specs.Prelude.{◌≡◌, ℕ, ◌+◌, ◌≤◌, ◌<◌, ◌++◌, ◌∷◌, [], OnOk, length, take, drop, true, option_map};
+ghost use Rattle.std.specs.Prelude.{◌≡◌, ℕ, ◌+◌, ◌≤◌, ◌<◌, ◌++◌, ◌∷◌, [], List, OnOk, length, take, drop, true, option_map};
 ghost use Rattle.ps_rows.specs.Source.{Key};
 ghost use Rattle.ps_store.specs.Ledgers.{timed_of, end_of};
-ghost use Rattle.ps_store.specs.Originals.{timed_from, key_of};
+ghost use Rattle.ps_store.specs.Originals.{Timed, timed_from, key_of};
 ghost use Rattle.ps_store.specs.Rows.{row_at, has_place};
 ghost use Rattle.ps_store.specs.Noting.{noted, row_noted, with_note};
 ghost use Rattle.ps_store.specs.Reach.{reached, settled, end_room};
@@ -130,8 +130,50 @@ pub(crate) fn advance(tail: &mut Tail, rows: &mut Rows, index: &mut ParameterInd
     }
 }
 
-// Writes a change into the rows and the index, where the row that is noted comes a second time. Takes no memory.
-fn advance_one(rows: &mut Rows, index: &mut ParameterIndex, waiting: Waiting, row: Option<Row>)
+// Takes the first change out of a queue. Takes no memory.
+fn pop(queue: &mut VecDeque<Waiting>) -> Waiting
+    requires { 0 < length queue.old.items }
+    ensures { queue.old.items ≡ result ∷ queue.new.items }
+{
+    match queue.pop_front() {
+        Some(waiting) => waiting,
+        None => unreachable!(),
+    }
+}
+
+/// Writes the first changes of a queue into rows and an index, as many as were made. Takes no memory.
+pub(crate) fn take_front(
+    queue: &mut VecDeque<Waiting>,
+    rows: &mut Rows,
+    index: &mut ParameterIndex,
+    made: Vec<Made>,
+)
+    requires count { length made.items ≤ length queue.old.items }
+    requires places { HasPlaces rows.old (take (length made.items) queue.old.items) }
+    requires rows_are { AreRowsOf index.old.rules.definitions made.items queue.old.items }
+    requires room { length made.items ≤ index.old.spare }
+    requires rise { NotFalling index.old.last queue.old.items }
+    ensures changes { queue.new.items ≡ drop (length made.items) queue.old.items }
+    ensures rows { (key : Key) → row_at rows.new key ≡ rows_after (row_at rows.old) (take (length made.items) queue.old.items) key }
+    ensures index_rules { index.new.rules ≡ index.old.rules }
+    ensures index_forgotten { index.new.forgotten ≡ index.old.forgotten }
+    ensures index_notes { index.new.notes ≡ notes_after index.old.rules.definitions index.old.notes (take (length made.items) queue.old.items) }
+    ensures index_ascend { (rest : List Timed) (head : ℕ) → Ascend index.old.last (queue.old.items ++ rest) head → Ascend index.new.last (queue.new.items ++ rest) head }
+{
+    'steps: for one in made {
+        let Made { last: _, row } = one;
+        let waiting = pop(queue);
+        advance_one(rows, index, waiting, row);
+    }
+}
+
+/// Writes a change into the rows and the index, where the row that is noted comes a second time. Takes no memory.
+pub(crate) fn advance_one(
+    rows: &mut Rows,
+    index: &mut ParameterIndex,
+    waiting: Waiting,
+    row: Option<Row>,
+)
     requires place { has_place rows.old (key_of waiting) ≡ true }
     requires room { 1 ≤ index.old.spare }
     requires rises { index.old.last ≤ waiting.position }

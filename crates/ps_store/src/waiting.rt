@@ -1,12 +1,14 @@
 //! Changes that are fed and not written.
 
-ghost use Rattle.std.specs.Prelude.{◌≡◌, IfOk};
+ghost use Rattle.std.specs.Prelude.{◌≡◌, ◌≤◌, ◌-◌, ◌++◌, IfOk, length, take};
+ghost use Rattle.std.specs.VecDeque.{deque_len, deque_capacity};
 ghost use Rattle.ps_store.specs.Originals.{key_of};
 
 use crate::rows::RowKey;
 use ps_data::{Memory, Position};
 use ps_rows::{Change, Row};
 use std::alloc::Global;
+use std::collections::VecDeque;
 use std::marker::Model;
 
 /// A change with its moment: the position of its transaction, and its place there.
@@ -70,6 +72,30 @@ impl Waiting {
         self.change
     }
 
+    /// An equal change.
+    pub(crate) fn copy(&self, alloc: Global) -> Result<Waiting, Memory>
+        ensures { IfOk result (λ copy. copy ≡ self.now) }
+    {
+        let change = Change {
+            table: self.change.table.copy(alloc)?,
+            id: self.change.id.copy(alloc)?,
+            row: self.row(alloc)?,
+        };
+        Ok(Waiting {
+            position: self.position,
+            index: self.index,
+            change,
+        })
+    }
+
+    /// The position of the transaction and the place there, to put changes in order. Takes no memory.
+    pub(crate) fn moment(&self) -> (u64, u64)
+        ensures position { result.0 ≡ self.now.position }
+        ensures index { result.1 ≡ self.now.index }
+    {
+        (self.position.0, self.index)
+    }
+
     /// The table and the id of the row.
     pub(crate) fn key(&self, alloc: Global) -> Result<RowKey, Memory>
         ensures { IfOk result (λ key. key ≡ key_of self.now) }
@@ -88,4 +114,31 @@ impl Waiting {
             None => Ok(None),
         }
     }
+}
+
+/// Puts changes behind a queue, in room that is there. Takes no memory.
+pub(crate) fn push_all(queue: &mut VecDeque<Waiting>, changes: Vec<Waiting>)
+    requires { length changes.items ≤ deque_capacity queue.old - deque_len queue.old }
+    ensures { queue.new.items ≡ queue.old.items ++ changes.items }
+{
+    let _count = changes.len();
+    'changes: for waiting in changes {
+        queue.push_back_reserved(waiting);
+    }
+}
+
+/// Equal changes to the first ones of a queue.
+pub(crate) fn copy_front(
+    alloc: Global,
+    queue: &VecDeque<Waiting>,
+    count: usize,
+) -> Result<Vec<Waiting>, Memory>
+    requires { count ≤ length queue.now.items }
+    ensures { IfOk result (λ copies. copies.items ≡ take count queue.now.items) }
+{
+    let mut copies = Vec::new(alloc);
+    'changes: for place in 0..count {
+        copies.push(queue[place].copy(alloc)?)?;
+    }
+    Ok(copies)
 }

@@ -40,7 +40,7 @@ no_positions (t ∷ ts) h = absurd cc
 
 module _ (fixed : Fixed) (history : List Event) (stood : IsStoodFor fixed history) where
   kept : IsKept stood.0.fixed.limits (ledger_of fixed.rules history)
-  kept = stood.1.stands.kept
+  kept = stood.1.0.stands.kept
 
   -- what is committed up to the head is reached up to there
   reached_is : (ledger_of fixed.rules history).position ≡ head_of (ledger_of fixed.rules history).fed
@@ -156,9 +156,9 @@ module _ (fixed : Fixed) (one : LedgersTellOneGeneration) (front back : List Eve
         closed = over.drained.closed;
         written = over.drained.written;
         reached = reached_is fixed front over.stood over.drained.committed;
-        alone = (one fixed.rules front here.legal here.plain).building;
+        alone = (one fixed.rules front here.0.legal here.1.1).building;
       } in
-      let kept = still_stays back l still (legal_behind front back (fresh fixed.rules) stood.1.legal) (plain_behind front back stood.1.plain) in
+      let kept = still_stays back l still (legal_behind front back (fresh fixed.rules) stood.1.0.legal) (plain_behind front back stood.1.1.1) in
       let same : ledger_of fixed.rules (front ++ back) ≡ fold ledger_after l back = fold-append ledger_after (fresh fixed.rules) front back in
       let later : Stays l (ledger_of fixed.rules (front ++ back)) = subst (λ (x : Ledger). Stays l x) (sym same) kept.0 in
       record {

@@ -1,4 +1,4 @@
--- Each event leaves written changes narrow.
+-- Each event that a turn adds leaves written changes narrow, and brings no new rules.
 use Rattle.std.proofs.Common.{◌≡◌, ℕ, zero, suc, ◌+◌, ◌≤◌, Bool, true, false, List, [], ◌∷◌, ◌++◌, Some, None, refl, sym, ap, ◌∙◌, subst, length, take, drop, fold, arith, append_assoc, append-nil}
 use Rattle.std.specs.Prelude.{nat_lt, if◌then◌else◌}
 use Rattle.std.specs.List.{AllByRecursion}
@@ -9,11 +9,14 @@ use Rattle.ps_store.specs.declared.events.Event.{Event}
 use Rattle.ps_store.specs.declared.events.Event.TheVariants.{Feed, Close, Write, Commit, Compact, WriteCheckpoint}
 use Rattle.ps_store.specs.declared.fixed.Fixed.{Fixed}
 use Rattle.ps_store.specs.declared.stores.Store.{Store}
-use Rattle.ps_store.specs.Keeping.{IsNarrow, AreNarrow}
+use Rattle.ps_store.specs.Histories.{has_deploy}
+use Rattle.ps_store.specs.Keeping.{IsNarrow, AreNarrow, IsLockHistory}
 use Rattle.ps_store.specs.Ledgers.{Ledger, fresh, timed_of, unwritten, entries_after, next_ops, write_next, ledger_after, ledger_of, CanCome, IsLegalFrom}
 use Rattle.ps_store.specs.Originals.{Timed, timed, key_of, entries_at}
 use Rattle.ps_store.specs.Runs.{refusal_of, run_from, stopped}
 use Rattle.ps_store.specs.Stores.{StoreStandsFor, next_run}
+use Rattle.ps_store.proofs.NoDeploys.{plain_push}
+use Rattle.ps_store.proofs.OneGeneration.{one_history}
 
 -- ---- lists
 
@@ -49,37 +52,38 @@ length_take (suc n) (x ∷ xs) h = let e = length_take n xs (omega (arith, h)) i
 
 -- ---- events
 
-module _ (fixed : Fixed) (history : List Event) (h : AreNarrow fixed (ledger_of fixed.rules history)) where
+module _ (fixed : Fixed) (history : List Event) (h : IsLockHistory fixed history) where
   abbrev l : Ledger
   l = ledger_of fixed.rules history
 
-  after_event : (event : Event) → AreNarrow fixed (ledger_after l event) → AreNarrow fixed (ledger_of fixed.rules (history ++ event ∷ []))
-  after_event event k = subst (AreNarrow fixed) (sym (fold_more ledger_after (fresh fixed.rules) history event)) k
+  after_event : (event : Event) → has_deploy (event ∷ []) ≡ false → AreNarrow fixed (ledger_after l event) → IsLockHistory fixed (history ++ event ∷ [])
+  after_event event own narrow =
+      (subst (AreNarrow fixed) (sym (fold_more ledger_after (fresh fixed.rules) history event)) narrow, plain_push history event h.1 own)
 
-  pub close_narrow : AreNarrow fixed (ledger_of fixed.rules (history ++ Close ∷ []))
-  close_narrow = after_event Close h
+  pub close_kept : IsLockHistory fixed (history ++ Close ∷ [])
+  close_kept = after_event Close refl h.0
 
-  pub commit_narrow : AreNarrow fixed (ledger_of fixed.rules (history ++ Commit ∷ []))
-  commit_narrow = after_event Commit h
+  pub commit_kept : IsLockHistory fixed (history ++ Commit ∷ [])
+  commit_kept = after_event Commit refl h.0
 
-  pub compact_narrow : (bucket : List ℕ) → AreNarrow fixed (ledger_of fixed.rules (history ++ Compact bucket ∷ []))
-  compact_narrow bucket = after_event (Compact bucket) h
+  pub compact_kept : (bucket : List ℕ) → IsLockHistory fixed (history ++ Compact bucket ∷ [])
+  compact_kept bucket = after_event (Compact bucket) refl h.0
 
-  pub number_narrow : (user client : List ℕ) → AreNarrow fixed (ledger_of fixed.rules (history ++ WriteCheckpoint user client ∷ []))
-  number_narrow user client = after_event (WriteCheckpoint user client) h
+  pub number_kept : (user client : List ℕ) → IsLockHistory fixed (history ++ WriteCheckpoint user client ∷ [])
+  number_kept user client = after_event (WriteCheckpoint user client) refl h.0
 
 timed_more : (ts : List Transaction) (t : Transaction) → timed (ts ++ t ∷ []) ≡ timed ts ++ timed_of t
 timed_more [] t = append-nil (timed_of t)
 timed_more (u ∷ us) t = ap (λ xs. timed_of u ++ xs) (timed_more us t) ∙ sym (append_assoc (timed_of u) (timed us) (timed_of t))
 
 -- what is fed is not written yet
-pub feed_narrow : (fixed : Fixed) (store : Store) (history : List Event) (t : Transaction) → StoreStandsFor fixed store history → AreNarrow fixed (ledger_of fixed.rules history)
-    → AreNarrow fixed (ledger_of fixed.rules (history ++ Feed t ∷ []))
-feed_narrow fixed store history t stands h =
+pub feed_kept : (fixed : Fixed) (store : Store) (history : List Event) (t : Transaction) → StoreStandsFor fixed store history → IsLockHistory fixed history
+    → IsLockHistory fixed (history ++ Feed t ∷ [])
+feed_kept fixed store history t stands h =
     let l = ledger_of fixed.rules history in
     let same : take l.written (timed (l.fed ++ t ∷ [])) ≡ take l.written (timed l.fed) =
     ap (λ (us : List Timed). take l.written us) (timed_more l.fed t) ∙ take_within l.written (timed l.fed) (timed_of t) stands.stands.kept.within in
-    after_event fixed history h (Feed t) (subst (AllByRecursion (IsNarrow fixed)) (sym same) h)
+    after_event fixed history h (Feed t) refl (subst (AllByRecursion (IsNarrow fixed)) (sym same) h.0)
 
 -- ---- a batch
 
@@ -123,16 +127,16 @@ could_come [] l event legal = legal.0
 could_come (e ∷ es) l event legal = could_come es (ledger_after l e) event legal.1
 
 -- so are those of the run that a batch writes
-pub write_narrow : (fixed : Fixed) (store : Store) (history : List Event) (limit n : ℕ) → StoreStandsFor fixed store history → AreNarrow fixed (ledger_of fixed.rules history)
-    → n ≤ length (unwritten (ledger_of fixed.rules history)) → n ≡ (next_run fixed history limit).count → AreNarrow fixed (ledger_of fixed.rules (history ++ Write n ∷ []))
-write_narrow fixed store history limit n stands h many count =
+pub write_kept : (fixed : Fixed) (store : Store) (history : List Event) (limit n : ℕ) → StoreStandsFor fixed store history → IsLockHistory fixed history
+    → n ≤ length (unwritten (ledger_of fixed.rules history)) → n ≡ (next_run fixed history limit).count → IsLockHistory fixed (history ++ Write n ∷ [])
+write_kept fixed store history limit n stands h many count =
     let l = ledger_of fixed.rules history in
     let us = unwritten l in
     let now = fold write_next l (take n us) in
-    let rules : l.force.rules ≡ fixed.rules = stands.stands.rules ∙ ap (λ (f : Fixed). f.rules) stands.fixed_is in
+    let rules : l.force.rules ≡ fixed.rules = (one_history fixed.rules history stands.legal h.1).rules_are in
     let on : (run_from fixed.limits l 0 (take limit us)).count ≡ 0 + n = sym count ∙ omega arith in
     let more : AllByRecursion (IsNarrow fixed) (take n us) = run_narrow fixed us limit n l 0 rules on in
     let written : now.written ≡ l.written + n = written_on (take n us) l ∙ ap (λ k. l.written + k) (length_take n us many) in
     let firsts : take now.written (timed now.fed) ≡ take l.written (timed l.fed) ++ take n us =
     ap (λ k. take k (timed now.fed)) written ∙ (ap (λ (ts : List Transaction). take (l.written + n) (timed ts)) (fed_on (take n us) l) ∙ take_on l.written n (timed l.fed)) in
-    after_event fixed history h (Write n) (subst (AllByRecursion (IsNarrow fixed)) (sym firsts) (all_both (IsNarrow fixed) (take l.written (timed l.fed)) (take n us) h more))
+    after_event fixed history h (Write n) refl (subst (AllByRecursion (IsNarrow fixed)) (sym firsts) (all_both (IsNarrow fixed) (take l.written (timed l.fed)) (take n us) h.0 more))

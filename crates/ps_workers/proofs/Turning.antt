@@ -20,7 +20,7 @@ use Rattle.ps_store.specs.declared.stores.Store.{Store}
 use Rattle.ps_write_cp.specs.declared.faults.NumberFault.{NumberFault}
 use Rattle.ps_write_cp.specs.declared.faults.NumberFault.TheVariants as numbering
 use Rattle.ps_workers.specs.Sharing.{fixed_of}
-use Rattle.ps_store.specs.Keeping.{AreNarrow, KeepsHistory}
+use Rattle.ps_store.specs.Keeping.{IsLockHistory, KeepsHistory}
 use Rattle.ps_store.specs.Ledgers.{ledger_of}
 use Rattle.ps_store.specs.Stores.{StoreStandsFor, Feeds, Uploads, MakesNumber, Compacts}
 use Rattle.ps_store.specs.Totals.{bucket_names_of}
@@ -34,9 +34,9 @@ lent lock turn value same h = subst (λ (x : Store). StoreStandsFor (fixed_of lo
 
 -- what is kept at its end, under the same lock
 pub under : (lock other : StoreLock Store Event Fixed) (value : Store) (history : List Event) → other ≡ lock → StoreStandsFor (fixed_of lock) value history
-    → AreNarrow (fixed_of lock) (ledger_of (fixed_of lock).rules history) → (value.fixed ≡ fixed_of other) × KeepsHistory (fixed_of other) value history
-under lock other value history same h narrow =
-    let kept = subst (λ (k : StoreLock Store Event Fixed). KeepsHistory (fixed_of k) value history) (sym same) (h, narrow) in
+    → IsLockHistory (fixed_of lock) history → (value.fixed ≡ fixed_of other) × KeepsHistory (fixed_of other) value history
+under lock other value history same h own =
+    let kept = subst (λ (k : StoreLock Store Event Fixed). KeepsHistory (fixed_of k) value history) (sym same) (h, own) in
     (kept.0.fixed_is, kept)
 
 module _ {d : Ghosts Store Event Fixed} (before after : Seat Store Event Fixed d) (turn : Turn Store Event Fixed) (knew : IsPrefix (seen_by before) (history_of turn))
@@ -88,9 +88,9 @@ number_stands fixed history user client new numbering.Memory said = said.1
 
 -- a compaction that was refused
 pub refused_compaction : {d : Ghosts Store Event Fixed} (fixed : Fixed) (history : List Event) (bucket : List ℕ) (before after : Seat Store Event Fixed d) (new : Store) (fault : CompactFault)
-    → LooksAt history before after → Compacts fixed history bucket new (Err fault) → CompactsIn fixed history bucket before after (Err fault)
-refused_compaction fixed history bucket before after new compacting.NoBucket looked said = (looked, (new, said.1), said.0)
-refused_compaction fixed history bucket before after new compacting.Memory looked said = looked
+    → IsLockHistory fixed history → LooksAt history before after → Compacts fixed history bucket new (Err fault) → CompactsIn fixed history bucket before after (Err fault)
+refused_compaction fixed history bucket before after new compacting.NoBucket own looked said = (looked, (new, (said.1, own)), said.0)
+refused_compaction fixed history bucket before after new compacting.Memory own looked said = looked
 
 pub compaction_stands : (fixed : Fixed) (history : List Event) (bucket : List ℕ) (new : Store) (fault : CompactFault) → Compacts fixed history bucket new (Err fault) → StoreStandsFor fixed new history
 compaction_stands fixed history bucket new compacting.NoBucket said = said.1

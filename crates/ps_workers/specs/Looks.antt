@@ -12,10 +12,9 @@ use Rattle.ps_store.specs.declared.fixed.Fixed.{Fixed}
 use Rattle.ps_store.specs.declared.readings.TakeFault.{TakeFault}
 use Rattle.ps_store.specs.declared.stores.Store.{Store}
 use Rattle.ps_store.specs.declared.totals.Totals.{Totals}
-use Rattle.ps_store.specs.Keeping.{AreNarrow}
+use Rattle.ps_store.specs.Keeping.{KeepsHistory}
 use Rattle.ps_store.specs.Ledgers.{Ledger, ledger_of, head_of}
 use Rattle.ps_store.specs.Readings.{Takes, batch_of, log_length_of}
-use Rattle.ps_store.specs.Stores.{StoreStandsFor}
 use Rattle.ps_store.specs.Totals.{totals_of, bucket_names_of}
 use Rattle.ps_workers.specs.declared.looks.Look.{Look}
 use Rattle.ps_workers.specs.Gains.{LooksAt}
@@ -27,16 +26,15 @@ pub record IsLook (l : Ledger) (look : Look) : Type 0 where
   pub head : look.head.0 ≡ head_of l.fed
   pub closed : look.closed ≡ l.closed
 
--- a store stood for the history, so that it is legal
+-- a store stood for the history, so that it is legal; each of its written changes was narrow, and no new rules came in it
 abbrev pub IsStoodFor : Fixed → List Event → Type 0
-IsStoodFor fixed history = (store : Store) × StoreStandsFor fixed store history
+IsStoodFor fixed history = (store : Store) × KeepsHistory fixed store history
 
 module _ {V : Type 0} {d : Ghosts V Event Fixed} (fixed : Fixed) (history : List Event) where
-  -- the turn came at this history, each of whose written changes was narrow, and this is what it found
+  -- the turn came at this history, and this is what it found
   pub record LooksIn (before after : Seat V Event Fixed d) (look : Look) : Type 0 where
     pub looks : LooksAt history before after
     pub stood : IsStoodFor fixed history
-    pub narrow : AreNarrow fixed (ledger_of fixed.rules history)
     pub found : IsLook (ledger_of fixed.rules history) look
 
   -- an asker's checkpoint was taken, or there are too many buckets

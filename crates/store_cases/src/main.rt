@@ -7,6 +7,8 @@
 //! of the change file; `close`, `write LIMIT`, `commit`, `compact BUCKET`, `checkpoint`, `totals` and `names` are its calls,
 //! `write-all LIMIT` writes batches until one is refused, `head` prints the head and whether the feed is closed, and `log BUCKET` how
 //! many operations a log has. `upload BODY` uploads the changes of a body, and `number USER CLIENT` makes a write checkpoint.
+//! `deploy` begins a generation by the rules file as it is then, and `build LIMIT`, `switch`, `abandon`, `building` and `committed` are
+//! the other calls for new rules; a sixth number of `store` is the limit of generations.
 //! `take USER PARAMETERS` takes the checkpoint of a user, `take-as CLIENT USER PARAMETERS` that of a user's client, whose number is printed
 //! where there is one, and `read AFTER UPTO BUCKET` reads a batch.
 #![tactic(auto)]
@@ -14,6 +16,7 @@
 ghost use Rattle.case_stores.specs.Histories.{HasHistory};
 
 mod changing;
+mod deploying;
 mod reading;
 mod showing;
 mod taking;
@@ -46,6 +49,29 @@ fn change(
         "write-all" => changing::write_all(alloc, store, rest, out),
         "commit" => changing::commit(store, out),
         "compact" => changing::compact(alloc, store, rest, out),
+        _ => return Ok(false),
+    };
+    answered?;
+    Ok(true)
+}
+
+// Does a call for new rules; false where the word names none.
+fn renew(
+    alloc: Global,
+    texts: &Texts,
+    store: &mut Store,
+    word: &str,
+    rest: &str,
+    out: &mut String,
+) -> Result<bool, Stop>
+    requires { HasHistory store.old }
+    ensures { HasHistory store.new }
+{
+    let answered = match word {
+        "deploy" => deploying::deploy(alloc, store, texts.rules(), out),
+        "build" => deploying::build(alloc, store, rest, out),
+        "switch" => deploying::switch(store, out),
+        "abandon" => deploying::abandon(store, out),
         _ => return Ok(false),
     };
     answered?;
@@ -85,6 +111,8 @@ fn show(
         "checkpoint" => showing::show_checkpoint(store, out),
         "head" => showing::show_head(store, out),
         "log" => showing::show_log(alloc, store, rest, out),
+        "building" => deploying::show_building(store, out),
+        "committed" => deploying::show_committed(store, out),
         "totals" => showing::show_totals(store, out),
         "names" => showing::show_names(alloc, store, out),
         "take" => taking::show_take(alloc, store, rest, out),
@@ -117,6 +145,7 @@ fn answer(
         return Ok(());
     }
     if change(alloc, texts, store, word, rest, out)?
+        || renew(alloc, texts, store, word, rest, out)?
         || ask(alloc, store, word, rest, out)?
         || show(alloc, store, word, rest, out)?
     {

@@ -5,7 +5,7 @@ use Rattle.ps_lock.proofs.tables.StoreLock.TheSendSync as locks
 use Rattle.ps_sockets.proofs.bells.RungBell.TheSendSync as bells
 use Rattle.ps_serve.proofs.ends.End.TheSendSync as ends
 use Rattle.ps_serve.proofs.sites.Site.TheSendSync as sites
-use Rattle.ps_connections.proofs.Sent.{store_send}
+use Rattle.ps_store.proofs.Sent.{store_send}
 use Rattle.ps_connections.proofs.starting.start.Goals as goal
 
 pub spawn_scoped_with-started-requires-send-F : goal.spawn_scoped_with-started-requires-send-F

@@ -4,7 +4,7 @@ use Rattle.ps_lock.proofs.tables.Seat.TheSendSync as seats
 use Rattle.ps_lock.proofs.tables.StoreLock.TheSendSync as locks
 use Rattle.ps_sockets.proofs.bells.Rings.TheSendSync as rings
 use Rattle.ps_workers.proofs.ends.WorkEnd.TheSendSync as ends
-use Rattle.ps_connections.proofs.Sent.{store_send}
+use Rattle.ps_store.proofs.Sent.{store_send}
 use Rattle.ps_lock.specs.Words.{seen_by}
 use Rattle.ps_workers.specs.Sharing.{fixed_of}
 use Rattle.ps_serving.proofs.NoneTaken.{serves_none}

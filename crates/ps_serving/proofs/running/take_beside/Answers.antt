@@ -5,7 +5,7 @@ use Rattle.ps_lock.proofs.tables.Seat.TheSendSync as seats
 use Rattle.ps_lock.proofs.tables.StoreLock.TheSendSync as locks
 use Rattle.ps_sockets.proofs.bells.Rings.TheSendSync as rings
 use Rattle.ps_workers.proofs.ends.WorkEnd.TheSendSync as ends
-use Rattle.ps_connections.proofs.Sent.{store_send}
+use Rattle.ps_store.proofs.Sent.{store_send}
 use Rattle.ps_serving.proofs.running.take_beside.Goals as goal
 
 pub spawn_scoped_with-begun-requires-send-F : goal.spawn_scoped_with-begun-requires-send-F

@@ -11,8 +11,7 @@ returns-clause-turn g c =
       history_of turn,
       record {
         looks = looks c.args.seat c.leave.result turn c.turn-turn.ensures.seen c.turn-turn.ensures.own c.leave.ensures.seen c.leave.ensures.own;
-        stood = (value_of turn, stands);
-        narrow = kept.1;
+        stood = (value_of turn, kept);
         found = c.look_at-look.ensures (fixed_of c.args.lock.now) (history_of turn) (lent c.args.lock.now turn c.value.result.now c.value.ensures.value stands);
       },
     )

@@ -15,8 +15,7 @@ returns-clause-turn g c =
     let again = subst (λ (x : Store). StoreStandsFor (fixed_of c.args.lock.now) x (history_of turn)) (sym (c.value-2.ensures.value ∙ c.value.ensures.value)) stands in
     let looked : LooksIn (fixed_of c.args.lock.now) (history_of turn) c.args.seat c.leave.result c.look_at-look.result = record {
       looks = looks c.args.seat c.leave.result turn c.turn-turn.ensures.seen c.turn-turn.ensures.own c.leave.ensures.seen c.leave.ensures.own;
-      stood = (value_of turn, stands);
-      narrow = kept.1;
+      stood = (value_of turn, kept);
       found = c.look_at-look.ensures (fixed_of c.args.lock.now) (history_of turn) (lent c.args.lock.now turn c.value.result.now c.value.ensures.value stands);
     } in
     (history_of turn, record { looks = looked; totals_are = c.totals-totals.ensures (fixed_of c.args.lock.now) (history_of turn) again })

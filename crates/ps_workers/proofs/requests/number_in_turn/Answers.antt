@@ -3,10 +3,9 @@ use Rattle.ps_lock.specs.Words.{history_of, own_entries_in}
 use Rattle.ps_store.specs.declared.events.Event.{Event}
 use Rattle.ps_store.specs.declared.events.Event.TheVariants.{WriteCheckpoint}
 use Rattle.ps_workers.specs.Sharing.{fixed_of}
-use Rattle.ps_store.specs.Keeping.{AreNarrow}
-use Rattle.ps_store.specs.Ledgers.{ledger_of}
+use Rattle.ps_store.specs.Keeping.{IsLockHistory}
 use Rattle.ps_store.specs.Stores.{StoreStandsFor}
-use Rattle.ps_workers.proofs.Narrow.{number_narrow}
+use Rattle.ps_workers.proofs.Narrow.{number_kept}
 use Rattle.ps_workers.proofs.Turning.{lent, under, looks, adds, refused_number, number_stands}
 use Rattle.ps_workers.proofs.requests.number_in_turn.Goals as goal
 
@@ -15,11 +14,11 @@ leave_with-requires g c =
     let turn = c.turn-turn.result in
     let start = lent c.args.lock.now turn c.value.result.now c.value.ensures.value c.turn-turn.ensures.stands.1.0 in
     let said = c.in-Ok-write_checkpoint.ensures (fixed_of c.args.lock.now) (history_of turn) start in
-    let narrow =
-    subst (λ (e : Event). AreNarrow (fixed_of c.args.lock.now) (ledger_of (fixed_of c.args.lock.now).rules (history_of turn ++ e ∷ []))) (sym c.in-Ok.ensures)
-    (number_narrow (fixed_of c.args.lock.now) (history_of turn) c.turn-turn.ensures.stands.1.1 c.args.user.now c.args.client.now) in
+    let own =
+    subst (λ (e : Event). IsLockHistory (fixed_of c.args.lock.now) (history_of turn ++ e ∷ [])) (sym c.in-Ok.ensures)
+    (number_kept (fixed_of c.args.lock.now) (history_of turn) c.turn-turn.ensures.stands.1.1 c.args.user.now c.args.client.now) in
     let copied = subst (λ (e : Event). StoreStandsFor (fixed_of c.args.lock.now) c.write_checkpoint.new.self (history_of turn ++ e ∷ [])) (sym c.in-Ok.ensures) said.2 in
-    under c.args.lock.now turn.lock.now c.write_checkpoint.new.self _ c.turn-turn.ensures.lock copied narrow
+    under c.args.lock.now turn.lock.now c.write_checkpoint.new.self _ c.turn-turn.ensures.lock copied own
 
 pub leave-requires : goal.leave-requires
 leave-requires g c =

@@ -1,6 +1,6 @@
 use Rattle.ps_lock.specs.Words.{history_of}
 use Rattle.ps_workers.specs.Sharing.{fixed_of}
-use Rattle.ps_workers.proofs.Narrow.{commit_narrow}
+use Rattle.ps_workers.proofs.Narrow.{commit_kept}
 use Rattle.ps_workers.proofs.Turning.{lent, under, looks, adds}
 use Rattle.ps_workers.proofs.turns.commit_in_turn.Goals as goal
 
@@ -9,7 +9,7 @@ leave_with-requires g c =
     let turn = c.turn-turn.result in
     let start = lent c.args.lock.now turn c.value.result.now c.value.ensures.value c.turn-turn.ensures.stands.1.0 in
     let said = c.in-Ok.ensures (fixed_of c.args.lock.now) (history_of turn) start in
-    under c.args.lock.now turn.lock.now c.commit.new.self _ c.turn-turn.ensures.lock said.2 (commit_narrow (fixed_of c.args.lock.now) (history_of turn) c.turn-turn.ensures.stands.1.1)
+    under c.args.lock.now turn.lock.now c.commit.new.self _ c.turn-turn.ensures.lock said.2 (commit_kept (fixed_of c.args.lock.now) (history_of turn) c.turn-turn.ensures.stands.1.1)
 
 pub leave-requires : goal.leave-requires
 leave-requires g c =

@@ -4,7 +4,7 @@ use Rattle.ps_lock.specs.Words.{history_of, own_entries_in}
 use Rattle.ps_store.specs.declared.events.Event.TheVariants.{Feed}
 use Rattle.ps_workers.specs.Sharing.{fixed_of}
 use Rattle.ps_store.specs.Stores.{StoreStandsFor}
-use Rattle.ps_workers.proofs.Narrow.{feed_narrow}
+use Rattle.ps_workers.proofs.Narrow.{feed_kept}
 use Rattle.ps_workers.proofs.Turning.{lent, under, looks, adds, refused_feed, refused_stands}
 use Rattle.ps_workers.proofs.turns.feed_in_turn.Goals as goal
 
@@ -15,7 +15,7 @@ leave_with-requires g c =
     let said = c.in-Ok-feed.ensures (fixed_of c.args.lock.now) (history_of turn) start in
     let copied = subst (λ (t : Transaction). StoreStandsFor (fixed_of c.args.lock.now) c.feed.new.self (history_of turn ++ Feed t ∷ [])) (sym c.in-Ok.ensures) said in
     under c.args.lock.now turn.lock.now c.feed.new.self _ c.turn-turn.ensures.lock copied
-    (feed_narrow (fixed_of c.args.lock.now) c.value.result.now (history_of turn) _ start c.turn-turn.ensures.stands.1.1)
+    (feed_kept (fixed_of c.args.lock.now) c.value.result.now (history_of turn) _ start c.turn-turn.ensures.stands.1.1)
 
 pub leave-requires : goal.leave-requires
 leave-requires g c =

@@ -5,7 +5,7 @@ use Rattle.ps_workers.specs.Sharing.{fixed_of}
 use Rattle.ps_store.specs.Ledgers.{fresh}
 use Rattle.ps_store.specs.Stores.{StoreStandsFor}
 use Rattle.ps_workers.specs.Gains.{AddsTo}
-use Rattle.ps_workers.proofs.Narrow.{write_narrow, could_come}
+use Rattle.ps_workers.proofs.Narrow.{write_kept, could_come}
 use Rattle.ps_workers.proofs.Turning.{lent, under, looks, adds}
 use Rattle.ps_workers.proofs.turns.write_in_turn.Goals as goal
 
@@ -16,7 +16,7 @@ leave_with-requires g c =
     let said = c.in-Ok.ensures (fixed_of c.args.lock.now) (history_of turn) start in
     let written = subst (λ (n : ℕ). StoreStandsFor (fixed_of c.args.lock.now) c.write_batch.new.self (history_of turn ++ Write n ∷ [])) (sym c.from-changes.ensures) said.4 in
     under c.args.lock.now turn.lock.now c.write_batch.new.self _ c.turn-turn.ensures.lock written
-    (write_narrow (fixed_of c.args.lock.now) c.value.result.now (history_of turn) c.args.limit c.from-changes.result start c.turn-turn.ensures.stands.1.1
+    (write_kept (fixed_of c.args.lock.now) c.value.result.now (history_of turn) c.args.limit c.from-changes.result start c.turn-turn.ensures.stands.1.1
     (could_come (history_of turn) (fresh (fixed_of c.args.lock.now).rules) (Write c.from-changes.result) written.legal).1 (c.from-changes.ensures ∙ said.1))
 
 pub leave-requires : goal.leave-requires

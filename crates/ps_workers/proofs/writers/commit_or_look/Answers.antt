@@ -4,7 +4,7 @@ use Rattle.ps_store.specs.declared.events.Event.TheVariants.{Commit}
 use Rattle.ps_store.specs.declared.stores.Store.{Store}
 use Rattle.ps_store.specs.Stores.{StoreStandsFor}
 use Rattle.ps_workers.specs.Sharing.{fixed_of}
-use Rattle.ps_workers.proofs.Narrow.{commit_narrow}
+use Rattle.ps_workers.proofs.Narrow.{commit_kept}
 use Rattle.ps_workers.proofs.Turning.{lent, under, looks, adds}
 use Rattle.ps_workers.proofs.writers.commit_or_look.Goals as goal
 
@@ -13,7 +13,7 @@ leave_with-requires g c =
     let turn = c.turn-turn.result in
     let start = lent c.args.lock.now turn c.value.result.now c.value.ensures.value c.turn-turn.ensures.stands.1.0 in
     let said = c.in-Ok.ensures (fixed_of c.args.lock.now) (history_of turn) start in
-    under c.args.lock.now turn.lock.now c.commit.new.self _ c.turn-turn.ensures.lock said.2 (commit_narrow (fixed_of c.args.lock.now) (history_of turn) c.turn-turn.ensures.stands.1.1)
+    under c.args.lock.now turn.lock.now c.commit.new.self _ c.turn-turn.ensures.lock said.2 (commit_kept (fixed_of c.args.lock.now) (history_of turn) c.turn-turn.ensures.stands.1.1)
 
 pub leave-requires : goal.leave-requires
 leave-requires g c =
@@ -38,8 +38,7 @@ returns-in-Err-clause-turn g c =
       history_of turn,
       record {
         looks = looks c.args.seat c.leave.result turn c.turn-turn.ensures.seen c.turn-turn.ensures.own c.leave.ensures.seen c.leave.ensures.own;
-        stood = (c.commit.new.self, said.1);
-        narrow = c.turn-turn.ensures.stands.1.1;
+        stood = (c.commit.new.self, (said.1, c.turn-turn.ensures.stands.1.1));
         found = c.look_at-look.ensures fixed (history_of turn) again;
       },
     )

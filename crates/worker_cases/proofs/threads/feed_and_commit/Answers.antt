@@ -4,7 +4,7 @@ use Rattle.ps_data.proofs.lists.Items.TheSendSync as items
 use Rattle.ps_rows.proofs.changes.Transaction.TheSendSync as transactions
 use Rattle.ps_lock.proofs.tables.Seat.TheSendSync as seats
 use Rattle.ps_lock.proofs.tables.StoreLock.TheSendSync as locks
-use Rattle.worker_cases.proofs.Sent.{store_send}
+use Rattle.ps_store.proofs.Sent.{store_send}
 use Rattle.worker_cases.proofs.threads.feed_and_commit.Goals as goal
 
 pub join-seat-requires-send-F : goal.join-seat-requires-send-F

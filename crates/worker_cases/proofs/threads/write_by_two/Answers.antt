@@ -2,7 +2,7 @@ use denote.Param.Send.{sendable}
 use Rattle.std.proofs.Crossing.{crosses}
 use Rattle.ps_lock.proofs.tables.Seat.TheSendSync as seats
 use Rattle.ps_lock.proofs.tables.StoreLock.TheSendSync as locks
-use Rattle.worker_cases.proofs.Sent.{store_send}
+use Rattle.ps_store.proofs.Sent.{store_send}
 use Rattle.worker_cases.proofs.threads.write_by_two.Goals as goal
 
 pub join-seat-requires-send-F : goal.join-seat-requires-send-F

@@ -13,4 +13,4 @@ returns c = λ fixed history h.
     let few : length c.args.transaction.changes ≤ 2 ^ 64 = omega (arith, c.len.ensures) in
     feed_done fixed c.args.self.now history h c.args.transaction c.feed-2.new.self c.feed.new.self few c.feed.ensures c.if-self.false (omega arith) c.requires.position
     (c.feed-2.ensures.changes ∙ ap (λ (us : List Timed). us ++ timed_of c.args.transaction) c.in_ok-reserve.ensures.changes)
-    (c.feed-2.ensures.reach ∙ ap (λ (r : Reached). settled c.args.self.now.last.0 (record r { left = r.left ++ end_of c.args.transaction ∷ [] })) c.in_ok-reserve.ensures.reach)
+    (c.feed-2.ensures.reach ∙ ap (λ (r : Reached). settled c.args.self.now.wrote.0 (record r { left = r.left ++ end_of c.args.transaction ∷ [] })) c.in_ok-reserve.ensures.reach)

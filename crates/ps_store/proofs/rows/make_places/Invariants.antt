@@ -2,7 +2,7 @@ use Rattle.std.proofs.Common.{◌≡◌, take}
 use Rattle.ps_rows.specs.Source.{Key}
 use Rattle.ps_store.specs.Rows.{row_at}
 use Rattle.ps_store.specs.Tails.{HasPlaces}
-use Rattle.ps_store.proofs.stores.make_places.Given as goal
+use Rattle.ps_store.proofs.rows.make_places.Given as goal
 
 abbrev pub invariant-changes : goal.invariant-changes
 invariant-changes l = record {

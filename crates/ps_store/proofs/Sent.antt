@@ -1,6 +1,7 @@
 -- A store may go to another thread, as may all that it holds. The proof goes up from its expressions, since one search from the store down to them is too long.
 use denote.Param.Send.{IsSend, IsSync, sendable}
 use Rattle.std.proofs.Crossing.{crosses}
+use Rattle.std.proofs.MapsCrossing as maps
 use Rattle.ps_data.proofs.lists.Items.TheSendSync as items
 use Rattle.ps_data.proofs.texts.Text.TheSendSync as texts
 use Rattle.ps_data.proofs.ids.Position.TheSendSync as positions
@@ -23,14 +24,18 @@ use Rattle.ps_definitions.proofs.warnings.Warning.TheSendSync as warnings
 use Rattle.ps_params.specs.contracts.indexes.ParameterIndex as ParameterIndex
 use Rattle.ps_params.proofs.kept.Kept.TheSendSync as kept
 use Rattle.ps_write_cp.proofs.numbers.WriteCheckpoints.TheSendSync as numbers
+use Rattle.ps_store.specs.contracts.building.Building as Building
 use Rattle.ps_store.specs.contracts.fixed.Shared as Shared
+use Rattle.ps_store.specs.contracts.generations.Generations as Generations
 use Rattle.ps_store.specs.contracts.stores.Store as Store
 use Rattle.ps_store.proofs.fixed.Limits.TheSendSync as limits
+use Rattle.ps_store.proofs.generations.Ending.TheSendSync as endings
 use Rattle.ps_store.proofs.logs.Logs.TheSendSync as logs
 use Rattle.ps_store.proofs.rows.Rows.TheSendSync as rows
 use Rattle.ps_store.proofs.tails.Tail.TheSendSync as tails
 use Rattle.ps_store.proofs.totals.Totals.TheSendSync as totals
 use Rattle.ps_store.proofs.stores.Checkpoint.TheSendSync as checkpoints
+use Rattle.ps_store.proofs.waiting.Waiting.TheSendSync as waiting
 
 expr : IsSend Expr.the_row
 expr = search (sendable, send-Expr, texts.the_send, functions.the_field_send, operators.the_field_send, items.the_send, boxes.the_send) depth 20
@@ -99,5 +104,11 @@ index_field = search (sendable, rules, kept.the_send, positions.the_field_send) 
 shared_field : IsSend Shared.the_field.row
 shared_field = search (sendable, crosses, rules, rules_sync, limits.the_field_send) depth 20
 
+building : IsSend Building.the_row
+building = search (sendable, crosses, shared_field, index_field, logs.the_field_send, rows.the_field_send, texts.the_send, waiting.the_send) depth 20
+
+generations_field : IsSend Generations.the_field.row
+generations_field = search (sendable, crosses, maps.crosses, building, shared_field, texts.the_send, endings.the_send) depth 20
+
 pub store_send : IsSend Store.the_row
-store_send = search (sendable, shared_field, index_field, logs.the_field_send, rows.the_field_send, tails.the_field_send, totals.the_field_send, checkpoints.the_field_send, positions.the_field_send, ops.the_field_send, numbers.the_send) depth 20
+store_send = search (sendable, crosses, shared_field, index_field, generations_field, logs.the_field_send, rows.the_field_send, tails.the_field_send, totals.the_field_send, checkpoints.the_field_send, positions.the_field_send, ops.the_field_send, numbers.the_send) depth 40

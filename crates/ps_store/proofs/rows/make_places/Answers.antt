@@ -4,7 +4,7 @@ use Rattle.ps_store.specs.Originals.{Timed}
 use Rattle.ps_store.specs.Rows.{has_place}
 use Rattle.ps_store.specs.Tails.{HasPlaces}
 use Rattle.ps_store.proofs.Advancing.{places_more, places_push}
-use Rattle.ps_store.proofs.stores.make_places.Goals as goal
+use Rattle.ps_store.proofs.rows.make_places.Goals as goal
 
 pub changes-preserved : goal.changes-preserved
 changes-preserved c =
