@@ -1,3 +1,4 @@
+pub mod Hashing
 pub mod Kept
 pub mod Soundness
 pub mod Edits

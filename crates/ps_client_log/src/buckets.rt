@@ -4,9 +4,9 @@ ghost use Rattle.ps_client_log.specs.Images.{bucket_found, room_for};
 ghost use Rattle.ps_client_log.specs.Kept.{bucket_in, bucket_kept};
 ghost use Rattle.ps_client_log.specs.Rooms.{given};
 
-use crate::BucketState;
 use crate::images::Image;
 use crate::slots::Slot;
+use crate::{BucketState, Hashing};
 use indexmap::IndexMap;
 use ps_bucket_log::Op;
 use ps_checksum::Sum;
@@ -16,17 +16,22 @@ use std::alloc::Global;
 // The buckets by name.
 #[derive(Drop)]
 pub struct Buckets {
-    pub slots: IndexMap<Text, Slot>,
+    pub slots: IndexMap<Text, Slot, Hashing>,
 }
 
 impl Buckets {
     // No buckets.
-    pub fn new(alloc: Global) -> Buckets
+    pub fn new(alloc: Global, hashing: Hashing) -> Buckets
         ensures { (name : List ℕ) → bucket_found result name ≡ None }
     {
         Buckets {
-            slots: IndexMap::new(alloc),
+            slots: IndexMap::with_hasher(alloc, hashing),
         }
+    }
+
+    // How their maps hash.
+    pub fn hashing(&self) -> Hashing {
+        *self.slots.hasher()
     }
 
     // Keeps one more bucket.
@@ -39,16 +44,20 @@ impl Buckets {
             added,
             held,
         } = bucket;
-        let image = Image::from_state(alloc, position, added, held)?;
+        let image = Image::from_state(alloc, self.hashing(), position, added, held)?;
         self.slots.insert(name, Slot { there: true, image })?;
         Ok(())
     }
 
     // The buckets that states tell.
-    pub fn from_states(alloc: Global, states: Items<BucketState>) -> Result<Buckets, Memory>
+    pub fn from_states(
+        alloc: Global,
+        hashing: Hashing,
+        states: Items<BucketState>,
+    ) -> Result<Buckets, Memory>
         ensures { IfOk result (λ buckets. (name : List ℕ) → bucket_found buckets name ≡ bucket_in states name) }
     {
-        let mut buckets = Buckets::new(alloc);
+        let mut buckets = Buckets::new(alloc, hashing);
         'states: for state in states.into_vec() {
             buckets.keep(alloc, state)?;
         }
@@ -64,7 +73,7 @@ impl Buckets {
         if let Some(slot) = self.slots.get_mut(name) {
             return slot.reserve(count);
         }
-        let mut slot = Slot::new(alloc);
+        let mut slot = Slot::new(alloc, self.hashing());
         slot.reserve(count)?;
         self.slots.insert(name.copy(alloc)?, slot)?;
         Ok(())
@@ -74,7 +83,7 @@ impl Buckets {
     pub fn reserve_all(
         &mut self,
         alloc: Global,
-        rooms: &IndexMap<Text, usize>,
+        rooms: &IndexMap<Text, usize, Hashing>,
     ) -> Result<(), Memory>
         ensures buckets { (other : List ℕ) → bucket_found self.new other ≡ bucket_found self.old other }
         ensures rooms { OnOk result ((name : List ℕ) → given rooms.now name ≤ room_for self.new name) }
@@ -142,7 +151,7 @@ impl Buckets {
     }
 
     // Gives up the room of each bucket that has a name among the rooms and is not there.
-    pub fn tidy_all(&mut self, rooms: &IndexMap<Text, usize>)
+    pub fn tidy_all(&mut self, rooms: &IndexMap<Text, usize, Hashing>)
         ensures { (other : List ℕ) → bucket_found self.new other ≡ bucket_found self.old other }
     {
         'rooms: for name in rooms.keys() {

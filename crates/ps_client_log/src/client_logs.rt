@@ -16,7 +16,7 @@ ghost use Rattle.ps_client_log.specs.Rows.{HeldCopy, Holds, object_of, IsLatestC
 
 use crate::holdings::Holdings;
 use crate::rows::{bucket_names, held_rows};
-use crate::{Edit, KeepFault, Keeper, Shown, Target, VolatileKeeper};
+use crate::{Edit, Hashing, KeepFault, Keeper, Shown, Target, VolatileKeeper};
 use ps_bucket_log::Op;
 use ps_checksum::Sum;
 use ps_data::{Items, Memory, OpId, Text};
@@ -56,15 +56,36 @@ impl ClientLog<VolatileKeeper> {
     {
         ClientLog {
             keeper,
-            holdings: Holdings::new(alloc),
+            holdings: Holdings::new(alloc, Hashing::Fixed),
         }
     }
 }
 
 impl<K: Keeper> ClientLog<K> {
-    /// Holds the state that a keeper keeps, which is loaded once. Fails with `Failed` where the keeper failed, which its count of faults
-    /// shows, and with `Memory`. After a refusal the keeper is given back.
+    /// Holds the state that a keeper keeps, which is loaded once, in maps that hash by a seed that everyone knows: for keys that nobody chose for it, as
+    /// those in files of one's own. Fails as `open_hashed` does, and gives the keeper back then.
     pub fn open(alloc: Global, keeper: K) -> Result<ClientLog<K>, (K, KeepFault)>
+        ensures kept { IfOk result (λ log. Tells (K.held keeper) (kept log)) }
+        ensures held { IfOk result (λ log. K.held (keeper_of log) ≡ K.held keeper) }
+        ensures sound { IfOk result (λ log. IsSound (kept log)) }
+        ensures faults { IfOk result (λ log. K.faults (keeper_of log) ≡ K.faults keeper) }
+        ensures refused_held { IfErr result (λ refused. K.held refused.0 ≡ K.held keeper) }
+        ensures refused_faults { IfErr result (λ refused. K.faults keeper ≤ K.faults refused.0) }
+        ensures failed { IfErr result (λ refused. RoseAt refused.1 (K.faults keeper) (K.faults refused.0)) }
+        ensures loaded { IfOk result (λ log. K.calls (keeper_of log) ≡ one_more (K.calls keeper)) }
+        ensures refused_loaded { IfErr result (λ refused. K.calls refused.0 ≡ one_more (K.calls keeper)) }
+    {
+        ClientLog::open_hashed(alloc, keeper, Hashing::Fixed)
+    }
+
+    /// Holds the state that a keeper keeps, which is loaded once, in maps that hash as given: where a peer chose the keys, by a seed that it does not
+    /// know. Then it cannot choose such as meet in one place and make each look-up slow. Fails with `Failed` where the keeper failed, which its count
+    /// of faults shows, and with `Memory`. After a refusal the keeper is given back.
+    pub fn open_hashed(
+        alloc: Global,
+        keeper: K,
+        hashing: Hashing,
+    ) -> Result<ClientLog<K>, (K, KeepFault)>
         ensures kept { IfOk result (λ log. Tells (K.held keeper) (kept log)) }
         ensures held { IfOk result (λ log. K.held (keeper_of log) ≡ K.held keeper) }
         ensures sound { IfOk result (λ log. IsSound (kept log)) }
@@ -77,7 +98,7 @@ impl<K: Keeper> ClientLog<K> {
     {
         let mut keeper = keeper;
         match keeper.load(alloc) {
-            Ok(state) => match Holdings::from_state(alloc, state) {
+            Ok(state) => match Holdings::from_state(alloc, hashing, state) {
                 Ok(holdings) => Ok(ClientLog { keeper, holdings }),
                 Err(Memory) => Err((keeper, KeepFault::Memory)),
             },

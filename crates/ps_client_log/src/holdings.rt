@@ -11,7 +11,7 @@ use crate::buckets::Buckets;
 use crate::queues::Queue;
 use crate::rooms::rooms_for;
 use crate::saving::state_of;
-use crate::{Edit, State, Target};
+use crate::{Edit, Hashing, State, Target};
 use indexmap::IndexMap;
 use ps_data::{Items, Memory, Text, copy_all};
 use ps_rows::Shown;
@@ -39,12 +39,12 @@ impl Drop for Holdings {
 
 impl Holdings {
     // Nothing.
-    pub fn new(alloc: Global) -> Holdings
+    pub fn new(alloc: Global, hashing: Hashing) -> Holdings
         ensures kept { kept_by result ≡ nothing_kept }
         ensures held { IsHeld result }
     {
         Holdings {
-            buckets: Buckets::new(alloc),
+            buckets: Buckets::new(alloc, hashing),
             queue: Queue::new(alloc),
             target: Target::Free,
             shown: Items::new(alloc),
@@ -52,7 +52,7 @@ impl Holdings {
     }
 
     // What a state keeps.
-    pub fn from_state(alloc: Global, state: State) -> Result<Holdings, Memory>
+    pub fn from_state(alloc: Global, hashing: Hashing, state: State) -> Result<Holdings, Memory>
         ensures kept { IfOk result (λ holdings. kept_by holdings ≡ kept_of state) }
         ensures shown { IfOk result (λ holdings. holdings.shown ≡ state.shown) }
     {
@@ -63,7 +63,7 @@ impl Holdings {
             shown,
         } = state;
         Ok(Holdings {
-            buckets: Buckets::from_states(alloc, buckets)?,
+            buckets: Buckets::from_states(alloc, hashing, buckets)?,
             queue: Queue::from_vec(queue.into_vec()),
             target,
             shown,
@@ -74,7 +74,7 @@ impl Holdings {
     fn reserve(
         &mut self,
         alloc: Global,
-        rooms: &IndexMap<Text, usize>,
+        rooms: &IndexMap<Text, usize, Hashing>,
         pushed: usize,
     ) -> Result<(), Memory>
         ensures kept { kept_by self.new ≡ kept_by self.old }
@@ -87,7 +87,7 @@ impl Holdings {
     }
 
     // Gives up the room of buckets that are not there.
-    pub fn tidy(&mut self, rooms: &IndexMap<Text, usize>)
+    pub fn tidy(&mut self, rooms: &IndexMap<Text, usize, Hashing>)
         ensures kept { kept_by self.new ≡ kept_by self.old }
         ensures shown { self.new.shown ≡ self.old.shown }
     {
@@ -134,12 +134,12 @@ impl Holdings {
         &mut self,
         alloc: Global,
         edits: &[Edit],
-    ) -> Result<IndexMap<Text, usize>, Memory>
+    ) -> Result<IndexMap<Text, usize, Hashing>, Memory>
         ensures kept { kept_by self.new ≡ kept_by self.old }
         ensures shown { self.new.shown ≡ self.old.shown }
         ensures room { OnOk result (HasRoom self.new edits.now) }
     {
-        let rooms = rooms_for(alloc, edits)?;
+        let rooms = rooms_for(alloc, self.buckets.hashing(), edits)?;
         match self.reserve(alloc, &rooms, edits.len()) {
             Ok(()) => Ok(rooms),
             Err(Memory) => {
@@ -173,7 +173,7 @@ pub fn edited(alloc: Global, state: State, edits: &[Edit]) -> Result<State, Memo
     ensures kept { IfOk result (λ next. kept_of next ≡ with_edits (kept_of state) edits.now) }
     ensures sound { IfOk result IsSoundState }
 {
-    let mut holdings = Holdings::from_state(alloc, state)?;
+    let mut holdings = Holdings::from_state(alloc, Hashing::Fixed, state)?;
     holdings.commit(alloc, edits)?;
     state_of(alloc, &holdings)
 }

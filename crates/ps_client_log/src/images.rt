@@ -4,7 +4,7 @@ ghost use Rattle.ps_bucket_log.specs.Buckets.{after, fresh};
 ghost use Rattle.ps_client_log.specs.Images.{image_of};
 ghost use Rattle.ps_client_log.specs.Kept.{with_held, told_by};
 
-use crate::Held;
+use crate::{Hashing, Held};
 use indexmap::IndexMap;
 use ps_bucket_log::{Key, Op};
 use ps_checksum::{Sum, add};
@@ -24,18 +24,18 @@ pub struct Entry {
 pub struct Image {
     pub position: OpId,
     pub total: Sum,
-    pub held: IndexMap<Key, Entry>,
+    pub held: IndexMap<Key, Entry, Hashing>,
 }
 
 impl Image {
     // The image of no operations.
-    pub fn new(alloc: Global) -> Image
+    pub fn new(alloc: Global, hashing: Hashing) -> Image
         ensures { image_of result ≡ fresh }
     {
         Image {
             position: OpId(0),
             total: Sum(0),
-            held: IndexMap::new(alloc),
+            held: IndexMap::with_hasher(alloc, hashing),
         }
     }
 
@@ -67,13 +67,14 @@ impl Image {
     // The image that the state of a bucket tells.
     pub fn from_state(
         alloc: Global,
+        hashing: Hashing,
         position: OpId,
         added: Sum,
         held: Items<Held>,
     ) -> Result<Image, Memory>
         ensures { IfOk result (λ image. image_of image ≡ told_by position.0 added.0 held) }
     {
-        let mut image = Image::new(alloc);
+        let mut image = Image::new(alloc, hashing);
         image.reserve(held.len())?;
         image.hold_all(held.into_vec())?;
         let total = add(image.total, added);

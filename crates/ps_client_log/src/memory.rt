@@ -8,7 +8,7 @@ ghost use Rattle.ps_client_log.specs.Rooms.{kept_by};
 
 use crate::holdings::Holdings;
 use crate::saving::state_of;
-use crate::{Edit, KeepFault, Keeper, State};
+use crate::{Edit, Hashing, KeepFault, Keeper, State};
 use ps_data::Items;
 use ps_io::Calls;
 use std::alloc::Global;
@@ -46,7 +46,7 @@ impl MemoryKeeper {
         ensures calls { Begins failing (calls_of result) }
     {
         MemoryKeeper {
-            holdings: Holdings::new(alloc),
+            holdings: Holdings::new(alloc, Hashing::Fixed),
             calls: Calls::new(failing),
         }
     }
@@ -130,7 +130,7 @@ impl SureKeeper {
         ensures { ⟦<SureKeeper as Keeper>⟧.held result ≡ Some nothing_kept }
     {
         SureKeeper {
-            holdings: Holdings::new(alloc),
+            holdings: Holdings::new(alloc, Hashing::Fixed),
         }
     }
 }

@@ -3,7 +3,7 @@
 ghost use Rattle.std.specs.Prelude.{◌≡◌, ◌≤◌, ◌^◌, ℕ, ◌+◌, List, MatchResult, OnOk, IfOk, bytes_eq, if◌then◌else◌, sum_by};
 ghost use Rattle.ps_client_log.specs.Rooms.{brings, given};
 
-use crate::Edit;
+use crate::{Edit, Hashing};
 use indexmap::IndexMap;
 use ps_data::{Memory, Text};
 use std::alloc::Global;
@@ -20,7 +20,7 @@ fn both(room: usize, count: usize) -> Result<usize, Memory>
 
 // Gives more room to a name.
 fn give(
-    rooms: &mut IndexMap<Text, usize>,
+    rooms: &mut IndexMap<Text, usize, Hashing>,
     alloc: Global,
     name: &Text,
     count: usize,
@@ -36,7 +36,11 @@ fn give(
 }
 
 // Gives the name of an edit, if it has one, the room that the edit wants.
-fn give_for(rooms: &mut IndexMap<Text, usize>, alloc: Global, edit: &Edit) -> Result<(), Memory>
+fn give_for(
+    rooms: &mut IndexMap<Text, usize, Hashing>,
+    alloc: Global,
+    edit: &Edit,
+) -> Result<(), Memory>
     ensures { OnOk result ((name : List ℕ) → given rooms.new name ≡ given rooms.old name + brings name edit.now) }
 {
     match edit {
@@ -47,10 +51,14 @@ fn give_for(rooms: &mut IndexMap<Text, usize>, alloc: Global, edit: &Edit) -> Re
 }
 
 // For each name that stands in the edits, how many operations they bring to its bucket.
-pub fn rooms_for(alloc: Global, edits: &[Edit]) -> Result<IndexMap<Text, usize>, Memory>
+pub fn rooms_for(
+    alloc: Global,
+    hashing: Hashing,
+    edits: &[Edit],
+) -> Result<IndexMap<Text, usize, Hashing>, Memory>
     ensures { IfOk result (λ rooms. (name : List ℕ) → given rooms name ≡ sum_by (brings name) edits.now) }
 {
-    let mut rooms = IndexMap::new(alloc);
+    let mut rooms = IndexMap::with_hasher(alloc, hashing);
     'edits: for edit in edits {
         give_for(&mut rooms, alloc, edit)?;
     }

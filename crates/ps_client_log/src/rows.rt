@@ -16,11 +16,11 @@ ghost use Rattle.ps_client_log.specs.Soundness.{same_row};
 ghost use Rattle.ps_client_log.specs.Seeing.{copy_of, copies_in, copies_at, copies_of, HoldsKeysOnce, noted_place, is_past, seen, all_seen, is_there};
 ghost use Rattle.ps_client_log.specs.Lending.{object_at, lent_cmp, note_at, noted, row_from, row_noted};
 
-use crate::Shown;
 use crate::buckets::Buckets;
 use crate::holdings::Holdings;
 use crate::images::Entry;
 use crate::slots::Slot;
+use crate::{Hashing, Shown};
 use indexmap::IndexMap;
 use ps_bucket_log::Key;
 use ps_data::{Memory, OpId, Text};
@@ -88,7 +88,7 @@ fn see<'a>(
 fn see_held<'a>(
     rows: &mut BTreeMap<(&'a Text, &'a Text), Latest<'a>>,
     bucket: &'a Text,
-    held: &'a IndexMap<Key, Entry>,
+    held: &'a IndexMap<Key, Entry, Hashing>,
 ) -> Result<(), Memory>
     ensures rows { OnOk result ((object : Object) → noted rows.new object ≡ all_seen object (noted rows.old object) (copies_in bucket.now held.now.entries)) }
     ensures once { IsDistinct key_eq (keys_of held.now.entries) }

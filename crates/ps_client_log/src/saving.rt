@@ -14,7 +14,7 @@ use crate::buckets::Buckets;
 use crate::holdings::Holdings;
 use crate::images::{Entry, Image};
 use crate::slots::Slot;
-use crate::{BucketState, Held, State};
+use crate::{BucketState, Hashing, Held, State};
 use indexmap::IndexMap;
 use ps_bucket_log::Key;
 use ps_checksum::{Sum, add};
@@ -35,7 +35,7 @@ fn held_copy(alloc: Global, key: &Key, entry: &Entry) -> Result<Held, Memory>
 
 // All entries as a state lists them.
 #[tactic(auto, using(crate::proofs::Listings::copied_more))]
-fn listed(alloc: Global, held: &IndexMap<Key, Entry>) -> Result<Items<Held>, Memory>
+fn listed(alloc: Global, held: &IndexMap<Key, Entry, Hashing>) -> Result<Items<Held>, Memory>
     ensures { IfOk result (λ entries. entries ≡ map held_of held.now.entries) }
 {
     let mut entries = Items::new(alloc);

@@ -2,6 +2,7 @@ ghost use Rattle.std.specs.Prelude.{◌≡◌, ◌+◌, ◌≤◌, Some, None, O
 ghost use Rattle.ps_bucket_log.specs.Buckets.{after, fresh};
 ghost use Rattle.ps_client_log.specs.Images.{slot_bucket, slot_room};
 
+use crate::Hashing;
 use crate::images::Image;
 use ps_bucket_log::Op;
 use ps_data::Memory;
@@ -16,12 +17,12 @@ pub struct Slot {
 
 impl Slot {
     // A place without a bucket.
-    pub fn new(alloc: Global) -> Slot
+    pub fn new(alloc: Global, hashing: Hashing) -> Slot
         ensures { slot_bucket result ≡ None }
     {
         Slot {
             there: false,
-            image: Image::new(alloc),
+            image: Image::new(alloc, hashing),
         }
     }
 
