@@ -1,46 +1,63 @@
-/* Prints COUNT ids of rows whose keys collide in a client's map: the last BITS bits of the keys' hashes by the fixed seed are 0. A key is the kind `items`, the
-   id and the subkey `1/items/ID`. `bench/colliding` compiles and runs this. */
+/* Prints COUNT ids of rows whose keys collide in a client's map that hashes by the seed that everyone knows: the last BITS bits of the keys' hashes are 0. A key is
+   the kind `items`, the id and the subkey `1/items/ID`. The hash is SipHash-1-3 with both keys 0. `bench/colliding` compiles and runs this. */
 #include <stdint.h>
 #include <stdio.h>
 #include <stdlib.h>
 #include <string.h>
 
-static const uint64_t MULTIPLIER = 0x9e3779b97f4a7c15u;
-static const uint64_t INITIAL = 0x243f6a8885a308d3u;
 static const char LETTERS[] = "0123456789abcdefghijklmnopqrstuv";
 
-static uint64_t folded_multiply(uint64_t a, uint64_t b) {
-    unsigned __int128 product = (unsigned __int128)a * b;
-    return (uint64_t)product ^ (uint64_t)(product >> 64);
+struct state {
+    uint64_t v0, v1, v2, v3;
+};
+
+static uint64_t rotated(uint64_t number, int by) {
+    return number << by | number >> (64 - by);
 }
 
-/* The hasher after at most 8 bytes, which are handed in as the number that it reads. */
-static uint64_t after_short(uint64_t state, uint64_t bytes, uint64_t count) {
-    return folded_multiply(state ^ bytes, MULTIPLIER ^ (2 * count));
+static void turn(struct state *s) {
+    s->v0 += s->v1;
+    s->v2 += s->v3;
+    s->v1 = rotated(s->v1, 13) ^ s->v0;
+    s->v3 = rotated(s->v3, 16) ^ s->v2;
+    s->v0 = rotated(s->v0, 32);
+    s->v2 += s->v1;
+    s->v0 += s->v3;
+    s->v1 = rotated(s->v1, 17) ^ s->v2;
+    s->v3 = rotated(s->v3, 21) ^ s->v0;
+    s->v2 = rotated(s->v2, 32);
 }
 
-static uint64_t number_of(const char *bytes) {
-    uint64_t number;
-    memcpy(&number, bytes, 8);
-    return number;
+static void take(struct state *s, uint64_t word) {
+    s->v3 ^= word;
+    turn(s);
+    s->v0 ^= word;
+}
+
+/* The hash of 32 bytes. */
+static uint64_t hash_of(const char *bytes) {
+    struct state s = {0x736f6d6570736575u, 0x646f72616e646f6du, 0x6c7967656e657261u, 0x7465646279746573u};
+    uint64_t words[4];
+    memcpy(words, bytes, 32);
+    for (int place = 0; place < 4; place++) take(&s, words[place]);
+    take(&s, (uint64_t)32 << 56);
+    s.v2 ^= 0xff;
+    for (int count = 0; count < 3; count++) turn(&s);
+    return s.v0 ^ s.v1 ^ s.v2 ^ s.v3;
 }
 
 int main(int count, char **words) {
     if (count != 3) return 1;
     long wanted = atol(words[1]);
     uint32_t mask = (1u << atoi(words[2])) - 1;
-    /* A text is followed by the byte 255, of which the hasher reads three copies. `items` is read as its first four bytes and its last four. */
-    const uint64_t end = 0xffffff;
-    uint64_t kind = after_short(after_short(INITIAL, (uint64_t)0x736d6574 << 32 | 0x6d657469, 5), end, 1);
-    uint64_t prefix = number_of("1/items/");
-    char id[9] = "00000000";
+    /* Each text is followed by the byte 255. */
+    char key[] = "items\xff" "00000000" "\xff" "1/items/" "00000000" "\xff";
     for (uint64_t next = 0; wanted > 0; next++) {
-        for (int place = 0; place < 8; place++) id[place] = LETTERS[next >> (5 * place) & 31];
-        uint64_t state = after_short(after_short(kind, number_of(id), 8), end, 1);
-        state = folded_multiply(prefix ^ (state + 16), number_of(id) ^ MULTIPLIER);
-        state = after_short(state, end, 1);
-        if (((uint32_t)(state ^ state >> 32) & mask) == 0) {
-            puts(id);
+        for (int place = 0; place < 8; place++) key[6 + place] = LETTERS[next >> (5 * place) & 31];
+        memcpy(key + 23, key + 6, 8);
+        uint64_t hash = hash_of(key);
+        if (((uint32_t)(hash ^ hash >> 32) & mask) == 0) {
+            printf("%.8s\n", key + 6);
             wanted--;
         }
     }
