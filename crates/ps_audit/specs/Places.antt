@@ -2,7 +2,6 @@
 use Rattle.std.specs.Prelude.{◌≡◌, ℕ, ◌≤◌, ◌<◌, List, [], length, take}
 use Rattle.ps_rows.specs.declared.shown.Shown.{Shown}
 use Rattle.ps_rows.specs.Source.{Source, after_transactions}
-use Rattle.ps_sql_eval.specs.Evaluated.{asker_of}
 use Rattle.ps_store.specs.Laws.{last_position, Rises}
 use Rattle.ps_audit.specs.declared.cursors.Cursor.{Cursor}
 use Rattle.ps_audit.specs.declared.subjects.Subject.{Subject}
@@ -14,7 +13,7 @@ abbrev pub case_of : Subject → Case
 case_of subject = record {
   definitions = subject.rules.now.definitions;
   transactions = subject.transactions.now;
-  asker = asker_of subject.asker.now;
+  asker = subject.asker.now;
 }
 
 pub record IsCounted (subject : Subject) : Type 0 where

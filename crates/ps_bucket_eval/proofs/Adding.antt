@@ -6,23 +6,24 @@ use Rattle.ps_definitions.specs.declared.definitions.Definition.{Definition}
 use Rattle.ps_bucket_eval.specs.Types.{Placed, PlaceFault, TooWide, Memory}
 use Rattle.ps_queries.specs.Objects.{object_id, content_of}
 use Rattle.ps_bucket_eval.specs.Shown.{alone}
-use Rattle.ps_bucket_eval.specs.Entries.{RowOf, subkey_of, placed_in, placed_all, buckets_of, query_entries, IsPlaced}
+use Rattle.ps_queries.specs.Vectors.{SourceRow}
+use Rattle.ps_bucket_eval.specs.Entries.{subkey_of, placed_in, placed_all, buckets_of, query_entries, IsPlaced}
 use Rattle.ps_bucket_eval.specs.Solving.{AddsEntries, made_in}
 use Rattle.ps_bucket_eval.proofs.Steps.{added_more, added_past}
 
-pub query_other : (d : Definition) (source : RowOf) (q : Planned) → bytes_eq q.query.table source.table ≡ false → query_entries d source q ≡ []
+pub query_other : (d : Definition) (source : SourceRow) (q : Planned) → bytes_eq q.query.table source.table ≡ false → query_entries d source q ≡ []
 unfolding query_entries
 query_other d source q e = ap (λ b. if b then placed_all d source q (object_id (alone source.id source.row) q.query) else []) e
 
-none_placed : (d : Definition) (source : RowOf) (q : Planned) (b : Bool) (o : Option (List ℕ)) → o ≡ None → (if b then placed_all d source q o else []) ≡ []
+none_placed : (d : Definition) (source : SourceRow) (q : Planned) (b : Bool) (o : Option (List ℕ)) → o ≡ None → (if b then placed_all d source q o else []) ≡ []
 none_placed d source q true o e = ap (placed_all d source q) e
 none_placed d source q false o e = refl
 
-pub query_none : (d : Definition) (source : RowOf) (q : Planned) → None ≡ object_id (alone source.id source.row) q.query → query_entries d source q ≡ []
+pub query_none : (d : Definition) (source : SourceRow) (q : Planned) → None ≡ object_id (alone source.id source.row) q.query → query_entries d source q ≡ []
 unfolding query_entries
 query_none d source q e = none_placed d source q (bytes_eq q.query.table source.table) (object_id (alone source.id source.row) q.query) (sym e)
 
-pub query_is : (d : Definition) (source : RowOf) (q : Planned) (object : List ℕ) → bytes_eq q.query.table source.table ≡ true → Some object ≡ object_id (alone source.id source.row) q.query
+pub query_is : (d : Definition) (source : SourceRow) (q : Planned) (object : List ℕ) → bytes_eq q.query.table source.table ≡ true → Some object ≡ object_id (alone source.id source.row) q.query
     → query_entries d source q ≡ map (placed_in q source object) (buckets_of d source q)
 unfolding query_entries
 query_is d source q object e is =
@@ -60,6 +61,6 @@ placed_from top new entries (TooWide count) h = h
 placed_from top new entries Memory h = tt
 
 -- an entry by its parts
-pub made_placed : (q : Planned) (source : RowOf) (object subkey content : List ℕ) → subkey ≡ subkey_of q.number source → content ≡ content_of (alone source.id source.row) q.query object
+pub made_placed : (q : Planned) (source : SourceRow) (object subkey content : List ℕ) → subkey ≡ subkey_of q.number source → content ≡ content_of (alone source.id source.row) q.query object
     → made_in q object subkey content ≡ placed_in q source object
 made_placed q source object subkey content s t = λ i bucket. record { bucket = bucket; key = record { kind = q.query.kind; id = object; subkey = s i }; content = t i; number = q.number }

@@ -22,8 +22,8 @@ use Rattle.ps_definitions.specs.Meeting.{is_among}
 use Rattle.ps_sql_eval.specs.Evaluated.{values_of_items, values_in}
 use Rattle.ps_bucket_eval.specs.Vectors.{compared}
 use Rattle.ps_bucket_eval.specs.Solving.{gathered, allowed_by, common, narrowed, narrowed_by, narrowed_along, values_or_none, allowed}
-use Rattle.ps_bucket_eval.proofs.Members.{Has, has_filter, from_filter, has_any, any_has}
-use Rattle.ps_bucket_eval.proofs.Sets.{insert_has, from_insert}
+use Rattle.ps_data.proofs.Members.{Has, has_filter, from_filter, has_any, any_has}
+use Rattle.ps_data.proofs.Rising.{insert_has, from_insert}
 
 -- whether a match allows a value
 abbrev pub permits : Given → Match → Value → Bool

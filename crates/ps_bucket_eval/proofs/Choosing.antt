@@ -6,7 +6,7 @@ use Rattle.ps_data.specs.declared.values.Value.{Value}
 use Rattle.ps_definitions.specs.Buckets.{bucket_name_of}
 use Rattle.ps_bucket_eval.specs.Vectors.{choices}
 use Rattle.ps_bucket_eval.specs.Solving.{names_from}
-use Rattle.ps_bucket_eval.proofs.Members.{Has, has_map, from_map, has_flat, from_flat}
+use Rattle.ps_data.proofs.Members.{Has, has_map, from_map, has_flat, from_flat}
 
 -- each value is in its list
 abbrev pub InEach : List (List Value) → List Value → Type 0

@@ -2,7 +2,6 @@ mod Adding
 mod Allowing
 mod Choosing
 mod Fitting
-pub mod Members
 mod Placements
 pub mod Ranks
 mod Reading

@@ -16,10 +16,11 @@ use Rattle.ps_definitions.specs.Buckets.{bucket_name_of}
 use Rattle.ps_queries.specs.Objects.{object_id}
 use Rattle.ps_bucket_eval.specs.Shown.{alone}
 use Rattle.ps_bucket_eval.specs.Vectors.{with_vector, holding}
-use Rattle.ps_bucket_eval.specs.Entries.{RowOf, placed_in, entry_of, placed_all, buckets_of, query_entries, definition_entries, entries_of}
+use Rattle.ps_queries.specs.Vectors.{SourceRow}
+use Rattle.ps_bucket_eval.specs.Entries.{placed_in, entry_of, placed_all, buckets_of, query_entries, definition_entries, entries_of}
 use Rattle.ps_bucket_eval.specs.Laws.{PlacedWhereItHolds}
-use Rattle.ps_bucket_eval.proofs.Members.{Has, has_flat, from_flat, has_map, from_map, has_contains, contains_has}
-use Rattle.ps_bucket_eval.proofs.Sets.{has_in_order, from_in_order}
+use Rattle.ps_data.proofs.Members.{Has, has_flat, from_flat, has_map, from_map, has_contains, contains_has}
+use Rattle.ps_definitions.proofs.NamesInOrder.{has_in_order, from_in_order}
 use Rattle.ps_bucket_eval.proofs.Reading.{name_same}
 use Rattle.ps_bucket_eval.proofs.Solutions.{BranchLaws, IsSolvable, solvable, holds_tried, holding_holds}
 use Rattle.ps_bucket_eval.proofs.Ranks.{same_place, query_numbered}
@@ -36,7 +37,7 @@ first_differ names (q ∷ qs) h = h.0.names_differ
 pub names_differ_of : (definition : Definition) → IsSound definition → has_repeated definition.names ≡ false
 names_differ_of definition sound = subst (λ ns. has_repeated ns ≡ false) (sym sound.names) (first_differ definition.names definition.parameters sound.parameters)
 
-module _ (laws : BranchLaws) (apart : NamesDiffer) (rules : RuleSet) (source : RowOf) (are : AreRules rules) where
+module _ (laws : BranchLaws) (apart : NamesDiffer) (rules : RuleSet) (source : SourceRow) (are : AreRules rules) where
   sound_at : (d : Definition) → Has rules.definitions d → IsSound d
   sound_at d i = all_of IsSound rules.definitions d are.sound i
 

@@ -14,10 +14,12 @@ use Rattle.ps_definitions.specs.Buckets.{bucket_name_of}
 use Rattle.ps_queries.specs.Objects.{object_id}
 use Rattle.ps_bucket_eval.specs.Shown.{alone}
 use Rattle.ps_bucket_eval.specs.Vectors.{holding}
-use Rattle.ps_bucket_eval.specs.Entries.{RowOf, placed_in, placed_all, buckets_of, query_entries, definition_entries, entries_of}
+use Rattle.ps_queries.specs.Vectors.{SourceRow}
+use Rattle.ps_bucket_eval.specs.Entries.{placed_in, placed_all, buckets_of, query_entries, definition_entries, entries_of}
 use Rattle.ps_bucket_eval.specs.Laws.{placed_cmp, EntriesRise}
-use Rattle.ps_bucket_eval.proofs.Members.{Has, has_right, has_cases, has_map, from_map, has_flat, from_flat}
-use Rattle.ps_bucket_eval.proofs.Sets.{Rises, rises_sorted, in_order_rises}
+use Rattle.ps_data.proofs.Members.{Has, has_right, has_cases, has_map, from_map, has_flat, from_flat}
+use Rattle.ps_data.proofs.Rising.{Rises, rises_sorted}
+use Rattle.ps_definitions.proofs.NamesInOrder.{in_order_rises}
 
 -- ---- numbers
 
@@ -105,7 +107,7 @@ rises_append (x ∷ xs) ys h k f = (
   rises_append xs ys h.1 k (λ a b i j. f a b (inr i) j),
 )
 
-buckets_rise : (planned : Planned) (source : RowOf) (object : List ℕ) (buckets : List (List ℕ)) → Rises (slice_cmp nat_cmp) buckets → Rises placed_cmp (map (placed_in planned source object) buckets)
+buckets_rise : (planned : Planned) (source : SourceRow) (object : List ℕ) (buckets : List (List ℕ)) → Rises (slice_cmp nat_cmp) buckets → Rises placed_cmp (map (placed_in planned source object) buckets)
 buckets_rise planned source object [] h = tt
 buckets_rise planned source object (b ∷ bs) h = (
   λ y i. let f = from_map (placed_in planned source object) bs y i in
@@ -114,7 +116,7 @@ buckets_rise planned source object (b ∷ bs) h = (
   buckets_rise planned source object bs h.1,
 )
 
-module _ (source : RowOf) where
+module _ (source : SourceRow) where
   all_rise : (definition : Definition) (planned : Planned) (o : Option (List ℕ)) → Rises placed_cmp (placed_all definition source planned o)
   unfolding buckets_of
   all_rise definition planned None = tt

@@ -7,7 +7,7 @@ use Rattle.std.proofs.lemmas.Slice.Eq.{bytes_eq-Decides}
 use Rattle.ps_data.specs.declared.values.Value.{Value}
 use Rattle.ps_definitions.specs.Names.{is_in, has_repeated}
 use Rattle.ps_definitions.specs.Vectors.{vector_at}
-use Rattle.ps_bucket_eval.proofs.Members.{Has, none_has}
+use Rattle.ps_data.proofs.Members.{Has, none_has}
 
 -- two lists hold a fact of each pair
 pub zip_where : {A B : Type 0} (R S : A → B → Type 0) (xs : List A) (ys : List B) → ((x : A) (y : B) → Has xs x → R x y → S x y) → AllZip R xs ys → AllZip S xs ys

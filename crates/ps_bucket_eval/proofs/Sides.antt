@@ -12,7 +12,7 @@ use Rattle.ps_definitions.specs.declared.matches.Match.{Match}
 use Rattle.ps_definitions.specs.declared.branches.Branch.{Branch}
 use Rattle.ps_definitions.specs.Branches.{finds, layer_finds, has_parameter, match_of_side, match_of_sides, match_of_layer, match_of, branch_with, leaf_branch, joined, crossed, branches_in, branches_of}
 use Rattle.ps_definitions.specs.Laws.{EitherSide, BothSides, LeafAlone, is_leaf_layer, is_leaf}
-use Rattle.ps_bucket_eval.proofs.Members.{Has, has_cases, from_flat, from_map}
+use Rattle.ps_data.proofs.Members.{Has, has_cases, from_flat, from_map}
 
 -- ---- the matches of a condition
 

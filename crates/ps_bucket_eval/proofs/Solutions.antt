@@ -23,7 +23,7 @@ use Rattle.ps_definitions.specs.Buckets.{bucket_name_of}
 use Rattle.ps_bucket_eval.specs.Shown.{over, alone}
 use Rattle.ps_bucket_eval.specs.Vectors.{compared, compared_as, candidates, choices, with_vector, tried, holding}
 use Rattle.ps_bucket_eval.specs.Solving.{allowed, all_hold, names_from, branch_names, sides_have_parameter}
-use Rattle.ps_bucket_eval.proofs.Members.{Has, has_flat, from_flat, has_map, from_map, has_filter, from_filter, any_has, has_any, all_has, has_all}
+use Rattle.ps_data.proofs.Members.{Has, has_flat, from_flat, has_map, from_map, has_filter, from_filter, any_has, has_any, all_has, has_all}
 use Rattle.ps_bucket_eval.proofs.Choosing.{InEach, has_choices, from_choices, names_of_choices}
 use Rattle.ps_bucket_eval.proofs.Sides.{ArePlain, SpreadLaws, branches_plain}
 use Rattle.ps_bucket_eval.proofs.Allowing.{ValueLaws, permits, permits_compared, Matched, from_allowed, has_allowed}

@@ -9,7 +9,9 @@ use Rattle.ps_bucket_eval.specs.Shown.{alone}
 use Rattle.ps_bucket_eval.specs.Vectors.{holding}
 use Rattle.ps_bucket_eval.specs.Entries.{buckets_of}
 use Rattle.ps_bucket_eval.specs.Solving.{inserted, branch_names, SolvesBuckets, HasPlainSides}
-use Rattle.ps_bucket_eval.proofs.Sets.{same_risen, inserted_rises, has_inserted, from_inserted, in_order_rises, has_in_order, from_in_order}
+use Rattle.ps_data.proofs.Rising.{same_risen}
+use Rattle.ps_definitions.proofs.NamesInOrder.{in_order_rises, has_in_order, from_in_order}
+use Rattle.ps_bucket_eval.proofs.Sets.{inserted_rises, has_inserted, from_inserted}
 use Rattle.ps_bucket_eval.proofs.Solutions.{BranchLaws, solvable, no_sides, found_holding, holding_found}
 
 pub solves : BranchLaws → SolvesBuckets

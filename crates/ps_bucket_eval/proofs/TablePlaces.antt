@@ -9,29 +9,30 @@ use Rattle.std.proofs.lemmas.List.{take_all}
 use Rattle.ps_definitions.specs.RuleSets.{IsSound, IsSoundQuery}
 use Rattle.ps_definitions.specs.Tables.{places_among, places_from, places_of, IsAt}
 use Rattle.ps_bucket_eval.specs.Types.{Placed}
-use Rattle.ps_bucket_eval.specs.Entries.{RowOf, query_entries, definition_entries, entries_of}
+use Rattle.ps_queries.specs.Vectors.{SourceRow}
+use Rattle.ps_bucket_eval.specs.Entries.{query_entries, definition_entries, entries_of}
 use Rattle.ps_bucket_eval.proofs.Adding.{query_other}
 
 -- ---- the entries of the data query at a place
 
-abbrev entries_in : RowOf → Definition → Option Planned → List Placed
+abbrev entries_in : SourceRow → Definition → Option Planned → List Placed
 entries_in source definition None = []
 entries_in source definition (Some planned) = query_entries definition source planned
 
-abbrev entries_by : RowOf → ℕ → Option Definition → List Placed
+abbrev entries_by : SourceRow → ℕ → Option Definition → List Placed
 entries_by source query None = []
 entries_by source query (Some definition) = entries_in source definition (slice_get definition.queries query)
 
-abbrev pub entries_at : List Definition → RowOf → QueryPlace → List Placed
+abbrev pub entries_at : List Definition → SourceRow → QueryPlace → List Placed
 entries_at definitions source place = entries_by source place.query (slice_get definitions place.definition)
 
-pub entries_there : (definitions : List Definition) (source : RowOf) (place : QueryPlace) (definition : Definition) (planned : Planned) → IsAt definitions place definition planned
+pub entries_there : (definitions : List Definition) (source : SourceRow) (place : QueryPlace) (definition : Definition) (planned : Planned) → IsAt definitions place definition planned
     → entries_at definitions source place ≡ query_entries definition source planned
 entries_there definitions source place definition planned there = ap (entries_by source place.query) there.of_rules ∙ ap (entries_in source definition) there.of_definition
 
 -- ---- the queries of a definition
 
-module _ (definitions : List Definition) (source : RowOf) (number : ℕ) (definition : Definition) (is : slice_get definitions number ≡ Some definition) where
+module _ (definitions : List Definition) (source : SourceRow) (number : ℕ) (definition : Definition) (is : slice_get definitions number ≡ Some definition) where
   among_entries : (first : ℕ) (qs : List Planned) (others : List QueryPlace) → ((k : ℕ) → slice_get definition.queries (first + k) ≡ slice_get qs k)
       → flat_map (entries_at definitions source) (places_among source.table number first qs ++ others)
       ≡ flat_map (query_entries definition source) qs ++ flat_map (entries_at definitions source) others
@@ -60,7 +61,7 @@ module _ (definitions : List Definition) (source : RowOf) (number : ℕ) (defini
 
 -- ---- all definitions
 
-from_entries : (definitions : List Definition) (source : RowOf) (first : ℕ) (ds : List Definition) → ((k : ℕ) → slice_get definitions (first + k) ≡ slice_get ds k)
+from_entries : (definitions : List Definition) (source : SourceRow) (first : ℕ) (ds : List Definition) → ((k : ℕ) → slice_get definitions (first + k) ≡ slice_get ds k)
     → flat_map (entries_at definitions source) (places_from source.table first ds) ≡ flat_map (definition_entries source) ds
 from_entries definitions source first [] at = refl
 from_entries definitions source first (d ∷ ds) at =
@@ -70,7 +71,7 @@ from_entries definitions source first (d ∷ ds) at =
     (from_entries definitions source (suc first) ds (λ k. let same : suc first + k ≡ first + suc k = omega arith in ap (slice_get definitions) same ∙ at (suc k)))
 
 -- the entries of a row are those of the data queries at the places of its table
-pub entries_by_table : (definitions : List Definition) (source : RowOf) → flat_map (entries_at definitions source) (places_of definitions source.table) ≡ entries_of definitions source
+pub entries_by_table : (definitions : List Definition) (source : SourceRow) → flat_map (entries_at definitions source) (places_of definitions source.table) ≡ entries_of definitions source
 entries_by_table definitions source = from_entries definitions source 0 definitions (λ k. let same : 0 + k ≡ k = omega arith in ap (slice_get definitions) same)
 
 -- ---- one item of those of which all have a property
@@ -101,7 +102,7 @@ is_sound_query definitions place definition planned there all =
     all_got (IsSoundQuery definition.names) definition.queries place.query planned there.of_definition (is_sound definitions place definition planned there all).queries
 
 -- the entries behind the last place
-pub all_placed : (definitions : List Definition) (source : RowOf) (places : List QueryPlace) (i : ℕ) (placed : List Placed) → places ≡ places_of definitions source.table → length places ≤ i
+pub all_placed : (definitions : List Definition) (source : SourceRow) (places : List QueryPlace) (i : ℕ) (placed : List Placed) → places ≡ places_of definitions source.table → length places ≤ i
     → placed ≡ flat_map (entries_at definitions source) (take i (places_of definitions source.table)) → placed ≡ entries_of definitions source
 all_placed definitions source places i placed same past added =
     let all : length (places_of definitions source.table) ≤ i = omega (arith, past, ap length same) in

@@ -8,9 +8,10 @@ use Rattle.ps_bucket_eval.specs.declared.changes.ChangeEntries.{ChangeEntries}
 use Rattle.ps_bucket_eval.specs.declared.faults.PlaceFault.{PlaceFault}
 use Rattle.ps_bucket_eval.specs.declared.faults.PlaceFault.TheVariants.{TooWide, Memory}
 use Rattle.ps_bucket_eval.specs.declared.placed.Placed.{Placed}
-use Rattle.ps_bucket_eval.specs.Entries.{RowOf, entries_of}
+use Rattle.ps_queries.specs.Vectors.{SourceRow}
+use Rattle.ps_bucket_eval.specs.Entries.{entries_of}
 
-abbrev pub row_of_key : Key → List Column → RowOf
+abbrev pub row_of_key : Key → List Column → SourceRow
 row_of_key key columns = record { table = key.0; id = key.1; row = columns }
 
 -- the entries of the row of a key, where it is there

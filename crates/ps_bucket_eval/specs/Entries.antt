@@ -10,24 +10,19 @@ use Rattle.ps_bucket_eval.specs.declared.placed.Placed.{Placed}
 use Rattle.ps_bucket_eval.specs.declared.faults.PlaceFault.{PlaceFault}
 use Rattle.ps_bucket_eval.specs.declared.faults.PlaceFault.TheVariants.{TooWide, Memory}
 use Rattle.ps_queries.specs.Objects.{object_id, content_of}
+use Rattle.ps_queries.specs.Vectors.{SourceRow}
 use Rattle.ps_bucket_eval.specs.Shown.{alone}
 use Rattle.ps_bucket_eval.specs.Vectors.{holding}
 
--- a row of a table
-pub record RowOf : Type 0 where
-  pub table : List ℕ
-  pub id : List ℕ
-  pub row : List Column
-
 -- the query's number, the table and the row's id, with `/` between
-unfoldable pub subkey_of : ℕ → RowOf → List ℕ
+unfoldable pub subkey_of : ℕ → SourceRow → List ℕ
 subkey_of number source = decimal number ++ (47 ∷ (source.table ++ (47 ∷ source.id)))
 
-abbrev pub key_of : Planned → RowOf → List ℕ → Key
+abbrev pub key_of : Planned → SourceRow → List ℕ → Key
 key_of planned source object = record { kind = planned.query.kind; id = object; subkey = subkey_of planned.number source }
 
 -- a row in a bucket, as the object that a query shows
-abbrev pub placed_in : Planned → RowOf → List ℕ → List ℕ → Placed
+abbrev pub placed_in : Planned → SourceRow → List ℕ → List ℕ → Placed
 placed_in planned source object bucket = record {
   bucket = bucket;
   key = key_of planned source object;
@@ -36,27 +31,27 @@ placed_in planned source object bucket = record {
 }
 
 -- the entry of a vector
-abbrev pub entry_of : Definition → Planned → RowOf → List ℕ → List Value → Placed
+abbrev pub entry_of : Definition → Planned → SourceRow → List ℕ → List Value → Placed
 entry_of definition planned source object values = placed_in planned source object (bucket_name_of definition.name values)
 
 -- the buckets of a query, one for each vector for which its condition holds
-unfoldable pub buckets_of : Definition → RowOf → Planned → List (List ℕ)
+unfoldable pub buckets_of : Definition → SourceRow → Planned → List (List ℕ)
 buckets_of definition source planned = in_order (map (bucket_name_of definition.name) (holding source.id source.row definition.names planned))
 
-abbrev pub placed_all : Definition → RowOf → Planned → Option (List ℕ) → List Placed
+abbrev pub placed_all : Definition → SourceRow → Planned → Option (List ℕ) → List Placed
 placed_all definition source planned None = []
 placed_all definition source planned (Some object) = map (placed_in planned source object) (buckets_of definition source planned)
 
 -- the entries of a query of the row's table, where it shows an object
-unfoldable pub query_entries : Definition → RowOf → Planned → List Placed
+unfoldable pub query_entries : Definition → SourceRow → Planned → List Placed
 query_entries definition source planned =
     if bytes_eq planned.query.table source.table then placed_all definition source planned (object_id (alone source.id source.row) planned.query) else []
 
-abbrev pub definition_entries : RowOf → Definition → List Placed
+abbrev pub definition_entries : SourceRow → Definition → List Placed
 definition_entries source definition = flat_map (query_entries definition source) definition.queries
 
 -- the entries of a row, in the order of the queries' numbers and then of the buckets' names
-abbrev pub entries_of : List Definition → RowOf → List Placed
+abbrev pub entries_of : List Definition → SourceRow → List Placed
 entries_of definitions source = flat_map (definition_entries source) definitions
 
 -- all entries, where they are at most `top`; else that they are more, counted no further than one past it

@@ -15,10 +15,11 @@ use Rattle.ps_bucket_eval.specs.declared.placed.Placed.{Placed}
 use Rattle.ps_queries.specs.Objects.{object_id}
 use Rattle.ps_bucket_eval.specs.Shown.{alone}
 use Rattle.ps_bucket_eval.specs.Vectors.{with_vector}
-use Rattle.ps_bucket_eval.specs.Entries.{RowOf, entry_of}
+use Rattle.ps_queries.specs.Vectors.{SourceRow}
+use Rattle.ps_bucket_eval.specs.Entries.{entry_of}
 
 -- one vector of a data query that shows an object for a row: a value for each parameter
-pub record IsVectorOf (rules : RuleSet) (source : RowOf) (definition : Definition) (planned : Planned) (object : List ℕ) (values : List Value) : Type 0 where
+pub record IsVectorOf (rules : RuleSet) (source : SourceRow) (definition : Definition) (planned : Planned) (object : List ℕ) (values : List Value) : Type 0 where
   pub of_rules : Contains rules.definitions definition
   pub of_definition : Contains definition.queries planned
   pub of_table : planned.query.table ≡ source.table
@@ -27,7 +28,7 @@ pub record IsVectorOf (rules : RuleSet) (source : RowOf) (definition : Definitio
   pub values_of_sql : AllByRecursion IsSqlValue values
 
 -- whatever the vector, the condition holds on the row exactly where the vector's entry is in the list
-abbrev pub PlacedWhereItHolds : RuleSet → RowOf → List Placed → Type 0
+abbrev pub PlacedWhereItHolds : RuleSet → SourceRow → List Placed → Type 0
 PlacedWhereItHolds rules source placed = (definition : Definition) (planned : Planned) (object : List ℕ) (values : List Value)
     → IsVectorOf rules source definition planned object values
     → Holds (with_vector source.id source.row definition.names values) planned.query.condition ↔ Contains placed (entry_of definition planned source object values)

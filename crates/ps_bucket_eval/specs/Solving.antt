@@ -16,8 +16,9 @@ use Rattle.ps_definitions.specs.declared.branches.Branch.{Branch}
 use Rattle.ps_definitions.specs.Branches.{has_parameter}
 use Rattle.std.specs.BTreeSet.{BTreeSet}
 use Rattle.ps_bucket_eval.specs.Types.{Placed, PlaceFault, TooWide, Memory}
-use Rattle.ps_bucket_eval.specs.declared.source_rows.SourceRow.{SourceRow}
-use Rattle.ps_bucket_eval.specs.Entries.{RowOf, buckets_of}
+use Rattle.ps_bucket_eval.specs.declared.source_rows.SourceRowRef.{SourceRowRef}
+use Rattle.ps_queries.specs.Vectors.{SourceRow}
+use Rattle.ps_bucket_eval.specs.Entries.{buckets_of}
 use Rattle.ps_bucket_eval.specs.Shown.{alone}
 use Rattle.ps_definitions.specs.declared.definitions.Definition.{Definition}
 use Rattle.ps_definitions.specs.declared.queries.Planned.{Planned}
@@ -103,10 +104,10 @@ abbrev pub FitsWith : ℕ → List (List ℕ) → Option (BTreeSet (List ℕ)) �
 FitsWith room names (Some set) = (set.keys ≡ names) × (length names ≤ room)
 FitsWith room names None = room < length names
 
-abbrev pub row_of : List ℕ → List ℕ → List Column → RowOf
+abbrev pub row_of : List ℕ → List ℕ → List Column → SourceRow
 row_of table id row = record { table = table; id = id; row = row }
 
-abbrev pub row_at : SourceRow → RowOf
+abbrev pub row_at : SourceRowRef → SourceRow
 row_at source = row_of source.table.now source.id.now source.row.now
 
 -- an entry of a query, by its parts
@@ -128,7 +129,7 @@ AddsEntries top old new entries (Err Memory) = Unit {0}
 
 -- the names from the branches, each once and in order, are the buckets
 abbrev pub SolvesBuckets : Type 0
-SolvesBuckets = (definition : Definition) (source : RowOf) (planned : Planned) → has_repeated definition.names ≡ false → IsSoundQuery definition.names planned
+SolvesBuckets = (definition : Definition) (source : SourceRow) (planned : Planned) → has_repeated definition.names ≡ false → IsSoundQuery definition.names planned
     → inserted [] (flat_map (branch_names (alone source.id source.row) definition.name definition.names) planned.branches) ≡ buckets_of definition source planned
 
 abbrev pub HasPlainSides : Type 0

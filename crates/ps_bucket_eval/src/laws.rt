@@ -1,7 +1,8 @@
 //! The laws of entries. Each is the contract of a function that does nothing.
 
 ghost use Rattle.ps_definitions.specs.RuleSets.{RuleSet, AreRules};
-ghost use Rattle.ps_bucket_eval.specs.Entries.{RowOf, entries_of};
+ghost use Rattle.ps_queries.specs.Vectors.{SourceRow};
+ghost use Rattle.ps_bucket_eval.specs.Entries.{entries_of};
 ghost use Rattle.ps_bucket_eval.specs.Laws.{PlacedWhereItHolds, EntriesRise};
 ghost use Rattle.ps_bucket_eval.specs.Solving.{SolvesBuckets, HasPlainSides};
 
@@ -14,8 +15,8 @@ use ps_values::{compare_is_a_total_order, equal_where_both_are_present};
 /// A law: for every vector at all, a data query's condition holds on a row for which it shows an object exactly where the
 /// vector's entry is among the row's entries. And these rise by number and bucket.
 pub fn entries_stand_where_conditions_hold()
-    ensures placed { (rules : RuleSet) (source : RowOf) → AreRules rules → PlacedWhereItHolds rules source (entries_of rules.definitions source) }
-    ensures order { (rules : RuleSet) (source : RowOf) → AreRules rules → EntriesRise (entries_of rules.definitions source) }
+    ensures placed { (rules : RuleSet) (source : SourceRow) → AreRules rules → PlacedWhereItHolds rules source (entries_of rules.definitions source) }
+    ensures order { (rules : RuleSet) (source : SourceRow) → AreRules rules → EntriesRise (entries_of rules.definitions source) }
 {
     conditions_hold_where_a_branch_is_met();
     spread_as_written();

@@ -4,7 +4,7 @@ ghost use Rattle.std.specs.Prelude.{◌≡◌, IfOk};
 ghost use Rattle.ps_queries.specs.Objects.{object_id as object_id_of, content_of};
 ghost use Rattle.ps_bucket_eval.specs.Shown.{alone};
 
-use crate::source_rows::SourceRow;
+use crate::source_rows::SourceRowRef;
 use ps_data::{Memory, Text};
 use ps_queries::DataQuery;
 use ps_sql_eval::{content, nobody, object_id};
@@ -14,7 +14,7 @@ use std::alloc::Global;
 pub(crate) fn shown_id(
     alloc: Global,
     query: &DataQuery,
-    source: &SourceRow<'_>,
+    source: &SourceRowRef<'_>,
 ) -> Result<Option<Text>, Memory>
     ensures { IfOk result (λ object. object ≡ object_id_of (alone source.now.id.now source.now.row.now) query.now) }
 {
@@ -26,7 +26,7 @@ pub(crate) fn shown_content(
     alloc: Global,
     query: &DataQuery,
     object: &Text,
-    source: &SourceRow<'_>,
+    source: &SourceRowRef<'_>,
 ) -> Result<Text, Memory>
     ensures { IfOk result (λ content. content ≡ content_of (alone source.now.id.now source.now.row.now) query.now object.now) }
 {

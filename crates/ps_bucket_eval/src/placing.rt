@@ -13,7 +13,7 @@ use crate::evaluating::all_hold;
 use crate::laws::{branches_are_solved, entries_stand_where_conditions_hold};
 use crate::objects::{shown_content, shown_id};
 use crate::solving::allowed_each;
-use crate::source_rows::SourceRow;
+use crate::source_rows::SourceRowRef;
 use crate::{PlaceFault, Placed};
 use ps_bucket_log::Key;
 use ps_data::{Items, Memory, Text, Value};
@@ -42,7 +42,7 @@ pub fn entries_of_row(
     ensures order { IfOk result EntriesRise }
 {
     entries_stand_where_conditions_hold();
-    let source = SourceRow { table, id, row };
+    let source = SourceRowRef { table, id, row };
     let mut placed = Items::new(alloc);
     'places: for place in rules.places_of(table) {
         let (definition, planned) = rules.query_at(place);
@@ -59,7 +59,7 @@ fn place_query(
     alloc: Global,
     definition: &Definition,
     planned: &Planned,
-    source: &SourceRow<'_>,
+    source: &SourceRowRef<'_>,
     top: u32,
     placed: &mut Items<Placed>,
 ) -> Result<(), PlaceFault>
@@ -86,7 +86,7 @@ fn place_in(
     alloc: Global,
     planned: &Planned,
     object: Text,
-    source: &SourceRow<'_>,
+    source: &SourceRowRef<'_>,
     buckets: BTreeSet<Text>,
     placed: &mut Items<Placed>,
 ) -> Result<(), Memory>
@@ -168,7 +168,7 @@ fn push_entry(
 
 // The subkey of a query's entries.
 #[tactic(auto, unfolding(crate::specs::Entries::subkey_of))]
-fn subkey(alloc: Global, number: u32, source: &SourceRow<'_>) -> Result<Text, Memory>
+fn subkey(alloc: Global, number: u32, source: &SourceRowRef<'_>) -> Result<Text, Memory>
     ensures { IfOk result (λ subkey. subkey ≡ subkey_of number (row_at source.now)) }
 {
     let (table, id) = (source.table.as_str(), source.id.as_str());
@@ -183,7 +183,7 @@ fn buckets(
     alloc: Global,
     definition: &Definition,
     planned: &Planned,
-    source: &SourceRow<'_>,
+    source: &SourceRowRef<'_>,
     room: usize,
 ) -> Result<Option<BTreeSet<Text>>, Memory>
     requires differ { has_repeated definition.now.names ≡ false }
@@ -205,7 +205,7 @@ fn name_branches(
     alloc: Global,
     definition: &Definition,
     branches: &[Branch],
-    source: &SourceRow<'_>,
+    source: &SourceRowRef<'_>,
     room: usize,
     found: &mut BTreeSet<Text>,
 ) -> Result<bool, Memory>
@@ -227,7 +227,7 @@ fn name_branch(
     alloc: Global,
     definition: &Definition,
     branch: &Branch,
-    source: &SourceRow<'_>,
+    source: &SourceRowRef<'_>,
     room: usize,
     found: &mut BTreeSet<Text>,
 ) -> Result<bool, Memory>

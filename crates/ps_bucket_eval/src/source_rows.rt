@@ -3,7 +3,7 @@ use ps_rows::Row;
 
 /// A row of a table at the source.
 #[derive(Drop)]
-pub(crate) struct SourceRow<'a> {
+pub(crate) struct SourceRowRef<'a> {
     pub(crate) table: &'a Text,
     pub(crate) id: &'a Text,
     pub(crate) row: &'a Row,

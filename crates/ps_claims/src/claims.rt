@@ -1,8 +1,7 @@
-ghost use Rattle.std.specs.Prelude.{◌≡◌, IfOk, Ok, None, option_map, codes};
+ghost use Rattle.std.specs.Prelude.{◌≡◌, IfOk, Ok, None, codes};
 ghost use Rattle.std.specs.Str.{IsUtf8};
 ghost use Rattle.serde_json.specs.Find.{get};
 ghost use Rattle.serde_json.specs.View.{view};
-ghost use Rattle.ps_sql_eval.specs.Evaluated.{asker_of};
 ghost use Rattle.ps_claims.specs.Claims.{parameters_text as parameters_text_of, client_id as client_id_of, asker_in as asker_in_json, asker_of_claims};
 
 use ps_data::{Memory, Text};
@@ -37,7 +36,7 @@ fn client_id(alloc: Global, claims: &Json) -> Result<Option<Option<Text>>, Memor
 }
 
 fn asker_in(alloc: Global, json: &Json) -> Result<Option<Asker>, Memory>
-    ensures { IfOk result (λ asker. option_map asker_of asker ≡ asker_in_json (view json.now)) }
+    ensures { IfOk result (λ asker. asker ≡ asker_in_json (view json.now)) }
 {
     let Some(token) = json.get("token") else {
         return Ok(None);
@@ -62,7 +61,7 @@ fn asker_in(alloc: Global, json: &Json) -> Result<Option<Asker>, Memory>
 /// Reads a claims file: docs/FORMATS.md, "Claims". Who asks; None exactly where the file is not of that form.
 #[tactic(auto, unfolding(crate::specs::Claims::asker_of_claims))]
 pub fn read_claims(alloc: Global, bytes: &[u8]) -> Result<Option<Asker>, Memory>
-    ensures claims { IfOk result (λ read. option_map asker_of read ≡ asker_of_claims bytes.now) }
+    ensures claims { IfOk result (λ read. read ≡ asker_of_claims bytes.now) }
     // What is no text is none, whatever memory there is.
     ensures no_text { ¬ (IsUtf8 bytes.now) → result ≡ Ok None }
 {

@@ -5,8 +5,7 @@ use Rattle.std.specs.declared.alloc.Global.{Global}
 use Rattle.ps_io.specs.Contents.{Contents, HasLength}
 use Rattle.ps_io.specs.Counts.{Rose}
 use Rattle.ps_definitions.specs.RuleSets.{RuleSet}
-use Rattle.ps_sql_eval.specs.declared.askers.Asker.{Asker}
-use Rattle.ps_sql_eval.specs.Evaluated.{asker_of}
+use Rattle.ps_queries.specs.declared.askers.Asker.{Asker}
 use Rattle.ps_token.specs.declared.key_lists.Key.{Key}
 use Rattle.ps_files.specs.declared.faults.Fault.{Fault}
 use Rattle.ps_files.specs.declared.faults.Fault.TheVariants.{Usage, Rules, Change, PastLimit, TooManyBuckets, Claims, Keys, TooLong, CannotRead, CannotWrite, Script, Memory}
@@ -131,9 +130,9 @@ module _ (o : Outside) (words : List (List ℕ)) (name : List ℕ) (kept : Kept 
   keys_refused reached Memory bytes file h = absurd h
 
 module _ (o : Outside) (words : List (List ℕ)) (names : Names) (kept : Kept o) (is : command_of words ≡ Some (rows names)) (rules : RuleSet) (asker : Asker)
-    (rules_read : ReadsRules o.held names.rules rules) (claims_read : ReadsAsker o.held names.claims (asker_of asker)) where
+    (rules_read : ReadsRules o.held names.rules rules) (claims_read : ReadsAsker o.held names.claims asker) where
   abbrev files_before : ReadsRulesAndClaims o.held names
-  files_before = record { rules = rules; asker = asker_of asker; rules_read = rules_read; claims_read = claims_read }
+  files_before = record { rules = rules; asker = asker; rules_read = rules_read; claims_read = claims_read }
 
   changes_refused : (fault : Fault) (bytes : List ℕ) → HoldsWithin o.held names.changes file_limit bytes → RefusesRows names.feeding rules asker fault bytes → Caused o words fault
   changes_refused Usage bytes file h = absurd h
@@ -181,7 +180,7 @@ pub rules_read : (held : Option Contents) (name : List ℕ) (before now : ℕ) (
 rules_read held name before now rules h = record { bytes = h.0; file = h.1; read = h.2 }
 
 pub asker_read : (held mid_held : Option Contents) (name : List ℕ) (before now : ℕ) (asker : Asker) → mid_held ≡ held
-    → Loads mid_held name file_limit before now FindsAsker IsClaimsFault (Ok asker) → ReadsAsker held name (asker_of asker)
+    → Loads mid_held name file_limit before now FindsAsker IsClaimsFault (Ok asker) → ReadsAsker held name asker
 asker_read held mid_held name before now asker same h = record { bytes = h.0; file = subst (λ x. HoldsWithin x name file_limit h.0) same h.1; read = h.2 }
 
 pub keys_read : (held : Option Contents) (name : List ℕ) (before now : ℕ) (keys : List Key) → Loads held name file_limit before now FindsKeys IsKeysFault (Ok keys) → ReadsKeyFile held name keys
@@ -205,10 +204,10 @@ cause_of_asker o mid_held mid words name fault same risen kept reached h =
     cause_of o mid_held mid words for_claims name same risen kept reached FindsAsker IsClaimsFault (claims_refused o words name kept reached) fault h
 
 cause_of_rows : (o : Outside) (mid_held : Option Contents) (mid : ℕ) (words : List (List ℕ)) (names : Names) (rules : RuleSet) (asker : Asker) (fault : Fault) → mid_held ≡ o.held → o.read_before ≤ mid → Kept o
-    → command_of words ≡ Some (rows names) → ReadsRules o.held names.rules rules → ReadsAsker o.held names.claims (asker_of asker)
+    → command_of words ≡ Some (rows names) → ReadsRules o.held names.rules rules → ReadsAsker o.held names.claims asker
     → Loads {X = Vec ℕ Global} mid_held names.changes file_limit mid o.read_now (FindsRows names.feeding rules asker) (RefusesRows names.feeding rules asker) (Err fault) → Caused o words fault
 cause_of_rows o mid_held mid words names rules asker fault same risen kept is rules_read claims_read h =
-    let read : ReadsRulesAndClaims o.held names = record { rules = rules; asker = asker_of asker; rules_read = rules_read; claims_read = claims_read } in
+    let read : ReadsRulesAndClaims o.held names = record { rules = rules; asker = asker; rules_read = rules_read; claims_read = claims_read } in
     let reached : Reaches o.held words for_changes names.changes = record { command = rows names; is = is; comes = (refl, read) } in
     cause_of o mid_held mid words for_changes names.changes same risen kept reached (FindsRows names.feeding rules asker) (RefusesRows names.feeding rules asker)
     (changes_refused o words names kept is rules asker rules_read claims_read) fault h
@@ -249,11 +248,11 @@ means_compact held mid_held mid now names rules text same read h = record {
 }
 
 means_rows : (held mid_held : Option Contents) (mid now : ℕ) (names : Names) (rules : RuleSet) (asker : Asker) (text : Vec ℕ Global) → mid_held ≡ held
-    → ReadsRules held names.rules rules → ReadsAsker held names.claims (asker_of asker)
+    → ReadsRules held names.rules rules → ReadsAsker held names.claims asker
     → Loads mid_held names.changes file_limit mid now (FindsRows names.feeding rules asker) (RefusesRows names.feeding rules asker) (Ok text) → MeansRows held names text.items
 means_rows held mid_held mid now names rules asker text same read claims h = record {
   rules = rules;
-  asker = asker_of asker;
+  asker = asker;
   transactions = h.2.transactions;
   rules_read = read;
   claims_read = claims;
@@ -272,7 +271,7 @@ module _ (held mid_held : Option Contents) (start mid now : ℕ) (words : List (
       cause_of_reports (reading held start now taken faults) mid_held mid words names rules fault same risen refl is read h
 
   pub rows_found : (names : Names) (rules : RuleSet) (asker : Asker) (result : Result (Vec ℕ Global) Fault) → mid_held ≡ held → start ≤ mid → command_of words ≡ Some (rows names) → ReadsRules held names.rules rules
-      → ReadsAsker held names.claims (asker_of asker)
+      → ReadsAsker held names.claims asker
       → Loads mid_held names.changes file_limit mid now (FindsRows names.feeding rules asker) (RefusesRows names.feeding rules asker) result → Finds held start now words result
   rows_found names rules asker (Ok text) same risen is read claims h = (rows names, is, means_rows held mid_held mid now names rules asker text same read claims h)
   rows_found names rules asker (Err fault) same risen is read claims h = λ taken faults.

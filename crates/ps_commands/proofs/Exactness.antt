@@ -7,7 +7,7 @@ use Rattle.ps_io.specs.Counts.{Rose}
 use Rattle.ps_rows.specs.declared.changes.Transaction.{Transaction}
 use Rattle.ps_rows.specs.declared.shown.Shown.{Shown}
 use Rattle.ps_definitions.specs.RuleSets.{RuleSet}
-use Rattle.ps_queries.specs.Meaning.{Asker}
+use Rattle.ps_queries.specs.declared.askers.Asker.{Asker}
 use Rattle.ps_token.specs.KeyFiles.{keys_of_file}
 use Rattle.ps_token.specs.KeyLists.{key_of}
 use Rattle.ps_token.specs.declared.key_lists.Key.{Key}

@@ -5,7 +5,7 @@ use Rattle.std.proofs.lemmas.List.{map-append}
 use Rattle.ps_io.specs.Contents.{Contents, Gains}
 use Rattle.ps_rows.specs.declared.changes.Transaction.{Transaction}
 use Rattle.ps_definitions.specs.RuleSets.{RuleSet}
-use Rattle.ps_queries.specs.Meaning.{Asker as AskerSeen}
+use Rattle.ps_queries.specs.declared.askers.Asker.{Asker}
 use Rattle.ps_audit.specs.declared.verdicts.Verdict.{Verdict}
 use Rattle.ps_audit.specs.declared.verdicts.Verdict.TheVariants.{Yes, No}
 use Rattle.ps_audit.specs.Judging.{texts}
@@ -78,7 +78,7 @@ judged held before now words names is files (Err Memory) h = λ taken faults.
     inl (refl, (audit names, is, (files.source.before.rules_read.bytes, files.source.before.rules_read.file)))
 
 -- judging reads no file
-pub judged_unread : (rules : RuleSet) (transactions : List Transaction) (asker : AskerSeen) (stream : List ℕ) (old new : Option (List (List ℕ))) (result : Result Verdict Fault) → new ≡ old
+pub judged_unread : (rules : RuleSet) (transactions : List Transaction) (asker : Asker) (stream : List ℕ) (old new : Option (List (List ℕ))) (result : Result Verdict Fault) → new ≡ old
     → JudgesFile rules transactions asker stream result → MissesNamed old new result
 judged_unread rules transactions asker stream old new (Ok verdict) same h = same
 judged_unread rules transactions asker stream old new (Err Usage) same h = absurd h

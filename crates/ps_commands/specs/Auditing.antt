@@ -2,7 +2,7 @@
 use Rattle.std.specs.Prelude.{◌≡◌, ℕ, ◌-◌, true, false, if◌then◌else◌, List, ◌++◌, flat_map, length, take, codes, decimal, Result, Ok, Err}
 use Rattle.ps_rows.specs.declared.changes.Transaction.{Transaction}
 use Rattle.ps_definitions.specs.RuleSets.{RuleSet}
-use Rattle.ps_queries.specs.Meaning.{Asker}
+use Rattle.ps_queries.specs.declared.askers.Asker.{Asker}
 use Rattle.ps_script.specs.Lines.{lines_of}
 use Rattle.ps_audit.specs.declared.verdicts.Broken.{Broken}
 use Rattle.ps_audit.specs.declared.verdicts.Broken.TheVariants.{BadRequest, BadLine, OutOfOrder, Checksum, NoPosition}

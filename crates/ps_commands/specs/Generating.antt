@@ -5,7 +5,7 @@ use Rattle.ps_rows.specs.declared.changes.Transaction.{Transaction}
 use Rattle.ps_rows.specs.declared.shown.Shown.{Shown}
 use Rattle.ps_gen.specs.Made.{made_rules, made_input}
 use Rattle.ps_definitions.specs.RuleSets.{RuleSet}
-use Rattle.ps_queries.specs.Meaning.{Asker}
+use Rattle.ps_queries.specs.declared.askers.Asker.{Asker}
 use Rattle.ps_store.specs.declared.totals.Totals.{Totals}
 use Rattle.ps_store.specs.Laws.{last_position}
 use Rattle.ps_store.specs.Totals.{totals_of}

@@ -2,7 +2,6 @@
 
 ghost use Rattle.std.specs.Prelude.{◌≡◌, ◌-◌, ◌++◌, ℕ, List, Some, length, take, string_bytes, IfOk, OnOk};
 ghost use Rattle.ps_script.specs.Lines.{lines_of};
-ghost use Rattle.ps_sql_eval.specs.Evaluated.{asker_of};
 ghost use Rattle.ps_store.specs.Laws.{Rises};
 ghost use Rattle.ps_audit.specs.Judging.{texts};
 ghost use Rattle.ps_files.specs.Loading.{MissesNamed};
@@ -137,7 +136,7 @@ fn judge<'a>(
     stream: &[u8],
 ) -> Result<Verdict, Fault<'a>>
     requires { Rises 0 transactions.now }
-    ensures { JudgesFile rules.now transactions.now (asker_of asker.now) stream.now result }
+    ensures { JudgesFile rules.now transactions.now asker.now stream.now result }
 {
     let lines = split_stream(alloc, stream)?;
     match audit(alloc, rules, transactions, asker, lines.as_slice()) {

@@ -2,7 +2,6 @@
 
 ghost use Rattle.std.specs.Prelude.{◌≡◌, ◌+◌, ◌^◌, ◌<◌, ◌≤◌, ◌++◌, List, length, IfOk, Ok};
 ghost use Rattle.ps_rows.specs.declared.changes.Transaction.{Transaction as TransactionData};
-ghost use Rattle.ps_sql_eval.specs.Evaluated.{asker_of};
 ghost use Rattle.ps_files.specs.MadeRules.{made_rule_set};
 ghost use Rattle.ps_files.specs.Making.{made_limit};
 ghost use Rattle.ps_files.specs.ReadingChanges.{HasCommitted};
@@ -17,7 +16,7 @@ use std::alloc::Global;
 
 // The asker of the one stream.
 fn made_asker(alloc: Global) -> Result<Asker, Memory>
-    ensures { IfOk result (λ asker. asker_of asker ≡ made_asker_of) }
+    ensures { IfOk result (λ asker. asker ≡ made_asker_of) }
 {
     Ok(Asker {
         user: Text::from_str(alloc, "u1")?,

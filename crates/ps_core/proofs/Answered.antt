@@ -25,7 +25,7 @@ use Rattle.ps_client.specs.States.{state}
 use Rattle.ps_client.specs.Tables.{is_told, differing}
 use Rattle.ps_client.specs.Taking.{Answers, IsFault, IsTaken, Rows, showing}
 use Rattle.ps_script.specs.declared.events.ScriptEvent.TheVariants as scripts
-use Rattle.ps_sql_eval.specs.declared.askers.Asker.{Asker}
+use Rattle.ps_queries.specs.declared.askers.Asker.{Asker}
 use Rattle.ps_store.specs.declared.events.Event.{Event as StoreEvent}
 use Rattle.ps_store.specs.declared.fixed.Fixed.{Fixed}
 use Rattle.ps_store.specs.declared.stores.Store.{Store}

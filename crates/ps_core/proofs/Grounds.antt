@@ -1,6 +1,5 @@
 -- The laws of the crates below, over one rule set.
-use Rattle.ps_sql_eval.specs.declared.askers.Asker.{Asker}
-use Rattle.ps_sql_eval.specs.Evaluated.{asker_of}
+use Rattle.ps_queries.specs.declared.askers.Asker.{Asker}
 use Rattle.ps_definitions.specs.RuleSets.{AreRules}
 use Rattle.std.proofs.Common.{List}
 use Rattle.ps_store.specs.declared.events.Event.{Event}
@@ -28,4 +27,4 @@ pub record Under (fixed : Fixed) : Type 0 where
   pub numbers : HaveNumbers fixed.rules.definitions
 
 pub lawful_in : (fixed : Fixed) → Under fixed → (history : List Event) (asker : Asker) → IsLegal fixed.rules history → IsLawful (course fixed history asker)
-lawful_in fixed under history asker legal = under.laws.lawful fixed.rules history (asker_of asker) under.rules under.numbers legal
+lawful_in fixed under history asker legal = under.laws.lawful fixed.rules history asker under.rules under.numbers legal

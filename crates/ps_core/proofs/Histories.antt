@@ -2,8 +2,7 @@
 use Rattle.std.proofs.Common.{ℕ, ◌≤◌, List, [], ◌∷◌, ◌++◌, Option, Some, None, sym, ap, ◌∙◌, arith, length, length-append}
 use Rattle.std.specs.Prelude.{fold}
 use Rattle.ps_definitions.specs.RuleSets.{RuleSet}
-use Rattle.ps_sql_eval.specs.declared.askers.Asker.{Asker}
-use Rattle.ps_sql_eval.specs.Evaluated.{asker_of}
+use Rattle.ps_queries.specs.declared.askers.Asker.{Asker}
 use Rattle.ps_store.specs.declared.events.Event.{Event}
 use Rattle.ps_store.specs.declared.fixed.Fixed.{Fixed}
 use Rattle.ps_store.specs.CourseLaws.{PlacesStay}
@@ -36,7 +35,7 @@ within_more history more at late = omega (arith, length-append history more)
 taken_more : PlacesStay → (fixed : Fixed) (history more : List Event) (asker : Asker) (at : ℕ) (session : SessionState) → at ≤ length history
     → HasTaken (course fixed history asker) at session → HasTaken (course fixed (history ++ more) asker) at session
 taken_more stay fixed history more asker at session late taken =
-    λ begun. taken begun ∙ sym (ap (λ (l : Ledger). take_of l (asker_of asker)) (stay fixed.rules history more at late))
+    λ begun. taken begun ∙ sym (ap (λ (l : Ledger). take_of l asker) (stay fixed.rules history more at late))
 
 stream_more : PlacesStay → (fixed : Fixed) (history more : List Event) (asker : Asker) (stream : Stream) (at : ℕ) (session : SessionState) (waiting : List Made)
     → StreamStandsFor fixed history asker stream at session waiting → StreamStandsFor fixed (history ++ more) asker stream at session waiting

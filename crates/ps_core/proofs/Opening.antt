@@ -2,7 +2,7 @@
 use Rattle.std.proofs.Common.{ℕ, List, ◌++◌, length, refl}
 use Rattle.ps_client.specs.declared.streams.Stream.TheVariants.{Asked}
 use Rattle.ps_client.specs.Clients.{PlainClient}
-use Rattle.ps_sql_eval.specs.declared.askers.Asker.{Asker}
+use Rattle.ps_queries.specs.declared.askers.Asker.{Asker}
 use Rattle.ps_store.specs.declared.events.Event.{Event}
 use Rattle.ps_store.specs.declared.fixed.Fixed.{Fixed}
 use Rattle.ps_streams.specs.Headline.{AreHonest, AsksOn}

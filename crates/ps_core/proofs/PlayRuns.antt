@@ -19,7 +19,6 @@ use Rattle.ps_store.specs.Courses.{Course}
 use Rattle.ps_store.specs.Ledgers.{Ledger, head_of, last_number}
 use Rattle.ps_store.specs.Readings.{batch_of, take_of}
 use Rattle.ps_session.specs.Sessions.{SessionState}
-use Rattle.ps_sql_eval.specs.Evaluated.{asker_of}
 use Rattle.ps_streams.specs.Headline.{AgreeUpTo}
 use Rattle.ps_streams.specs.Lives.{Link, Idle, Streaming}
 use Rattle.ps_streams.specs.Runs.{Made}
@@ -54,7 +53,7 @@ begin_runs fixed transactions name reader there = cc
 agree : PlacesStay → (fixed : Fixed) (history new : List Event) (reader : Reader)
     → AgreeUpTo (course fixed history reader.asker) (course fixed (history ++ new) reader.asker) (length history)
 agree places fixed history new reader = record {
-  take = λ n low. ap (λ (l : Ledger). take_of l (asker_of reader.asker)) (sym (places fixed.rules history new n low));
+  take = λ n low. ap (λ (l : Ledger). take_of l reader.asker) (sym (places fixed.rules history new n low));
   batch = λ n low high name upto. ap (λ (l : Ledger). batch_of l name low high) (sym (places fixed.rules history new n upto));
 }
 

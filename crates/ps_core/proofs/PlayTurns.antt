@@ -5,8 +5,7 @@ use Rattle.std.proofs.lemmas.Bool.{cases_Bool}
 use Rattle.ps_data.specs.declared.ids.OpId.{OpId}
 use Rattle.ps_bucket_log.specs.declared.batches.Batch.{Batch}
 use Rattle.ps_lines.specs.declared.lines.Line.{Line}
-use Rattle.ps_sql_eval.specs.declared.askers.Asker.{Asker}
-use Rattle.ps_sql_eval.specs.Evaluated.{asker_of}
+use Rattle.ps_queries.specs.declared.askers.Asker.{Asker}
 use Rattle.ps_client.specs.Clients.{PlainClient}
 use Rattle.ps_store.specs.declared.events.Event.{Event}
 use Rattle.ps_store.specs.declared.fixed.Fixed.{Fixed}
@@ -39,7 +38,7 @@ ledger_stays stay fixed history more = stay fixed.rules history more (length his
 
 take_stays : PlacesStay → (fixed : Fixed) (history more : List Event) (asker : Asker)
     → (course fixed (history ++ more) asker).take (length history) ≡ (course fixed history asker).take (length history)
-take_stays stay fixed history more asker = ap (λ (l : Ledger). take_of l (asker_of asker)) (ledger_stays stay fixed history more)
+take_stays stay fixed history more asker = ap (λ (l : Ledger). take_of l asker) (ledger_stays stay fixed history more)
 
 batch_stays : PlacesStay → (fixed : Fixed) (history more : List Event) (asker : Asker) (name : List ℕ) (low high : ℕ)
     → (course fixed (history ++ more) asker).batch (length history) name low high ≡ (course fixed history asker).batch (length history) name low high

@@ -6,8 +6,7 @@ use Rattle.std.proofs.lemmas.Bool.{and_left, and_right, cases_Bool, le-ltb}
 use Rattle.std.proofs.lemmas.List.{length-map}
 use Rattle.ps_data.specs.declared.ids.OpId.{OpId}
 use Rattle.ps_lines.specs.declared.lines.Line.{Line}
-use Rattle.ps_sql_eval.specs.declared.askers.Asker.{Asker}
-use Rattle.ps_sql_eval.specs.Evaluated.{asker_of}
+use Rattle.ps_queries.specs.declared.askers.Asker.{Asker}
 use Rattle.ps_store.specs.declared.fixed.Fixed.{Fixed}
 use Rattle.ps_store.specs.declared.readings.TakeFault.{TakeFault}
 use Rattle.ps_store.specs.declared.readings.TakeFault.TheVariants.{TooManyBuckets, Memory}
@@ -62,18 +61,18 @@ module _ (fixed : Fixed) (play : Play) (store : Store) (asker : Asker) (old : St
   n = place play
 
   -- the session of the stream is under way
-  pub way : IsUnderWay (course_of fixed.rules play.history (asker_of old.session.asker)) n at (state_of old.session)
+  pub way : IsUnderWay (course_of fixed.rules play.history old.session.asker) n at (state_of old.session)
   way =
-      subst (λ (own : Asker). IsUnderWay (course_of fixed.rules play.history (asker_of own)) n at (state_of old.session)) (sym it.stands.asker_is)
+      subst (λ (own : Asker). IsUnderWay (course_of fixed.rules play.history own) n at (state_of old.session)) (sym it.stands.asker_is)
       (subst (λ (s : SessionState). IsUnderWay (course fixed play.history asker) n at s) (sym it.stands.session_is) (record { taken = it.stands.taken; late = it.stands.late }))
 
-  take_length : EndsAreWhole → length ((course fixed play.history asker).take n).buckets ≡ length (names_of (ledger_of fixed.rules play.history) (asker_of asker))
+  take_length : EndsAreWhole → length ((course fixed play.history asker).take n).buckets ≡ length (names_of (ledger_of fixed.rules play.history) asker)
   take_length whole =
       let l = ledger_of fixed.rules play.history in
-      ap (λ (x : Ledger). length (take_of x (asker_of asker)).buckets) (whole fixed.rules play.history)
-      ∙ length-map (names_of l (asker_of asker)) (λ (name : List ℕ). bucket_upto l.op name (l.log name))
+      ap (λ (x : Ledger). length (take_of x asker).buckets) (whole fixed.rules play.history)
+      ∙ length-map (names_of l asker) (λ (name : List ℕ). bucket_upto l.op name (l.log name))
 
-  few_so : EndsAreWhole → (takes_in session.phase ≡ true → length (names_of (ledger_of fixed.rules play.history) (asker_of asker)) ≤ fixed.limits.buckets)
+  few_so : EndsAreWhole → (takes_in session.phase ≡ true → length (names_of (ledger_of fixed.rules play.history) asker) ≤ fixed.limits.buckets)
       → takes_in session.phase && nat_lt fixed.limits.buckets (length ((course fixed play.history asker).take n).buckets) ≡ false
   few_so whole few =
       let count = length ((course fixed play.history asker).take n).buckets in
@@ -87,14 +86,14 @@ module _ (fixed : Fixed) (play : Play) (store : Store) (asker : Asker) (old : St
       ]
 
   -- the turn is the asker's, over the session that the stream stands for
-  own_turn : (now : SessionState) (result : _) → TurnsSo fixed play.history (asker_of old.session.asker) at (state_of old.session) now result
-      → TurnsSo fixed play.history (asker_of asker) at session now result
+  own_turn : (now : SessionState) (result : _) → TurnsSo fixed play.history old.session.asker at (state_of old.session) now result
+      → TurnsSo fixed play.history asker at session now result
   own_turn now result turns =
-      subst (λ (s : SessionState). TurnsSo fixed play.history (asker_of asker) at s now result) it.stands.session_is
-      (subst (λ (own : Asker). TurnsSo fixed play.history (asker_of own) at (state_of old.session) now result) it.stands.asker_is turns)
+      subst (λ (s : SessionState). TurnsSo fixed play.history asker at s now result) it.stands.session_is
+      (subst (λ (own : Asker). TurnsSo fixed play.history own at (state_of old.session) now result) it.stands.asker_is turns)
 
   pub turned_so : EndsAreWhole → (new : Stream) (outcome : TurnOutcome) (effect : Effect)
-      → TurnsSo fixed play.history (asker_of old.session.asker) at (state_of old.session) (state_of new.session) (Ok outcome) → IsSent old new outcome effect
+      → TurnsSo fixed play.history old.session.asker at (state_of old.session) (state_of new.session) (Ok outcome) → IsSent old new outcome effect
       → Turned fixed play asker at session waiting new effect
   turned_so whole new outcome effect turns sent =
       let own = own_turn (state_of new.session) (Ok outcome) turns in
@@ -116,7 +115,7 @@ module _ (fixed : Fixed) (play : Play) (store : Store) (asker : Asker) (old : St
         };
       }
 
-  pub not_turned : EndsAreWhole → (new : Stream) (fault : TakeFault) → TurnsSo fixed play.history (asker_of old.session.asker) at (state_of old.session) (state_of new.session) (Err fault)
+  pub not_turned : EndsAreWhole → (new : Stream) (fault : TakeFault) → TurnsSo fixed play.history old.session.asker at (state_of old.session) (state_of new.session) (Err fault)
       → Turns fixed play asker at session waiting new (Err fault)
   not_turned whole new (TooManyBuckets count) turns =
       let own = own_turn (state_of new.session) (Err (TooManyBuckets count)) turns in

@@ -6,7 +6,7 @@ use Rattle.std.specs.Cmp.Lexicographic.{slice_cmp}
 use Rattle.std.specs.Ordering.{nat_cmp}
 use Rattle.std.proofs.lemmas.Bool.{cases_Bool, cond-true, cond-false}
 use Rattle.std.proofs.lemmas.Map.Text.{is_eq-slice_cmp}
-use Rattle.ps_sql_eval.specs.declared.askers.Asker.{Asker}
+use Rattle.ps_queries.specs.declared.askers.Asker.{Asker}
 use Rattle.ps_script.specs.declared.events.ScriptEvent.{ScriptEvent}
 use Rattle.ps_script.specs.declared.events.ScriptEvent.TheVariants as scripts
 use Rattle.ps_script.specs.declared.faults.ScriptFault.{ScriptFault}

@@ -4,8 +4,7 @@ use Rattle.ps_rows.specs.declared.changes.Transaction.{Transaction}
 use Rattle.ps_client.specs.declared.streams.Stream.TheVariants.{Over}
 use Rattle.ps_client.specs.Clients.{PlainClient}
 use Rattle.ps_client_log.specs.Kept.{nothing_kept}
-use Rattle.ps_sql_eval.specs.declared.askers.Asker.{Asker}
-use Rattle.ps_sql_eval.specs.Evaluated.{asker_of}
+use Rattle.ps_queries.specs.declared.askers.Asker.{Asker}
 use Rattle.ps_store.specs.declared.events.Event.{Event}
 use Rattle.ps_store.specs.declared.fixed.Fixed.{Fixed}
 use Rattle.ps_store.specs.Courses.{Course, course_of}
@@ -52,7 +51,7 @@ place play = length play.history
 
 -- what an asker reads at each place of a history
 abbrev pub course : Fixed → List Event → Asker → Course
-course fixed history asker = course_of fixed.rules history (asker_of asker)
+course fixed history asker = course_of fixed.rules history asker
 
 -- the store does one more thing
 abbrev pub happens : Event → Play → Play

@@ -1,6 +1,6 @@
 -- The turns of a stream.
 use Rattle.std.specs.Prelude.{◌≡◌, ℕ, ◌<◌, ◌++◌, true, false, List, [], length, None, nat_lt, ◌&&◌, Result, Ok, Err}
-use Rattle.ps_sql_eval.specs.declared.askers.Asker.{Asker}
+use Rattle.ps_queries.specs.declared.askers.Asker.{Asker}
 use Rattle.ps_store.specs.declared.fixed.Fixed.{Fixed}
 use Rattle.ps_store.specs.declared.readings.TakeFault.{TakeFault}
 use Rattle.ps_store.specs.declared.readings.TakeFault.TheVariants.{TooManyBuckets, Memory}

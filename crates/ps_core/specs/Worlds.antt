@@ -7,7 +7,7 @@ use Rattle.ps_lines.specs.declared.lines.Line.{Line}
 use Rattle.ps_lines.specs.Reading.{line_of}
 use Rattle.ps_lines.specs.Writing.{without_targets}
 use Rattle.ps_client.specs.States.{state}
-use Rattle.ps_sql_eval.specs.declared.askers.Asker.{Asker}
+use Rattle.ps_queries.specs.declared.askers.Asker.{Asker}
 use Rattle.ps_store.specs.declared.events.Event.{Event}
 use Rattle.ps_store.specs.declared.fixed.Fixed.{Fixed}
 use Rattle.ps_store.specs.Stores.{StoreStandsFor}

@@ -1,7 +1,7 @@
 //! The turns of a stream, whose lines wait until the client takes them.
 
 ghost use Rattle.std.specs.Prelude.{◌≡◌, ℕ, ◌++◌, [], List, None, IfOk};
-ghost use Rattle.ps_sql_eval.specs.declared.askers.Asker.{Asker};
+ghost use Rattle.ps_queries.specs.declared.askers.Asker.{Asker};
 ghost use Rattle.ps_store.specs.declared.fixed.Fixed.{Fixed as FixedSeen};
 ghost use Rattle.ps_session.specs.Sessions.{SessionState};
 ghost use Rattle.ps_streams.specs.Runs.{Made, made_by};

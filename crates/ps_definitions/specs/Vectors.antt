@@ -4,7 +4,7 @@ use Rattle.std.specs.List.{flat_map}
 use Rattle.ps_data.specs.declared.values.Value.{Value}
 use Rattle.ps_data.specs.declared.values.Value.TheVariants.{Null}
 use Rattle.ps_queries.specs.declared.queries.ParameterQuery.{ParameterQuery}
-use Rattle.ps_queries.specs.Meaning.{Asker}
+use Rattle.ps_queries.specs.declared.askers.Asker.{Asker}
 use Rattle.ps_queries.specs.Vectors.{SourceRow, vector_on}
 use Rattle.ps_definitions.specs.declared.definitions.Definition.{Definition}
 

@@ -6,7 +6,7 @@ use Rattle.ps_lines.specs.declared.lines.Line.TheVariants.{Complete as CompleteL
 use Rattle.ps_lines.specs.Writing.{IsWritable, without_targets}
 use Rattle.ps_client.specs.declared.events.Event.{Event}
 use Rattle.ps_client.specs.Clients.{PlainClient, taken}
-use Rattle.ps_queries.specs.Meaning.{Asker}
+use Rattle.ps_queries.specs.declared.askers.Asker.{Asker}
 use Rattle.ps_store.specs.declared.events.Event.{Event as StoreEvent}
 use Rattle.ps_store.specs.declared.fixed.Fixed.{Fixed}
 use Rattle.ps_store.specs.Courses.{Course, course_of}

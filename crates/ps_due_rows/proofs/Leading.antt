@@ -1,8 +1,6 @@
 -- Where a turn leads a client, over the readings of a whole history.
 use Rattle.std.proofs.Common.{◌≡◌, ℕ, None, List, [], refl, sym, ap, subst, length, arith}
-use Rattle.ps_queries.specs.Meaning.{Asker}
-use Rattle.ps_sql_eval.specs.declared.askers.Asker.{Asker as OwnAsker}
-use Rattle.ps_sql_eval.specs.Evaluated.{asker_of}
+use Rattle.ps_queries.specs.declared.askers.Asker.{Asker}
 use Rattle.ps_granted.specs.Latest.{due}
 use Rattle.ps_client.specs.Clients.{PlainClient}
 use Rattle.ps_store.specs.declared.events.Event.{Event}
@@ -49,10 +47,10 @@ turn_leads on course n session client turned lawful told is led =
 
 -- ---- askers
 
-pub led_by : (fixed : Fixed) (history : List Event) (a b : OwnAsker) (session : SessionState) (client : PlainClient) → a ≡ b → IsLedIn fixed history (asker_of b) session client
-    → IsLedIn fixed history (asker_of a) session client
-led_by fixed history a b session client same led = subst (λ (own : OwnAsker). IsLedIn fixed history (asker_of own) session client) (sym same) led
+pub led_by : (fixed : Fixed) (history : List Event) (a b : Asker) (session : SessionState) (client : PlainClient) → a ≡ b → IsLedIn fixed history b session client
+    → IsLedIn fixed history a session client
+led_by fixed history a b session client same led = subst (λ (own : Asker). IsLedIn fixed history own session client) (sym same) led
 
-pub due_by : (fixed : Fixed) (history : List Event) (a b : OwnAsker) → a ≡ b
-    → (course_of fixed.rules history (asker_of a)).due (length history) ≡ (course_of fixed.rules history (asker_of b)).due (length history)
-due_by fixed history a b same = ap (λ (own : OwnAsker). (course_of fixed.rules history (asker_of own)).due (length history)) same
+pub due_by : (fixed : Fixed) (history : List Event) (a b : Asker) → a ≡ b
+    → (course_of fixed.rules history a).due (length history) ≡ (course_of fixed.rules history b).due (length history)
+due_by fixed history a b same = ap (λ (own : Asker). (course_of fixed.rules history own).due (length history)) same

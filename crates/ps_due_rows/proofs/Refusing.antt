@@ -2,8 +2,7 @@
 use Rattle.std.proofs.Common.{◌≡◌, ℕ, List, Ok, Err}
 use Rattle.ps_definitions.specs.RuleSets.{RuleSet}
 use Rattle.ps_rows.specs.declared.changes.Transaction.{Transaction}
-use Rattle.ps_sql_eval.specs.declared.askers.Asker.{Asker}
-use Rattle.ps_sql_eval.specs.Evaluated.{asker_of}
+use Rattle.ps_queries.specs.declared.askers.Asker.{Asker}
 use Rattle.ps_files.specs.declared.faults.Fault.{Fault}
 use Rattle.ps_files.specs.declared.faults.Fault.TheVariants.{Usage, Rules, Change, PastLimit, TooManyBuckets, Claims, Keys, TooLong, CannotRead, CannotWrite, Script, Memory}
 use Rattle.ps_due_rows.specs.declared.feedings.Feeding.{Feeding}
@@ -29,7 +28,7 @@ not_fed feeding rules asker bytes Memory h = tt
 
 -- where an asker's rows are not answered, neither are they printed
 pub rows_refused : (feeding : Feeding) (rules : RuleSet) (asker : Asker) (bytes : List ℕ) (transactions : List Transaction) → fed_by feeding rules bytes ≡ Ok transactions
-    → (fault : Fault) → Answers rules (asker_of asker) transactions (Err fault) → Prepares feeding rules asker bytes (Err fault)
+    → (fault : Fault) → Answers rules asker transactions (Err fault) → Prepares feeding rules asker bytes (Err fault)
 rows_refused feeding rules asker bytes transactions read Usage h = absurd h
 rows_refused feeding rules asker bytes transactions read (Rules line column why) h = absurd h
 rows_refused feeding rules asker bytes transactions read (Change line why) h = absurd h

@@ -2,9 +2,7 @@
 use Rattle.std.proofs.Common.{◌≡◌, List, Err, subst}
 use Rattle.std.specs.Prelude.{Result}
 use Rattle.ps_rows.specs.declared.shown.Shown.{Shown}
-use Rattle.ps_queries.specs.Meaning.{Asker as AskerSeen}
-use Rattle.ps_sql_eval.specs.declared.askers.Asker.{Asker}
-use Rattle.ps_sql_eval.specs.Evaluated.{asker_of}
+use Rattle.ps_queries.specs.declared.askers.Asker.{Asker}
 use Rattle.ps_client.specs.Clients.{PlainClient}
 use Rattle.ps_store.specs.declared.events.Event.{Event}
 use Rattle.ps_store.specs.declared.fixed.Fixed.{Fixed}
@@ -14,10 +12,10 @@ use Rattle.ps_session.specs.Sessions.{SessionState}
 use Rattle.ps_due_rows.specs.Syncing.{Syncs}
 use Rattle.ps_due_rows.specs.Turning.{Begins}
 
-pub begun_so : (fixed : Fixed) (history : List Event) (asker : AskerSeen) (fault : TakeFault) (session : SessionState) (client : PlainClient) → Begins fixed history asker session client (Err fault)
+pub begun_so : (fixed : Fixed) (history : List Event) (asker : Asker) (fault : TakeFault) (session : SessionState) (client : PlainClient) → Begins fixed history asker session client (Err fault)
     → Syncs fixed history asker (Err fault)
 begun_so fixed history asker (TooManyBuckets count) session client many = many
 begun_so fixed history asker Memory session client none = tt
 
-pub same_asker : (fixed : Fixed) (history : List Event) (a b : Asker) (result : Result (List Shown) TakeFault) → a ≡ b → Syncs fixed history (asker_of a) result → Syncs fixed history (asker_of b) result
-same_asker fixed history a b result same syncs = subst (λ (own : Asker). Syncs fixed history (asker_of own) result) same syncs
+pub same_asker : (fixed : Fixed) (history : List Event) (a b : Asker) (result : Result (List Shown) TakeFault) → a ≡ b → Syncs fixed history a result → Syncs fixed history b result
+same_asker fixed history a b result same syncs = subst (λ (own : Asker). Syncs fixed history own result) same syncs

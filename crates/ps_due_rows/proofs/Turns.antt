@@ -2,7 +2,7 @@
 use Rattle.std.proofs.Common.{◌≡◌, ℕ, true, Some, None, Option, List, [], refl, sym, ap, subst, ◌∙◌, length, arith}
 use Rattle.std.specs.Prelude.{Result, Ok, Err, OnOk, option_map}
 use Rattle.ps_bucket_log.specs.declared.takes.TakenBucket.{TakenBucket}
-use Rattle.ps_queries.specs.Meaning.{Asker}
+use Rattle.ps_queries.specs.declared.askers.Asker.{Asker}
 use Rattle.ps_lines.specs.declared.bodies.StreamBody.{StreamBody}
 use Rattle.ps_lines.specs.declared.lines.Line.{Line}
 use Rattle.ps_client_log.specs.Kept.{Kept, nothing_kept}

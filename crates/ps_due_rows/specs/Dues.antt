@@ -7,7 +7,7 @@ use Rattle.ps_granted.specs.Latest.{due as due_by}
 use Rattle.ps_granted.specs.Sources.{rows_in}
 use Rattle.ps_params.specs.Names.{bucket_names}
 use Rattle.ps_definitions.specs.RuleSets.{RuleSet}
-use Rattle.ps_queries.specs.Meaning.{Asker}
+use Rattle.ps_queries.specs.declared.askers.Asker.{Asker}
 use Rattle.ps_store.specs.Laws.{last_position}
 use Rattle.ps_store.specs.Limits.{usual_limits}
 use Rattle.ps_files.specs.declared.faults.Fault.{Fault}

@@ -5,8 +5,7 @@ use Rattle.ps_rows.specs.declared.changes.Transaction.{Transaction}
 use Rattle.ps_files.specs.declared.faults.Fault.{Fault}
 use Rattle.ps_files.specs.declared.faults.Fault.TheVariants.{Usage, Rules, Change, PastLimit, TooManyBuckets, Claims, Keys, TooLong, CannotRead, CannotWrite, Script, Memory}
 use Rattle.ps_definitions.specs.RuleSets.{RuleSet}
-use Rattle.ps_sql_eval.specs.declared.askers.Asker.{Asker}
-use Rattle.ps_sql_eval.specs.Evaluated.{asker_of}
+use Rattle.ps_queries.specs.declared.askers.Asker.{Asker}
 use Rattle.ps_store.specs.Laws.{last_position}
 use Rattle.ps_store.specs.Limits.{usual_limits}
 use Rattle.ps_due_rows.specs.declared.feedings.Feeding.{Feeding}
@@ -18,14 +17,14 @@ use Rattle.ps_showing.specs.Printing.{rows_text}
 pub record FindsRows (feeding : Feeding) (rules : RuleSet) (asker : Asker) (text : Vec ℕ Global) (bytes : List ℕ) : Type 0 where
   pub transactions : List Transaction
   pub read : fed_by feeding rules bytes ≡ Ok transactions
-  pub within : length (own_buckets rules (asker_of asker) transactions) ≤ usual_limits.buckets
-  pub is : text.items ≡ rows_text (due rules (asker_of asker) transactions (last_position 0 transactions))
+  pub within : length (own_buckets rules asker transactions) ≤ usual_limits.buckets
+  pub is : text.items ≡ rows_text (due rules asker transactions (last_position 0 transactions))
 
 -- all lines are taken, and the asker has so many buckets, more than an asker may have
 pub record HasMore (feeding : Feeding) (rules : RuleSet) (asker : Asker) (count : ℕ) (bytes : List ℕ) : Type 0 where
   pub transactions : List Transaction
   pub read : fed_by feeding rules bytes ≡ Ok transactions
-  pub count_is : count ≡ length (own_buckets rules (asker_of asker) transactions)
+  pub count_is : count ≡ length (own_buckets rules asker transactions)
   pub more : usual_limits.buckets < count
 
 abbrev pub RefusesRows : Feeding → RuleSet → Asker → Fault → List ℕ → Type 0

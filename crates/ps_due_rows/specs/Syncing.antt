@@ -1,7 +1,7 @@
 -- What a client shows that took one whole checkpoint of a store that stands still.
 use Rattle.std.specs.Prelude.{◌≡◌, ◌≤◌, List, length, Result, Ok, Err}
 use Rattle.ps_rows.specs.declared.shown.Shown.{Shown}
-use Rattle.ps_queries.specs.Meaning.{Asker}
+use Rattle.ps_queries.specs.declared.askers.Asker.{Asker}
 use Rattle.ps_granted.specs.Latest.{due}
 use Rattle.ps_store.specs.declared.events.Event.{Event}
 use Rattle.ps_store.specs.declared.fixed.Fixed.{Fixed}

@@ -1,6 +1,6 @@
 -- What a session and its client keep, turn by turn, over a store that stands still.
 use Rattle.std.specs.Prelude.{◌≡◌, true, ℕ, ◌≤◌, List, [], length, Result, Ok, Err}
-use Rattle.ps_queries.specs.Meaning.{Asker}
+use Rattle.ps_queries.specs.declared.askers.Asker.{Asker}
 use Rattle.ps_client_log.specs.declared.states.Target.TheVariants.{Free}
 use Rattle.ps_client.specs.Clients.{PlainClient}
 use Rattle.ps_store.specs.declared.events.Event.{Event}

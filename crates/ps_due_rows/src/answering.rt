@@ -3,7 +3,6 @@
 ghost use Rattle.std.specs.Prelude.{List};
 ghost use Rattle.ps_rows.specs.declared.changes.Transaction.{Transaction};
 ghost use Rattle.ps_definitions.specs.RuleSets.{RuleSet};
-ghost use Rattle.ps_sql_eval.specs.Evaluated.{asker_of};
 ghost use Rattle.ps_due_rows.specs.Dues.{Answers};
 ghost use Rattle.ps_due_rows.specs.Filling.{IsServed};
 
@@ -20,7 +19,7 @@ use std::alloc::Global;
 /// Fails with `TooManyBuckets` where the asker has more buckets than an asker may have.
 pub fn due_rows<'a>(alloc: Global, store: &Store, asker: Asker) -> Result<Items<Shown>, Fault<'a>>
     requires { (rules : RuleSet) × (transactions : List Transaction) × IsServed rules transactions store.now }
-    ensures { (rules : RuleSet) (transactions : List Transaction) → IsServed rules transactions store.now → Answers rules (asker_of asker) transactions result }
+    ensures { (rules : RuleSet) (transactions : List Transaction) → IsServed rules transactions store.now → Answers rules asker transactions result }
 {
     ledgers_tell_ops();
     match synced_rows(alloc, store, asker) {

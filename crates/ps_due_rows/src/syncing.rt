@@ -1,7 +1,6 @@
 //! A whole checkpoint into a client.
 
 ghost use Rattle.std.specs.Prelude.{◌≡◌, List, length, IfOk};
-ghost use Rattle.ps_sql_eval.specs.Evaluated.{asker_of};
 ghost use Rattle.ps_store.specs.declared.events.Event.{Event as EventSeen};
 ghost use Rattle.ps_store.specs.declared.fixed.Fixed.{Fixed as FixedSeen};
 ghost use Rattle.ps_store.specs.Stores.{StoreStandsFor};
@@ -33,10 +32,10 @@ fn applied_rows(
     requires phase { (state_of session.old).phase ≡ Download }
     requires idle { IsIdle (state client.old) }
     requires led { (fixed : FixedSeen) × (history : List EventSeen) × StoreStandsFor fixed store.now history
-        × IsLedIn fixed history (asker_of session.old.asker) (state_of session.old) (state client.old) }
+        × IsLedIn fixed history session.old.asker (state_of session.old) (state client.old) }
     ensures { IfOk result (λ rows. (fixed : FixedSeen) (history : List EventSeen) → StoreStandsFor fixed store.now history
-        → IsLedIn fixed history (asker_of session.old.asker) (state_of session.old) (state client.old)
-        → rows ≡ (course_of fixed.rules history (asker_of session.old.asker)).due (length history)) }
+        → IsLedIn fixed history session.old.asker (state_of session.old) (state client.old)
+        → rows ≡ (course_of fixed.rules history session.old.asker).due (length history)) }
 {
     download(alloc, store, session, client)?;
     complete(alloc, store, session, client)?;
@@ -54,9 +53,9 @@ fn rows_of(
     requires phase { (state_of session.old).phase ≡ Start }
     requires idle { IsIdle (state client.old) }
     requires led { (fixed : FixedSeen) × (history : List EventSeen) × StoreStandsFor fixed store.now history
-        × IsLedIn fixed history (asker_of session.old.asker) (state_of session.old) (state client.old) }
+        × IsLedIn fixed history session.old.asker (state_of session.old) (state client.old) }
     ensures { (fixed : FixedSeen) (history : List EventSeen) → StoreStandsFor fixed store.now history
-        → IsLedIn fixed history (asker_of session.old.asker) (state_of session.old) (state client.old) → Syncs fixed history (asker_of session.old.asker) result }
+        → IsLedIn fixed history session.old.asker (state_of session.old) (state client.old) → Syncs fixed history session.old.asker result }
 {
     places_are_fronts();
     take(alloc, store, session, client)?;
@@ -69,7 +68,7 @@ fn rows_of(
 pub fn synced_rows(alloc: Global, store: &Store, asker: Asker) -> Result<Items<Shown>, TakeFault>
     requires { (fixed : FixedSeen) × (history : List EventSeen) × StoreStandsFor fixed store.now history }
     ensures { (fixed : FixedSeen) (history : List EventSeen) → StoreStandsFor fixed store.now history
-        → Syncs fixed history (asker_of asker) result }
+        → Syncs fixed history asker result }
 {
     courses_are_lawful();
     let mut client = begin_client(alloc);

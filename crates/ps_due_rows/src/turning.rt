@@ -2,7 +2,6 @@
 
 ghost use Rattle.std.specs.Prelude.{◌≡◌, ◌<◌, List, OnOk, length};
 ghost use Rattle.ps_rows.specs.declared.shown.Shown.{Shown as ShownSeen};
-ghost use Rattle.ps_sql_eval.specs.Evaluated.{asker_of};
 ghost use Rattle.ps_client.specs.States.{state};
 ghost use Rattle.ps_store.specs.declared.events.Event.{Event as EventSeen};
 ghost use Rattle.ps_store.specs.declared.fixed.Fixed.{Fixed as FixedSeen};
@@ -33,10 +32,10 @@ fn turn(
     client: &mut Client<VolatileKeeper>,
 ) -> Result<(), TakeFault>
     requires { (fixed : FixedSeen) × (history : List EventSeen) × StoreStandsFor fixed store.now history
-        × IsLedIn fixed history (asker_of session.old.asker) (state_of session.old) (state client.old) }
+        × IsLedIn fixed history session.old.asker (state_of session.old) (state client.old) }
     ensures led { (fixed : FixedSeen) (history : List EventSeen) → StoreStandsFor fixed store.now history
-        → IsLedIn fixed history (asker_of session.old.asker) (state_of session.old) (state client.old)
-        → TurnsLed fixed history (asker_of session.old.asker) (state_of session.old) (state_of session.new) (state client.new) result }
+        → IsLedIn fixed history session.old.asker (state_of session.old) (state client.old)
+        → TurnsLed fixed history session.old.asker (state_of session.old) (state_of session.new) (state client.new) result }
     ensures idle { OnOk result (IsIdle (state client.old) → IsIdle (state client.new)) }
     ensures asker { session.new.asker ≡ session.old.asker }
 {
@@ -58,10 +57,10 @@ pub fn take(
 ) -> Result<(), TakeFault>
     requires phase { (state_of session.old).phase ≡ Start }
     requires led { (fixed : FixedSeen) × (history : List EventSeen) × StoreStandsFor fixed store.now history
-        × IsLedIn fixed history (asker_of session.old.asker) (state_of session.old) (state client.old) }
+        × IsLedIn fixed history session.old.asker (state_of session.old) (state client.old) }
     ensures begins { (fixed : FixedSeen) (history : List EventSeen) → StoreStandsFor fixed store.now history
-        → IsLedIn fixed history (asker_of session.old.asker) (state_of session.old) (state client.old)
-        → Begins fixed history (asker_of session.old.asker) (state_of session.new) (state client.new) result }
+        → IsLedIn fixed history session.old.asker (state_of session.old) (state client.old)
+        → Begins fixed history session.old.asker (state_of session.new) (state client.new) result }
     ensures phase { OnOk result ((state_of session.new).phase ≡ Download) }
     ensures idle { OnOk result (IsIdle (state client.old) → IsIdle (state client.new)) }
     ensures asker { session.new.asker ≡ session.old.asker }
@@ -78,10 +77,10 @@ fn read_on(
 ) -> Result<(), Memory>
     requires action { IsReading (next_action (state_of session.old)) }
     requires led { (fixed : FixedSeen) × (history : List EventSeen) × StoreStandsFor fixed store.now history
-        × IsLedIn fixed history (asker_of session.old.asker) (state_of session.old) (state client.old) }
+        × IsLedIn fixed history session.old.asker (state_of session.old) (state client.old) }
     ensures led { OnOk result ((fixed : FixedSeen) (history : List EventSeen) → StoreStandsFor fixed store.now history
-        → IsLedIn fixed history (asker_of session.old.asker) (state_of session.old) (state client.old)
-        → IsLedIn fixed history (asker_of session.old.asker) (state_of session.new) (state client.new)) }
+        → IsLedIn fixed history session.old.asker (state_of session.old) (state client.old)
+        → IsLedIn fixed history session.old.asker (state_of session.new) (state client.new)) }
     ensures phase { OnOk result ((state_of session.new).phase ≡ Download) }
     ensures falls { OnOk result (left (state_of session.new) < left (state_of session.old)) }
     ensures idle { OnOk result (IsIdle (state client.old) → IsIdle (state client.new)) }
@@ -105,10 +104,10 @@ pub fn download(
 ) -> Result<(), Memory>
     requires phase { (state_of session.old).phase ≡ Download }
     requires led { (fixed : FixedSeen) × (history : List EventSeen) × StoreStandsFor fixed store.now history
-        × IsLedIn fixed history (asker_of session.old.asker) (state_of session.old) (state client.old) }
+        × IsLedIn fixed history session.old.asker (state_of session.old) (state client.old) }
     ensures led { OnOk result ((fixed : FixedSeen) (history : List EventSeen) → StoreStandsFor fixed store.now history
-        → IsLedIn fixed history (asker_of session.old.asker) (state_of session.old) (state client.old)
-        → IsLedIn fixed history (asker_of session.old.asker) (state_of session.new) (state client.new)) }
+        → IsLedIn fixed history session.old.asker (state_of session.old) (state client.old)
+        → IsLedIn fixed history session.old.asker (state_of session.new) (state client.new)) }
     ensures sent { OnOk result (next_action (state_of session.new) ≡ actions.Complete) }
     ensures idle { OnOk result (IsIdle (state client.old) → IsIdle (state client.new)) }
     ensures asker { session.new.asker ≡ session.old.asker }
@@ -132,10 +131,10 @@ pub fn complete(
     requires action { next_action (state_of session.old) ≡ actions.Complete }
     requires idle { IsIdle (state client.old) }
     requires led { (fixed : FixedSeen) × (history : List EventSeen) × StoreStandsFor fixed store.now history
-        × IsLedIn fixed history (asker_of session.old.asker) (state_of session.old) (state client.old) }
+        × IsLedIn fixed history session.old.asker (state_of session.old) (state client.old) }
     ensures { OnOk result ((fixed : FixedSeen) (history : List EventSeen) (rows : List ShownSeen) → StoreStandsFor fixed store.now history
-        → IsLedIn fixed history (asker_of session.old.asker) (state_of session.old) (state client.old)
-        → AreListed (state client.new).kept.shown rows → rows ≡ (course_of fixed.rules history (asker_of session.old.asker)).due (length history)) }
+        → IsLedIn fixed history session.old.asker (state_of session.old) (state client.old)
+        → AreListed (state client.new).kept.shown rows → rows ≡ (course_of fixed.rules history session.old.asker).due (length history)) }
 {
     calls_make_turns();
     clients_are_led();

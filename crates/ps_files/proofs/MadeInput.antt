@@ -19,7 +19,8 @@ use Rattle.ps_definitions.specs.declared.queries.Planned.{Planned}
 use Rattle.ps_definitions.specs.declared.definitions.Definition.{Definition}
 use Rattle.ps_definitions.specs.Buckets.{bucket_name_of, in_order}
 use Rattle.ps_bucket_eval.specs.declared.placed.Placed.{Placed}
-use Rattle.ps_bucket_eval.specs.Entries.{RowOf, placed_in, placed_all, buckets_of, query_entries, entries_of}
+use Rattle.ps_queries.specs.Vectors.{SourceRow}
+use Rattle.ps_bucket_eval.specs.Entries.{placed_in, placed_all, buckets_of, query_entries, entries_of}
 use Rattle.ps_bucket_eval.specs.Vectors.{with_vector, tried, holding}
 use Rattle.ps_store.specs.declared.entered.Entered.{Entered}
 use Rattle.ps_store.specs.Ledgers.{timed_of}
@@ -58,7 +59,7 @@ few_in_order (name ∷ names) = omega (arith, few_inserted (in_order names) name
 -- ---- entries
 
 -- a query puts a row into no more buckets than vectors are tried
-module _ (d : Definition) (q : Planned) (source : RowOf) where
+module _ (d : Definition) (q : Planned) (source : SourceRow) where
   few_buckets : length (buckets_of d source q) ≤ length (tried source.id source.row d.names q)
   unfolding buckets_of holding
   few_buckets =
@@ -82,7 +83,7 @@ module _ (d : Definition) (q : Planned) (source : RowOf) where
     by false object = omega arith
 
 -- a row has one entry at most under the made rules
-one_entry : (source : RowOf) → length (entries_of made_rule_set.definitions source) ≤ 1
+one_entry : (source : SourceRow) → length (entries_of made_rule_set.definitions source) ≤ 1
 one_entry source =
     let one : length (tried source.id source.row mine.names planned_items) ≡ 1 = refl in
     let same : entries_of made_rule_set.definitions source ≡ query_entries mine source planned_items = append-nil (query_entries mine source planned_items ++ []) ∙ append-nil (query_entries mine source planned_items) in
@@ -106,7 +107,7 @@ few_written next before now =
     )
 
 -- where each row has one entry at most
-module _ (definitions : List Definition) (one : (source : RowOf) → length (entries_of definitions source) ≤ 1) where
+module _ (definitions : List Definition) (one : (source : SourceRow) → length (entries_of definitions source) ≤ 1) where
   one_at : (key : Key) (row : Option (List Column)) → length (entries_at definitions key row) ≤ 1
   one_at key None = omega arith
   one_at key (Some columns) = one _

@@ -6,8 +6,7 @@ use Rattle.ps_io.specs.Counts.{Rose}
 use Rattle.ps_files.specs.declared.faults.Fault.{Fault}
 use Rattle.ps_files.specs.declared.faults.Fault.TheVariants.{Usage, Rules, Change, PastLimit, TooManyBuckets, Claims, Keys, TooLong, CannotRead, CannotWrite, Script, Memory}
 use Rattle.ps_definitions.specs.RuleSets.{RuleSet}
-use Rattle.ps_sql_eval.specs.declared.askers.Asker.{Asker}
-use Rattle.ps_sql_eval.specs.Evaluated.{asker_of}
+use Rattle.ps_queries.specs.declared.askers.Asker.{Asker}
 use Rattle.ps_token.specs.KeyFiles.{keys_of_file}
 use Rattle.ps_token.specs.KeyLists.{key_of}
 use Rattle.ps_token.specs.Tokens.{signed_token}
@@ -113,7 +112,7 @@ SignsLine keys kid payload (Err sign.Memory) = Unit {0}
 
 -- the asker of a claims file
 abbrev pub FindsAsker : Asker → List ℕ → Type 0
-FindsAsker asker bytes = asker_of_claims bytes ≡ Some (asker_of asker)
+FindsAsker asker bytes = asker_of_claims bytes ≡ Some asker
 
 abbrev pub IsClaimsFault : Fault → List ℕ → Type 0
 IsClaimsFault Claims bytes = asker_of_claims bytes ≡ None

@@ -5,7 +5,7 @@ use Rattle.ps_data.specs.declared.columns.Column.{Column}
 use Rattle.ps_data.specs.declared.values.Value.{Value}
 use Rattle.ps_data.specs.declared.values.Value.TheVariants.{Null}
 use Rattle.ps_queries.specs.declared.queries.ParameterQuery.{ParameterQuery}
-use Rattle.ps_queries.specs.Meaning.{Asker}
+use Rattle.ps_queries.specs.declared.askers.Asker.{Asker}
 use Rattle.ps_queries.specs.Vectors.{SourceRow, vector_on, at_row}
 use Rattle.ps_definitions.specs.Vectors.{rows_read, query_vectors, vector_at}
 use Rattle.ps_rows.specs.Source.{Key}

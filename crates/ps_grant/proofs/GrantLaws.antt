@@ -7,7 +7,8 @@ use Rattle.ps_data.specs.declared.values.Value.{Value}
 use Rattle.ps_data.specs.Values.{is_null}
 use Rattle.ps_rows.specs.Source.{Key, Version, Source}
 use Rattle.ps_queries.specs.declared.queries.ParameterQuery.{ParameterQuery}
-use Rattle.ps_queries.specs.Meaning.{Asker, holds}
+use Rattle.ps_queries.specs.declared.askers.Asker.{Asker}
+use Rattle.ps_queries.specs.Meaning.{holds}
 use Rattle.ps_definitions.specs.declared.definitions.Definition.{Definition}
 use Rattle.ps_definitions.specs.declared.queries.Planned.{Planned}
 use Rattle.ps_definitions.specs.Checks.{names_of}

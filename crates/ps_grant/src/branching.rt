@@ -7,7 +7,7 @@ ghost use Rattle.ps_queries.specs.Meaning.{holds as holds_for};
 ghost use Rattle.ps_definitions.specs.Meeting.{meets, meets_some};
 ghost use Rattle.ps_definitions.specs.Names.{has_repeated};
 ghost use Rattle.ps_definitions.specs.RuleSets.{IsSoundQuery};
-ghost use Rattle.ps_sql_eval.specs.Evaluated.{asker_of, without_bucket};
+ghost use Rattle.ps_sql_eval.specs.Evaluated.{without_bucket};
 ghost use Rattle.ps_granted.specs.Grants.{given_for, holds_for_some};
 ghost use Rattle.ps_grant.specs.Solving.{all_allow, is_same, AreAsLong, IsUnbound};
 ghost use Rattle.ps_queries.specs.Vectors.{at_row};
@@ -85,7 +85,7 @@ fn branch_is_met(
     requires long { AreAsLong names.now vectors.now }
     requires differ { has_repeated names.now ≡ false }
     requires unbound { IsUnbound branch.now }
-    ensures { IfOk result (λ met. met ≡ list_any (λ vector. meets (given_for (asker_of asker.now) names.now (at_row id.now row.now) vector) branch.now) vectors.now) }
+    ensures { IfOk result (λ met. met ≡ list_any (λ vector. meets (given_for asker.now names.now (at_row id.now row.now) vector) branch.now) vectors.now) }
 {
     equal_where_both_are_present();
     same_for_every_bucket();
@@ -109,7 +109,7 @@ fn some_branch_is_met(
     requires long { AreAsLong names.now vectors.now }
     requires differ { has_repeated names.now ≡ false }
     requires unbound { AllByRecursion IsUnbound branches.now }
-    ensures { IfOk result (λ met. met ≡ list_any (λ vector. meets_some (given_for (asker_of asker.now) names.now (at_row id.now row.now) vector) branches.now) vectors.now) }
+    ensures { IfOk result (λ met. met ≡ list_any (λ vector. meets_some (given_for asker.now names.now (at_row id.now row.now) vector) branches.now) vectors.now) }
 {
     'branches: for branch in branches {
         if branch_is_met(alloc, branch, vectors, names, asker, id, row)? {
@@ -132,7 +132,7 @@ pub(crate) fn holds_for_a_vector(
     requires long { AreAsLong names.now vectors.now }
     requires differ { has_repeated names.now ≡ false }
     requires sound { IsSoundQuery names.now planned.now }
-    ensures { IfOk result (λ held. held ≡ holds_for_some (asker_of asker.now) names.now vectors.now planned.now.query (at_row id.now row.now)) }
+    ensures { IfOk result (λ held. held ≡ holds_for_some asker.now names.now vectors.now planned.now.query (at_row id.now row.now)) }
 {
     conditions_hold_where_a_branch_is_met();
     spread_as_written();

@@ -4,7 +4,6 @@ ghost use Rattle.std.specs.Prelude.{◌≡◌, ◌++◌, IfOk, OnOk, flat_map, f
 ghost use Rattle.std.specs.List.{AllByRecursion};
 ghost use Rattle.ps_definitions.specs.Names.{has_repeated};
 ghost use Rattle.ps_definitions.specs.RuleSets.{IsSound, IsSoundQuery};
-ghost use Rattle.ps_sql_eval.specs.Evaluated.{asker_of};
 ghost use Rattle.ps_granted.specs.Grants.{copy_of, grant_of, granted_by_query, granted_by, granted};
 ghost use Rattle.ps_grant.specs.Solving.{AreAsLong};
 ghost use Rattle.ps_grant.specs.Mapped.{kept_rows, version_of};
@@ -28,7 +27,7 @@ fn copy_on(
     key: &(Text, Text),
     version: &Version,
 ) -> Result<Option<Granted>, Memory>
-    ensures { IfOk result (λ copy. copy ≡ copy_of (asker_of asker.now) planned.now (key.now, version_of version.now)) }
+    ensures { IfOk result (λ copy. copy ≡ copy_of asker.now planned.now (key.now, version_of version.now)) }
 {
     let Some(id) = object_id(alloc, &planned.query, asker, &key.1, &version.row)? else {
         return Ok(None);
@@ -57,7 +56,7 @@ fn grant_on(
     requires long { AreAsLong names.now vectors.now }
     requires differ { has_repeated names.now ≡ false }
     requires sound { IsSoundQuery names.now planned.now }
-    ensures { IfOk result (λ copy. copy ≡ grant_of (asker_of asker.now) names.now vectors.now planned.now (key.now, version_of version.now)) }
+    ensures { IfOk result (λ copy. copy ≡ grant_of asker.now names.now vectors.now planned.now (key.now, version_of version.now)) }
 {
     if !key.0.equals(&planned.query.table) {
         return Ok(None);
@@ -81,7 +80,7 @@ fn grant_query(
     requires long { AreAsLong names.now vectors.now }
     requires differ { has_repeated names.now ≡ false }
     requires sound { IsSoundQuery names.now planned.now }
-    ensures { OnOk result (copies.new ≡ copies.old ++ granted_by_query (asker_of asker.now) names.now vectors.now (kept_rows rows.now) planned.now) }
+    ensures { OnOk result (copies.new ≡ copies.old ++ granted_by_query asker.now names.now vectors.now (kept_rows rows.now) planned.now) }
 {
     'rows: for (key, version) in rows.iter() {
         let Some(copy) = grant_on(alloc, planned, vectors, names, asker, key, version)? else {
@@ -105,7 +104,7 @@ fn grant_queries(
     requires long { AreAsLong names.now vectors.now }
     requires differ { has_repeated names.now ≡ false }
     requires sound { AllByRecursion (IsSoundQuery names.now) queries.now }
-    ensures { OnOk result (copies.new ≡ copies.old ++ flat_map (granted_by_query (asker_of asker.now) names.now vectors.now (kept_rows rows.now)) queries.now) }
+    ensures { OnOk result (copies.new ≡ copies.old ++ flat_map (granted_by_query asker.now names.now vectors.now (kept_rows rows.now)) queries.now) }
 {
     'queries: for planned in queries {
         grant_query(alloc, copies, planned, vectors, names, asker, rows)?;
@@ -122,7 +121,7 @@ fn grant_definition(
     rows: &Live,
 ) -> Result<(), Memory>
     requires { IsSound definition.now }
-    ensures { OnOk result (copies.new ≡ copies.old ++ granted_by (asker_of asker.now) (kept_rows rows.now) definition.now) }
+    ensures { OnOk result (copies.new ≡ copies.old ++ granted_by asker.now (kept_rows rows.now) definition.now) }
 {
     let vectors = vectors_of(alloc, definition, asker, rows)?;
     grant_queries(
@@ -145,7 +144,7 @@ pub fn grants_of(
     asker: &Asker,
     source: &SourceRows,
 ) -> Result<Items<Granted>, Memory>
-    ensures { IfOk result (λ copies. copies ≡ granted rules.now.definitions (asker_of asker.now) source.now) }
+    ensures { IfOk result (λ copies. copies ≡ granted rules.now.definitions asker.now source.now) }
 {
     let mut copies = Items::new(alloc);
     'definitions: for definition in rules.definitions() {

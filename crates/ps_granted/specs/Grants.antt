@@ -4,7 +4,8 @@ use Rattle.std.specs.List.{list_any}
 use Rattle.ps_data.specs.declared.values.Value.{Value}
 use Rattle.ps_rows.specs.Source.{Key, Version, Source}
 use Rattle.ps_queries.specs.declared.queries.DataQuery.{DataQuery}
-use Rattle.ps_queries.specs.Meaning.{Asker, Given, holds}
+use Rattle.ps_queries.specs.declared.askers.Asker.{Asker}
+use Rattle.ps_queries.specs.Meaning.{Given, holds}
 use Rattle.ps_definitions.specs.declared.definitions.Definition.{Definition}
 use Rattle.ps_definitions.specs.declared.queries.Planned.{Planned}
 use Rattle.ps_queries.specs.Objects.{object_id, content_of}

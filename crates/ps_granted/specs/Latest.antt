@@ -4,7 +4,7 @@ use Rattle.std.specs.FinMap.Entries.{put, find, is_sorted}
 use Rattle.ps_rows.specs.declared.changes.Transaction.{Transaction}
 use Rattle.ps_rows.specs.declared.shown.Shown.{Shown}
 use Rattle.ps_rows.specs.Source.{Key, key_cmp, source_at}
-use Rattle.ps_queries.specs.Meaning.{Asker}
+use Rattle.ps_queries.specs.declared.askers.Asker.{Asker}
 use Rattle.ps_definitions.specs.declared.definitions.Definition.{Definition}
 use Rattle.ps_granted.specs.declared.copies.Granted.{Granted}
 use Rattle.ps_granted.specs.Grants.{granted}

@@ -20,7 +20,7 @@ use Rattle.ps_queries.specs.Vectors.{SourceRow}
 use Rattle.ps_params.specs.Notes.{Note, counts_for, row_after, row_at}
 use Rattle.ps_definitions.specs.Tables.{is_read}
 use Rattle.ps_params.specs.Laws.{note_of_change, notes_of_transaction, notes_of, notes_read, row_of, rows_in, NotesAreTheSource, NotesReadAreTheSource}
-use Rattle.ps_params.proofs.Members.{Has, has_map, from_map, has_contains, contains_has}
+use Rattle.ps_data.proofs.Members.{Has, has_map, from_map, has_contains, contains_has}
 use Rattle.ps_params.proofs.Standing.{after_both, after_those}
 
 -- ---- the source's row of a key, change by change

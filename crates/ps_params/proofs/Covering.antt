@@ -9,7 +9,8 @@ use Rattle.ps_data.specs.declared.values.Value.TheVariants.{Null, Int, Text}
 use Rattle.ps_data.specs.Values.{is_null}
 use Rattle.ps_queries.specs.declared.expressions.Expr.{Expr}
 use Rattle.ps_queries.specs.declared.queries.ParameterQuery.{ParameterQuery}
-use Rattle.ps_queries.specs.Meaning.{Asker, Given, value_of, array_of, text_of, value_in, column_value, holds}
+use Rattle.ps_queries.specs.declared.askers.Asker.{Asker}
+use Rattle.ps_queries.specs.Meaning.{Given, value_of, array_of, text_of, value_in, column_value, holds}
 use Rattle.ps_queries.specs.Subjects.{IsSameOnEveryRow}
 use Rattle.ps_sql_eval.specs.Evaluated.{values_in}
 use Rattle.ps_definitions.specs.declared.definitions.Definition.{Definition}
@@ -22,7 +23,7 @@ use Rattle.ps_params.specs.Accesses.{IsAccess, Covers, compared}
 use Rattle.ps_params.specs.Places.{Spot, lies_by, lies_at, text_in, is_text}
 use Rattle.ps_params.specs.Spots.{spot_for, spots_for, lying, lying_at}
 use Rattle.ps_params.specs.Sets.{HaveSame}
-use Rattle.ps_params.proofs.Members.{Has, any_has, has_any, has_left, has_right, has_cases, has_flat, has_filter, from_filter, contains_has}
+use Rattle.ps_data.proofs.Members.{Has, any_has, has_any, has_left, has_right, has_cases, has_flat, has_filter, from_filter, contains_has}
 use Rattle.ps_params.proofs.Rows.{noted_for, has_filter_map, listed_stands, stands_listed, all_listed}
 use Rattle.ps_params.proofs.Sources.{any_flat, both_same}
 use Rattle.ps_params.proofs.Standing.{both_parts}

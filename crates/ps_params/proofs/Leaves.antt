@@ -18,7 +18,7 @@ use Rattle.ps_queries.specs.declared.expressions.Operator.TheVariants as operato
 use Rattle.ps_queries.specs.Meaning.{Given, value_of, layer_value, two_value, is_true, truth_value, bool_value, least, any_equals, array_of, within_items, column_value}
 use Rattle.ps_sql_eval.specs.Evaluated.{values_of_items, values_in}
 use Rattle.ps_params.specs.Accesses.{IsOneOf, IsAccess, IsColumnWith}
-use Rattle.ps_params.proofs.Members.{Has, has_contains}
+use Rattle.ps_data.proofs.Members.{Has, has_contains}
 
 leaf_true : (t : Truth) → is_true (truth_of (truth_value t)) ≡ true → t ≡ True
 leaf_true True h = refl

@@ -3,7 +3,6 @@ mod Covering
 mod Finding
 mod Gains
 mod Leaves
-mod Members
 mod Numbered
 mod Ordered
 mod Rows

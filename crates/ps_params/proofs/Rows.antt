@@ -6,14 +6,14 @@ use Rattle.std.proofs.lemmas.Bool.{and_parts}
 use Rattle.std.proofs.lemmas.List.{drop_more}
 use Rattle.std.proofs.lemmas.Slice.Eq.{bytes_eq-Decides}
 use Rattle.ps_data.specs.declared.columns.Column.{Column}
-use Rattle.ps_queries.specs.Meaning.{Asker}
+use Rattle.ps_queries.specs.declared.askers.Asker.{Asker}
 use Rattle.ps_queries.specs.declared.queries.ParameterQuery.{ParameterQuery}
 use Rattle.ps_definitions.specs.declared.definitions.Definition.{Definition}
 use Rattle.ps_queries.specs.Vectors.{SourceRow, at_row}
 use Rattle.ps_definitions.specs.Vectors.{rows_read}
 use Rattle.ps_params.specs.Notes.{Note, counts_for, row_after, row_at}
 use Rattle.ps_params.specs.Kept.{row_under, standing, rows_of, names_on, names_over, query_names}
-use Rattle.ps_params.proofs.Members.{Has}
+use Rattle.ps_data.proofs.Members.{Has}
 
 pub next_is : {A : Type 0} (xs : List A) (i : ℕ) (x : A) → i < length xs → x ≡ get_or xs i x → drop i xs ≡ x ∷ drop (i + 1) xs
 next_is xs i x within is = drop_more xs i x within ∙ ap (λ y. y ∷ drop (i + 1) xs) (sym is)

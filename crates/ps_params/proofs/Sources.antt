@@ -3,7 +3,7 @@ use Rattle.std.proofs.Common.{◌≡◌, ℕ, Bool, true, false, List, [], ◌�
 use Rattle.std.specs.Prelude.{◌||◌, filter, flat_map, bytes_eq}
 use Rattle.std.specs.List.{list_any}
 use Rattle.std.proofs.lemmas.Slice.Eq.{bytes_eq-Decides}
-use Rattle.ps_queries.specs.Meaning.{Asker}
+use Rattle.ps_queries.specs.declared.askers.Asker.{Asker}
 use Rattle.ps_queries.specs.declared.queries.ParameterQuery.{ParameterQuery}
 use Rattle.ps_definitions.specs.declared.definitions.Definition.{Definition}
 use Rattle.ps_definitions.specs.declared.queries.Planned.{Planned}
@@ -16,7 +16,7 @@ use Rattle.ps_params.specs.Indexes.{StandsAt}
 use Rattle.ps_params.specs.Names.{definition_names}
 use Rattle.ps_params.specs.Kept.{rows_of, names_on, query_names, names_in}
 use Rattle.ps_params.specs.Sets.{HaveSame}
-use Rattle.ps_params.proofs.Members.{Has, any_has, has_any, has_filter, from_filter, contains_has, has_contains}
+use Rattle.ps_data.proofs.Members.{Has, any_has, has_any, has_filter, from_filter, contains_has, has_contains}
 use Rattle.ps_params.proofs.Gains.{any_append}
 use Rattle.ps_params.proofs.Rows.{listed_stands, all_listed}
 

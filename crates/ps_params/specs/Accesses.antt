@@ -6,7 +6,8 @@ use Rattle.ps_data.specs.declared.values.Value.{Value}
 use Rattle.ps_data.specs.Values.{truth_of, is_null}
 use Rattle.ps_queries.specs.declared.expressions.Expr.{Expr}
 use Rattle.ps_queries.specs.declared.subjects.Subject.TheVariants as subjects
-use Rattle.ps_queries.specs.Meaning.{Asker, Given, value_of, is_true, array_of, column_value, holds}
+use Rattle.ps_queries.specs.declared.askers.Asker.{Asker}
+use Rattle.ps_queries.specs.Meaning.{Given, value_of, is_true, array_of, column_value, holds}
 use Rattle.ps_queries.specs.Subjects.{speaks}
 use Rattle.ps_sql_eval.specs.Evaluated.{values_in}
 use Rattle.ps_queries.specs.Vectors.{asked_of}

@@ -1,7 +1,7 @@
 -- Notes as they are kept, and the rows that stand by them.
 use Rattle.std.specs.Prelude.{ℕ, List, [], ◌∷◌, map, filter, filter_map, flat_map, Option, option_map, bytes_eq}
 use Rattle.ps_data.specs.declared.columns.Column.{Column}
-use Rattle.ps_queries.specs.Meaning.{Asker}
+use Rattle.ps_queries.specs.declared.askers.Asker.{Asker}
 use Rattle.ps_queries.specs.declared.queries.ParameterQuery.{ParameterQuery}
 use Rattle.ps_definitions.specs.declared.definitions.Definition.{Definition}
 use Rattle.ps_queries.specs.Vectors.{SourceRow, vector_on}

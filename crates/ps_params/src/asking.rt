@@ -6,7 +6,6 @@ ghost use Rattle.ps_definitions.specs.Buckets.{bucket_name_of};
 ghost use Rattle.ps_definitions.specs.Names.{is_definition_name};
 ghost use Rattle.ps_definitions.specs.RuleSets.{IsSound};
 ghost use Rattle.ps_queries.specs.Vectors.{at_row};
-ghost use Rattle.ps_sql_eval.specs.Evaluated.{asker_of};
 ghost use Rattle.ps_params.specs.Kept.{note_of, rows_of, names_on, query_names, names_in as names_of_definition};
 ghost use Rattle.ps_params.specs.Names.{IsTold};
 ghost use Rattle.ps_params.specs.Places.{notes_at};
@@ -47,7 +46,7 @@ fn add_on(
     row: &Row,
 ) -> Result<(), Memory>
     requires { is_definition_name definition.now.name ≡ true }
-    ensures { OnOk result (Gains names.old names.new (names_on definition.now (asker_of asker.now) query.now (at_row id.now row.now))) }
+    ensures { OnOk result (Gains names.old names.new (names_on definition.now asker.now query.now (at_row id.now row.now))) }
 {
     match vector_on(alloc, definition.names.as_slice(), query, asker, id, row)? {
         Some(values) => names.insert(bucket_of(alloc, &definition.name, values.as_slice())?),
@@ -71,7 +70,7 @@ impl Search<'_> {
     fn add_noted(&self, alloc: Global, names: &mut NameSet, note: &Noted) -> Result<(), Memory>
         requires { is_definition_name self.now.definition.now.name ≡ true }
         ensures { OnOk result (Gains names.old names.new
-            (flat_map (names_on self.now.definition.now (asker_of self.now.asker.now) self.now.query.now) (rows_of self.now.kept.now.notes self.now.upto.0 (note_of note.now ∷ [])))) }
+            (flat_map (names_on self.now.definition.now self.now.asker.now self.now.query.now) (rows_of self.now.kept.now.notes self.now.upto.0 (note_of note.now ∷ [])))) }
     {
         match self.kept.standing(alloc, &note.table, &note.id, self.upto)? {
             Some(row) => add_on(
@@ -201,7 +200,7 @@ fn add_query(
     upto: Position,
 ) -> Result<(), Memory>
     requires { is_definition_name definition.now.name ≡ true }
-    ensures { OnOk result (Gains names.old names.new (query_names definition.now (asker_of asker.now) (rows_of kept.now.notes upto.0 kept.now.notes) query.now)) }
+    ensures { OnOk result (Gains names.old names.new (query_names definition.now asker.now (rows_of kept.now.notes upto.0 kept.now.notes) query.now)) }
 {
     match &query.table {
         Some(table) => {
@@ -234,7 +233,7 @@ fn add_queries(
 ) -> Result<(), Memory>
     requires { is_definition_name definition.now.name ≡ true }
     ensures { OnOk result (Gains names.old names.new
-        (flat_map (query_names definition.now (asker_of asker.now) (rows_of kept.now.notes upto.0 kept.now.notes)) definition.now.parameters)) }
+        (flat_map (query_names definition.now asker.now (rows_of kept.now.notes upto.0 kept.now.notes)) definition.now.parameters)) }
 {
     'queries: for query in definition.parameters.as_slice() {
         add_query(alloc, names, definition, query, asker, kept, upto)?;
@@ -252,7 +251,7 @@ fn add_definition(
     upto: Position,
 ) -> Result<(), Memory>
     requires { is_definition_name definition.now.name ≡ true }
-    ensures { OnOk result (Gains names.old names.new (names_of_definition (asker_of asker.now) (rows_of kept.now.notes upto.0 kept.now.notes) definition.now)) }
+    ensures { OnOk result (Gains names.old names.new (names_of_definition asker.now (rows_of kept.now.notes upto.0 kept.now.notes) definition.now)) }
 {
     if definition.parameters.is_empty() {
         let none = Vec::new(alloc);
@@ -272,7 +271,7 @@ pub(crate) fn add_definitions(
 ) -> Result<(), Memory>
     requires { AllByRecursion IsSound definitions.now }
     ensures { OnOk result (Gains names.old names.new
-        (flat_map (names_of_definition (asker_of asker.now) (rows_of kept.now.notes upto.0 kept.now.notes)) definitions.now)) }
+        (flat_map (names_of_definition asker.now (rows_of kept.now.notes upto.0 kept.now.notes)) definitions.now)) }
 {
     'definitions: for definition in definitions {
         add_definition(alloc, names, definition, asker, kept, upto)?;

@@ -1,6 +1,5 @@
 ghost use Rattle.std.specs.Prelude.{◌≡◌, ◌≤◌, ◌+◌, max, List, [], ◌∷◌, ◌++◌, if◌then◌else◌, IfOk, OnOk};
 ghost use Rattle.ps_queries.specs.Vectors.{SourceRow};
-ghost use Rattle.ps_sql_eval.specs.Evaluated.{asker_of};
 ghost use Rattle.ps_params.specs.Notes.{Note, SameFrom};
 ghost use Rattle.ps_definitions.specs.Tables.{is_read};
 ghost use Rattle.ps_params.specs.Indexes.{StandsAt};
@@ -117,7 +116,7 @@ impl ParameterIndex {
         // Each is of a vector of integers of signed 64 bits.
         ensures told { IfOk result AreTold }
         ensures names { (source : List SourceRow) → StandsAt self.now.rules.definitions self.now.notes upto.0 source
-            → IfOk result (λ names. names ≡ bucket_names rules.now.definitions (asker_of asker.now) source) }
+            → IfOk result (λ names. names ≡ bucket_names rules.now.definitions asker.now source) }
     {
         let mut names = NameSet::new(alloc);
         add_definitions(

@@ -1,7 +1,7 @@
 //! The spots at which all rows lie for which a condition holds.
 
 ghost use Rattle.std.specs.Prelude.{◌≡◌, [], IfOk, IfSome};
-ghost use Rattle.ps_sql_eval.specs.Evaluated.{asker_of, without_bucket};
+ghost use Rattle.ps_sql_eval.specs.Evaluated.{without_bucket};
 ghost use Rattle.ps_params.specs.Accesses.{compared as compared_values, Covers};
 ghost use Rattle.ps_params.specs.Spots.{spots_for};
 
@@ -56,7 +56,7 @@ fn spots_of_table(
     table: &Text,
     asker: &Asker,
 ) -> Result<Option<Items<(usize, Text)>>, Memory>
-    ensures { IfOk result (λ spots. IfSome spots (Covers kept.now.paths (asker_of asker.now) condition.now table.now)) }
+    ensures { IfOk result (λ spots. IfSome spots (Covers kept.now.paths asker.now condition.now table.now)) }
 {
     let Some(number) = kept.path(table, None) else {
         return Ok(None);
@@ -74,7 +74,7 @@ pub(crate) fn spots(
     table: &Text,
     asker: &Asker,
 ) -> Result<Option<Items<(usize, Text)>>, Memory>
-    ensures { IfOk result (λ spots. IfSome spots (Covers kept.now.paths (asker_of asker.now) condition.now table.now)) }
+    ensures { IfOk result (λ spots. IfSome spots (Covers kept.now.paths asker.now condition.now table.now)) }
 {
     same_on_every_row();
     let Some(held) = condition else {

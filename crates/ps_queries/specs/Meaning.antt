@@ -14,6 +14,7 @@ use Rattle.ps_data.specs.declared.values.Value.TheVariants.{Null, Int, Text}
 use Rattle.ps_data.specs.declared.values.Truth.{Truth}
 use Rattle.ps_data.specs.declared.values.Truth.TheVariants.{True, False, Unknown}
 use Rattle.ps_data.specs.Values.{compare_values, equal_sql, is_null, truth_of}
+use Rattle.ps_queries.specs.declared.askers.Asker.{Asker}
 use Rattle.ps_queries.specs.declared.expressions.Expr.{Expr, fold-Expr}
 use Rattle.ps_queries.specs.declared.expressions.Expr.TheOpen.{Expr-F}
 use Rattle.ps_queries.specs.declared.expressions.Expr.TheOpen as layers
@@ -23,13 +24,6 @@ use Rattle.ps_queries.specs.declared.expressions.Operator.{Operator}
 use Rattle.ps_queries.specs.declared.expressions.Operator.TheVariants as operators
 use Rattle.ps_data.specs.Conversions.{value_of as json_value}
 use Rattle.ps_queries.specs.Json.{plain_json}
-
--- who asks: the user, the payload and the parameters as JSON texts, and the client's id
-pub record Asker : Type 0 where
-  pub user : List ℕ
-  pub payload : List ℕ
-  pub parameters : List ℕ
-  pub client : Option (List ℕ)
 
 -- what an expression is evaluated over: an asker, a row with its id, and the value of each parameter of a bucket
 pub record Given : Type 0 where

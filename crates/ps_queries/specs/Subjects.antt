@@ -9,7 +9,8 @@ use Rattle.ps_queries.specs.declared.expressions.Expr.TheOpen as layers
 use Rattle.ps_queries.specs.declared.queries.Output.{Output}
 use Rattle.ps_queries.specs.declared.subjects.Subject.{Subject}
 use Rattle.ps_queries.specs.declared.subjects.Subject.TheVariants as subjects
-use Rattle.ps_queries.specs.Meaning.{Asker, Given, value_of}
+use Rattle.ps_queries.specs.declared.askers.Asker.{Asker}
+use Rattle.ps_queries.specs.Meaning.{Given, value_of}
 
 abbrev pub is_asker : Subject → Bool
 is_asker subjects.Asker = true

@@ -7,7 +7,8 @@ use Rattle.ps_data.specs.declared.values.Value.TheVariants.{Null}
 use Rattle.ps_data.specs.Values.{is_null}
 use Rattle.ps_queries.specs.declared.queries.Output.{Output}
 use Rattle.ps_queries.specs.declared.queries.ParameterQuery.{ParameterQuery}
-use Rattle.ps_queries.specs.Meaning.{Asker, Given, value_of, holds}
+use Rattle.ps_queries.specs.declared.askers.Asker.{Asker}
+use Rattle.ps_queries.specs.Meaning.{Given, value_of, holds}
 
 -- a row of a table
 pub record SourceRow : Type 0 where

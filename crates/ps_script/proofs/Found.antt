@@ -9,8 +9,7 @@ use Rattle.ps_changes.specs.Laws.{ReadsLoneChanges}
 use Rattle.ps_rows.specs.declared.changes.Change.{Change}
 use Rattle.ps_changes.specs.declared.faults.ChangeFault.{ChangeFault}
 use Rattle.ps_claims.specs.Claims.{asker_of_claims}
-use Rattle.ps_sql_eval.specs.Evaluated.{asker_of}
-use Rattle.ps_sql_eval.specs.declared.askers.Asker.{Asker}
+use Rattle.ps_queries.specs.declared.askers.Asker.{Asker}
 use Rattle.ps_values.specs.Laws.{ReadsWhatIsWritten}
 use Rattle.ps_script.specs.declared.events.ScriptEvent.{ScriptEvent}
 use Rattle.ps_script.specs.declared.events.ScriptEvent.TheVariants as events
@@ -19,7 +18,7 @@ use Rattle.ps_script.specs.declared.verbs.Verb.TheVariants.{Open, Turn, Take, Cu
 use Rattle.ps_file_lines.specs.Cuts.{cut}
 use Rattle.ps_script.specs.Words.{IsName, text_of, count_of, name_of}
 use Rattle.ps_script.specs.Verbs.{verb_of, event_by}
-use Rattle.ps_script.specs.Events.{asker_by, claims_in, read_or_none, change_in, alone, named, client_in, local_in, behind, by_words, event_of}
+use Rattle.ps_script.specs.Events.{read_or_none, change_in, alone, named, client_in, local_in, behind, by_words, event_of}
 use Rattle.ps_script.specs.Grammar.{IsEvent, feeds, closes, writes, commits, compacts, begins_client, opens, turns, takes, cuts, alters, changes_locally, uploads, numbers, shows_rows, sums_up}
 use Rattle.ps_script.proofs.Cutting.{cut_joins}
 use Rattle.ps_script.proofs.Arguments.{text_found, count_found, name_found}
@@ -76,9 +75,6 @@ named_found word rest event h =
 
 -- ---- two arguments
 
-claims_found : (claims : List ℕ) (asker : Asker) → claims_in claims ≡ Some asker → asker_of_claims claims ≡ Some (asker_of asker)
-claims_found claims asker h = mapped asker_by (asker_of_claims claims) asker h (λ meant is same. is ∙ ap (λ a. Some (asker_of a)) same)
-
 lone : ReadsLoneChanges → (r : Result Change ChangeFault) (text : List ℕ) (change : Change) → lone_change_of text ≡ r → read_or_none r ≡ Some change → IsLoneChange text change
 lone changes (Ok other) text change is h =
     let e : other ≡ change = cc in
@@ -95,10 +91,10 @@ Joined rest name behind = MatchOption behind (rest ≡ name) (λ more. rest ≡ 
 client_found : (rest name : List ℕ) (behind : Option (List ℕ)) (event : ScriptEvent) → Joined rest name behind → client_in name behind ≡ Some event → IsEvent (codes "client " ++ rest) event
 client_found rest name None event is h = absurd (cc)
 client_found rest name (Some claims) event is h =
-    option_and_then_some (λ n. option_map (events.Client n) (claims_in claims)) (name_of name) event h (λ n read more.
-    mapped (events.Client n) (claims_in claims) event more (λ asker known same.
+    option_and_then_some (λ n. option_map (events.Client n) (asker_of_claims claims)) (name_of name) event h (λ n read more.
+    mapped (events.Client n) (asker_of_claims claims) event more (λ asker known same.
     let own = name_found name n read in
-    let here = subst (λ t. IsEvent (codes "client " ++ t) (events.Client n asker)) (append_assoc n (codes " ") claims) (begins_client n claims asker own.1 (claims_found claims asker known)) in
+    let here = subst (λ t. IsEvent (codes "client " ++ t) (events.Client n asker)) (append_assoc n (codes " ") claims) (begins_client n claims asker own.1 known) in
     let placed = subst (λ w. IsEvent (codes "client " ++ (w ++ 32 ∷ claims)) (events.Client n asker)) (sym own.0) here in
     subst (λ r. IsEvent (codes "client " ++ r) event) (sym is) (subst (IsEvent (codes "client " ++ (name ++ 32 ∷ claims))) same placed)))
 

@@ -5,8 +5,7 @@ use Rattle.ps_changes.specs.Grammar.{IsLoneChange}
 use Rattle.ps_rows.specs.declared.changes.Change.{Change}
 use Rattle.ps_changes.specs.Laws.{ReadsLoneChanges}
 use Rattle.ps_claims.specs.Claims.{asker_of_claims}
-use Rattle.ps_sql_eval.specs.Evaluated.{asker_of}
-use Rattle.ps_sql_eval.specs.declared.askers.Asker.{Asker}
+use Rattle.ps_queries.specs.declared.askers.Asker.{Asker}
 use Rattle.ps_values.specs.Laws.{ReadsWhatIsWritten}
 use Rattle.ps_script.specs.declared.events.ScriptEvent.{ScriptEvent}
 use Rattle.ps_script.specs.declared.events.ScriptEvent.TheVariants.{Feed, Write, Client, Local}
@@ -20,7 +19,7 @@ use Rattle.ps_script.specs.Grammar.{IsEvent, feeds, closes, writes, commits, com
 use Rattle.ps_script.proofs.Cutting.{cut_behind}
 use Rattle.ps_script.proofs.Arguments.{text_only, count_only, name_only, name_has_no_space}
 
-client_only : (name claims : List ℕ) (asker : Asker) → IsName name → asker_of_claims claims ≡ Some (asker_of asker)
+client_only : (name claims : List ℕ) (asker : Asker) → IsName name → asker_of_claims claims ≡ Some asker
     → client_in (cut 32 (name ++ 32 ∷ [] ++ claims)).0 (cut 32 (name ++ 32 ∷ [] ++ claims)).1 ≡ Some (Client name asker)
 client_only name claims asker named is =
     rw (cut_behind 32 name claims (name_has_no_space name named), name_only name named, is) refl

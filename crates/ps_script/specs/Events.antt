@@ -4,8 +4,7 @@ use Rattle.ps_changes.specs.Lines.{lone_change_of}
 use Rattle.ps_rows.specs.declared.changes.Change.{Change}
 use Rattle.ps_changes.specs.declared.faults.ChangeFault.{ChangeFault}
 use Rattle.ps_claims.specs.Claims.{asker_of_claims}
-use Rattle.ps_queries.specs.Meaning as meaning
-use Rattle.ps_sql_eval.specs.declared.askers.Asker.{Asker}
+use Rattle.ps_queries.specs.declared.askers.Asker.{Asker}
 use Rattle.ps_script.specs.declared.events.ScriptEvent.{ScriptEvent}
 use Rattle.ps_script.specs.declared.events.ScriptEvent.TheVariants.{Feed, Close, Write, Commit, Compact, Client, Local, Totals}
 use Rattle.ps_script.specs.Grammar.{IsEvent}
@@ -16,13 +15,6 @@ use Rattle.ps_script.specs.Words.{text_of, count_of, name_of}
 infixl 10 ◌>>=◌
 abbrev pub ◌>>=◌ : {A B : Type 0} → Option A → (A → Option B) → Option B
 o >>= f = option_and_then f o
-
--- who asks, by the texts of an asker
-abbrev pub asker_by : meaning.Asker → Asker
-asker_by asker = record { user = asker.user; payload = asker.payload; parameters = asker.parameters; client = asker.client }
-
-abbrev pub claims_in : List ℕ → Option Asker
-claims_in claims = option_map asker_by (asker_of_claims claims)
 
 abbrev pub read_or_none : Result Change ChangeFault → Option Change
 read_or_none (Ok change) = Some change
@@ -45,7 +37,7 @@ named word rest = verb_of word >>= λ verb. option_map (event_by verb) (name_of 
 -- a client's name, and claims after a space
 abbrev pub client_in : List ℕ → Option (List ℕ) → Option ScriptEvent
 client_in name None = None
-client_in name (Some claims) = name_of name >>= λ name. option_map (Client name) (claims_in claims)
+client_in name (Some claims) = name_of name >>= λ name. option_map (Client name) (asker_of_claims claims)
 
 -- a client's name, and a change after a space
 abbrev pub local_in : List ℕ → Option (List ℕ) → Option ScriptEvent

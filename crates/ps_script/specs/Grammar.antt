@@ -3,8 +3,7 @@ use Rattle.std.specs.Prelude.{◌≡◌, ℕ, List, ◌++◌, codes, decimal, So
 use Rattle.ps_changes.specs.Grammar.{IsLoneChange}
 use Rattle.ps_rows.specs.declared.changes.Change.{Change}
 use Rattle.ps_claims.specs.Claims.{asker_of_claims}
-use Rattle.ps_sql_eval.specs.Evaluated.{asker_of}
-use Rattle.ps_sql_eval.specs.declared.askers.Asker.{Asker}
+use Rattle.ps_queries.specs.declared.askers.Asker.{Asker}
 use Rattle.ps_script.specs.declared.events.ScriptEvent.{ScriptEvent}
 use Rattle.ps_script.specs.declared.events.ScriptEvent.TheVariants.{Feed, Close, Write, Commit, Compact, Client, Open, Turn, Take, Cut, Alter, Local, Upload, Number, Rows, Totals}
 use Rattle.ps_script.specs.Words.{IsCount, IsName}
@@ -16,7 +15,7 @@ pub data IsEvent : List ℕ → ScriptEvent → Type 0 where
   writes : (limit : ℕ) → IsCount limit → IsEvent (codes "write " ++ decimal limit) (Write limit)
   commits : IsEvent (codes "commit") Commit
   compacts : (bucket : List ℕ) → IsUtf8 bucket → IsEvent (codes "compact " ++ bucket) (Compact bucket)
-  begins_client : (name claims : List ℕ) (asker : Asker) → IsName name → asker_of_claims claims ≡ Some (asker_of asker)
+  begins_client : (name claims : List ℕ) (asker : Asker) → IsName name → asker_of_claims claims ≡ Some asker
       → IsEvent (codes "client " ++ name ++ codes " " ++ claims) (Client name asker)
   opens : (name : List ℕ) → IsName name → IsEvent (codes "open " ++ name) (Open name)
   turns : (name : List ℕ) → IsName name → IsEvent (codes "turn " ++ name) (Turn name)

@@ -4,9 +4,8 @@ use Rattle.std.specs.Prelude.{Result}
 use Rattle.ps_data.specs.declared.ids.Position.{Position}
 use Rattle.ps_lines.specs.declared.bodies.Known.{Known}
 use Rattle.ps_lock.proofs.Prefixes.{prefix_get}
-use Rattle.ps_queries.specs.Meaning.{Asker}
+use Rattle.ps_queries.specs.declared.askers.Asker.{Asker}
 use Rattle.ps_rows.specs.declared.changes.Change.{Change}
-use Rattle.ps_sql_eval.specs.Evaluated.{asker_of}
 use Rattle.ps_write_cp.specs.declared.faults.NumberFault.{NumberFault}
 use Rattle.ps_write_cp.specs.declared.faults.NumberFault.TheVariants as numbering
 use Rattle.ps_store.specs.declared.events.Event.{Event}
@@ -103,7 +102,7 @@ module _ (stay : PlacesStay) (agrees : RunsAgree) (headline : Headline) (lawful 
 
     does_later : (it : Asked) (own own' : List (Event × ℕ)) → DoesAt fixed low history may_give until_drained it own own' old new before now outcome
         → DoesAt fixed low then' may_give until_drained it own own' old new before now outcome
-    does_later (asked.Stream asker positions exp) own own' does = (does.0, streams_later (asker_of asker) positions exp does.1)
+    does_later (asked.Stream asker positions exp) own own' does = (does.0, streams_later asker positions exp does.1)
     does_later (asked.Number user client) own own' does =
         record { made = does.made; makes = numbers_later user client own own' does.made does.makes; tells = does.tells; none = does.none }
     does_later (asked.Upload changes) own own' does =
@@ -121,7 +120,7 @@ module _ (stay : PlacesStay) (agrees : RunsAgree) (headline : Headline) (lawful 
   drains_later : (until_drained : Bool) (before now : ℕ) (end : End) (it : Result Asked Refusal) → DrainsSo fixed low history may_give until_drained before now end it
       → DrainsSo fixed low then' may_give until_drained before now end it
   drains_later until_drained before now end (Ok (asked.Stream asker positions exp)) drains =
-      λ wanted in_time few quiet. drains wanted in_time (few_before (asker_of asker) few) quiet
+      λ wanted in_time few quiet. drains wanted in_time (few_before asker few) quiet
   drains_later until_drained before now end (Ok (asked.Number user client)) drains = drains
   drains_later until_drained before now end (Ok (asked.Upload changes)) drains = drains
   drains_later until_drained before now end (Err refusal) drains = drains

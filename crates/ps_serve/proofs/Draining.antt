@@ -3,8 +3,7 @@ use Rattle.std.proofs.Common.{◌≡◌, ℕ, ◌≤◌, ◌<◌, ◌⊎◌, inl
 use Rattle.std.specs.Prelude.{Result}
 use Rattle.ps_io.specs.Counts.{Rose}
 use Rattle.ps_lines.specs.declared.bodies.Known.{Known}
-use Rattle.ps_queries.specs.Meaning.{Asker}
-use Rattle.ps_sql_eval.specs.Evaluated.{asker_of}
+use Rattle.ps_queries.specs.declared.askers.Asker.{Asker}
 use Rattle.ps_store.specs.declared.events.Event.{Event}
 use Rattle.ps_store.specs.declared.fixed.Fixed.{Fixed}
 use Rattle.ps_streams.proofs.Runs.{climbs_to}
@@ -63,7 +62,7 @@ pub drains : (may_give : ℕ → Type 0) (fixed : Fixed) (low : ℕ) (history : 
     (it : Result Asked Refusal) → DoesSoAt fixed low history may_give until_drained it own own' old new before now outcome
     → DrainsSo fixed low history may_give until_drained before now outcome.end it
 drains may_give fixed low history until_drained own own' old new before now outcome (Ok (asked.Stream asker positions exp)) does =
-    λ wanted in_time few quiet. stream_drains may_give fixed low history (asker_of asker) positions exp in_time few until_drained old new before now outcome quiet does.1
+    λ wanted in_time few quiet. stream_drains may_give fixed low history asker positions exp in_time few until_drained old new before now outcome quiet does.1
 drains may_give fixed low history until_drained own own' old new before now outcome (Ok (asked.Number user client)) does = tt
 drains may_give fixed low history until_drained own own' old new before now outcome (Ok (asked.Upload changes)) does = tt
 drains may_give fixed low history until_drained own own' old new before now outcome (Err refusal) does = tt

@@ -10,9 +10,7 @@ use Rattle.ps_io.specs.Contents.{Gains, GainsFront}
 use Rattle.ps_io.specs.Counts.{Rose}
 use Rattle.ps_lines.specs.declared.bodies.Known.{Known}
 use Rattle.ps_lock.proofs.Prefixes.{prefix_length}
-use Rattle.ps_queries.specs.Meaning.{Asker}
-use Rattle.ps_sql_eval.specs.declared.askers.Asker.{Asker as OwnAsker}
-use Rattle.ps_sql_eval.specs.Evaluated.{asker_of}
+use Rattle.ps_queries.specs.declared.askers.Asker.{Asker}
 use Rattle.ps_store.specs.declared.events.Event.{Event}
 use Rattle.ps_store.specs.declared.fixed.Fixed.{Fixed}
 use Rattle.ps_store.specs.Courses.{Course, course_of, ledger_at}
@@ -207,12 +205,12 @@ module _ (whole : EndsAreWhole) (may_give : ℕ → Type 0) (exp : ℕ) (fixed :
 
 -- ---- the steps of a session whose asker stays
 
-pub stepped_by : (may_give : ℕ → Type 0) (exp : ℕ) (lock : Lock) (reader reader' : Reader) (a b : OwnAsker) (s s' : SessionState) (served served' : List Served) (old new : Option (List ℕ)) (before now : ℕ)
-    (result there : Result (Unit {0}) End) → a ≡ b → result ≡ there → HasStepped may_give exp lock reader reader' (asker_of a) s s' served served' old new before now result
-    → HasStepped may_give exp lock reader reader' (asker_of b) s s' served served' old new before now there
+pub stepped_by : (may_give : ℕ → Type 0) (exp : ℕ) (lock : Lock) (reader reader' : Reader) (a b : Asker) (s s' : SessionState) (served served' : List Served) (old new : Option (List ℕ)) (before now : ℕ)
+    (result there : Result (Unit {0}) End) → a ≡ b → result ≡ there → HasStepped may_give exp lock reader reader' a s s' served served' old new before now result
+    → HasStepped may_give exp lock reader reader' b s s' served served' old new before now there
 stepped_by may_give exp lock reader reader' a b s s' served served' old new before now result there same is it =
-    subst (λ (r : Result (Unit {0}) End). HasStepped may_give exp lock reader reader' (asker_of b) s s' served served' old new before now r) is
-    (subst (λ (x : OwnAsker). HasStepped may_give exp lock reader reader' (asker_of x) s s' served served' old new before now result) same it)
+    subst (λ (r : Result (Unit {0}) End). HasStepped may_give exp lock reader reader' b s s' served served' old new before now r) is
+    (subst (λ (x : Asker). HasStepped may_give exp lock reader reader' x s s' served served' old new before now result) same it)
 
 -- ---- the first take, refused
 

@@ -3,7 +3,7 @@ use Rattle.std.proofs.Common.{◌≡◌, ℕ, List, ◌++◌, Option, Some, refl
 use Rattle.std.specs.Prelude.{IfOk, Result}
 use mathlib.Core.List.{IsPrefix}
 use Rattle.ps_lock.specs.Words.{IsSeatOf, own_entries_of, seen_by}
-use Rattle.ps_queries.specs.Meaning.{Asker}
+use Rattle.ps_queries.specs.declared.askers.Asker.{Asker}
 use Rattle.ps_store.specs.declared.events.Event.{Event}
 use Rattle.ps_store.specs.declared.fixed.Fixed.{Fixed}
 use Rattle.ps_store.specs.Ledgers.{ledger_of}

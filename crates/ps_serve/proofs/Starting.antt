@@ -3,7 +3,7 @@ use Rattle.std.proofs.Common.{◌≡◌, ℕ, ◌≤◌, true, List, ◌++◌, O
 use Rattle.std.specs.Prelude.{Result, Vec}
 use Rattle.std.specs.declared.alloc.Global.{Global}
 use Rattle.ps_lines.specs.declared.lines.Line.{Line}
-use Rattle.ps_queries.specs.Meaning.{Asker}
+use Rattle.ps_queries.specs.declared.askers.Asker.{Asker}
 use Rattle.ps_store.specs.declared.readings.TakeFault.TheVariants as takes
 use Rattle.ps_store.specs.Courses.{course_of}
 use Rattle.ps_session.specs.declared.phases.Phase.{Phase}

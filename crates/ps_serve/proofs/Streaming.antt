@@ -3,8 +3,7 @@ use Rattle.std.proofs.Common.{◌≡◌, ℕ, ◌≤◌, List, [], ◌++◌, Opt
 use Rattle.ps_io.specs.Contents.{Gains, GainsFront}
 use Rattle.ps_lines.specs.declared.bodies.Known.{Known}
 use Rattle.ps_lines.specs.declared.lines.Line.{Line}
-use Rattle.ps_sql_eval.specs.declared.askers.Asker.{Asker}
-use Rattle.ps_sql_eval.specs.Evaluated.{asker_of}
+use Rattle.ps_queries.specs.declared.askers.Asker.{Asker}
 use Rattle.ps_store.specs.declared.events.Event.{Event}
 use Rattle.ps_store.specs.declared.fixed.Fixed.{Fixed}
 use Rattle.ps_store.specs.declared.stores.Store.{Store}
@@ -36,17 +35,17 @@ pub goes_on : ReadsSendOn → CoursesAreLawful → (fixed : Fixed) (store : Stor
     → (state_of session).phase ≡ Download → state_of now ≡ (turn_for fixed history session).session → GoesOn (state_of session) (state_of now)
 goes_on falls lawful fixed store history session now serves here phase now_is =
     subst (λ (s : SessionState). GoesOn (state_of session) s) (sym now_is)
-    (turn_goes_on falls (course_for fixed history session) (length history) (state_of session) (lawful_of lawful fixed store history (asker_of session.asker) serves) here phase)
+    (turn_goes_on falls (course_for fixed history session) (length history) (state_of session) (lawful_of lawful fixed store history session.asker serves) here phase)
 
 module _ (fixed : Fixed) (history : List Event) (session : Kept) (own : Asker) (same : session.asker ≡ own) where
   abbrev own_course : Course
-  own_course = course_of fixed.rules history (asker_of own)
+  own_course = course_of fixed.rules history own
 
   own_turn : turn_for fixed history session ≡ turn own_course (length history) (state_of session)
-  own_turn = ap (λ (asker : Asker). turn (course_of fixed.rules history (asker_of asker)) (length history) (state_of session)) same
+  own_turn = ap (λ (asker : Asker). turn (course_of fixed.rules history asker) (length history) (state_of session)) same
 
   pub here_for : HasTaken own_course (length history) (state_of session) → IsHere fixed history session
-  here_for taken = subst (λ (asker : Asker). HasTaken (course_of fixed.rules history (asker_of asker)) (length history) (state_of session)) (sym same) taken
+  here_for taken = subst (λ (asker : Asker). HasTaken (course_of fixed.rules history asker) (length history) (state_of session)) (sym same) taken
 
   module _ (now : Kept) (now_is : state_of now ≡ (turn_for fixed history session).session) where
     own_is : state_of now ≡ (turn own_course (length history) (state_of session)).session
@@ -66,19 +65,19 @@ module _ (fixed : Fixed) (history : List Event) (session : Kept) (own : Asker) (
       (store : Store) (action : Action) (end : End)
       → first ≤ before → StoreStandsFor fixed store history → HasTaken own_course (length history) (state_of session)
       → (state_of session).phase ≡ Download → next_action (state_of session) ≡ action → HasStreamed own_course (length history) positions [] done old between (state_of session)
-      → SendsSo action may_give exp fixed history (asker_of session.asker) (turn_for fixed history session).line between new before now (Err end)
-      → StreamsOn may_give exp fixed history (asker_of own) positions [] done old new first now end
+      → SendsSo action may_give exp fixed history session.asker (turn_for fixed history session).line between new before now (Err end)
+      → StreamsOn may_give exp fixed history own positions [] done old new first now end
   ends_next on climb falls lawful may_give exp positions done old between new first before now store action end less serves taken phase action_is so_far sends =
-      ends may_give exp fixed history (asker_of own) positions [] done on climb old between new first before now (state_of session) action end less phase action_is
-      (turn_goes_on falls own_course (length history) (state_of session) (lawful_of lawful fixed store history (asker_of own) serves) taken phase).sending
+      ends may_give exp fixed history own positions [] done on climb old between new first before now (state_of session) action end less phase action_is
+      (turn_goes_on falls own_course (length history) (state_of session) (lawful_of lawful fixed store history own serves) taken phase).sending
       (subst (λ (p : Phase). IsToldIn p own_course (length history)) (sym phase) tt) so_far
-      (subst (λ (asker : Asker). SendsSo action may_give exp fixed history (asker_of asker) (turn (course_of fixed.rules history (asker_of asker)) (length history) (state_of session)).line
+      (subst (λ (asker : Asker). SendsSo action may_give exp fixed history asker (turn (course_of fixed.rules history asker) (length history) (state_of session)).line
       between new before now (Err end)) same sends)
 
 -- ---- the first turn
 
 module _ (on : RunsGoOn) (climb : RunsClimbOn) (whole : EndsAreWhole) (fixed : Fixed) (history : List Event) (positions : List Known) (session : Kept)
-    (session_is : state_of session ≡ begin (requested_in positions)) (told : AreTold (taken_names (take_of (ledger_of fixed.rules history) (asker_of session.asker)))) where
+    (session_is : state_of session ≡ begin (requested_in positions)) (told : AreTold (taken_names (take_of (ledger_of fixed.rules history) session.asker))) where
   started : (state_of session).phase ≡ Start
   started = ap (λ (s : SessionState). s.phase) session_is
 
@@ -88,13 +87,13 @@ module _ (on : RunsGoOn) (climb : RunsClimbOn) (whole : EndsAreWhole) (fixed : F
   pub first_run : IsRun (course_for fixed history session) (length history) positions (turn_for fixed history session).session (list_of (turn_for fixed history session).line)
   first_run =
       run_on on climb (course_for fixed history session) (length history) positions (state_of session) []
-      (subst (λ (p : Phase). IsToldIn p (course_for fixed history session) (length history)) (sym started) (told_at_end whole fixed history (asker_of session.asker) told))
+      (subst (λ (p : Phase). IsToldIn p (course_for fixed history session) (length history)) (sym started) (told_at_end whole fixed history session.asker told))
       (subst (λ (s : SessionState). IsRun (course_for fixed history session) (length history) positions s []) (sym session_is) (run_begins (course_for fixed history session) (length history) positions))
 
   pub streams_first : TurnsKeepTaken → (now : Kept) → now.asker ≡ session.asker → state_of now ≡ (turn_for fixed history session).session
       → IsStreamingFor fixed history positions now (list_of (turn_for fixed history session).line)
   streams_first keeps now same now_is =
-      subst (λ (asker : Asker). IsStreaming (course_of fixed.rules history (asker_of asker)) (length history) positions (state_of now) (list_of (turn_for fixed history session).line)) (sym same)
+      subst (λ (asker : Asker). IsStreaming (course_of fixed.rules history asker) (length history) positions (state_of now) (list_of (turn_for fixed history session).line)) (sym same)
       (subst (λ (s : SessionState). IsStreaming (course_for fixed history session) (length history) positions s (list_of (turn_for fixed history session).line)) (sym now_is) (record {
         run = first_run;
         taken = taken_on keeps (course_for fixed history session) (length history) (state_of session) (untaken (course_for fixed history session) (length history) (state_of session) started);

@@ -1,7 +1,6 @@
 -- One connection on a store that nobody else changes.
 use Rattle.std.specs.Prelude.{◌≡◌, ℕ, List, Option, Result, Ok, Err}
 use Rattle.ps_io.specs.Sources.{Input}
-use Rattle.ps_sql_eval.specs.Evaluated.{asker_of}
 use Rattle.ps_token.specs.declared.key_lists.Key.{Key}
 use Rattle.ps_store.specs.declared.events.Event.{Event}
 use Rattle.ps_store.specs.declared.fixed.Fixed.{Fixed}
@@ -18,7 +17,7 @@ use Rattle.ps_serve.specs.Runs.{Streams}
 -- what is asked for was done, and told
 abbrev pub Does : (ℕ → Type 0) → Fixed → List Event → Asked → Store → Store → Option (List ℕ) → Option (List ℕ) → ℕ → ℕ → ℕ → End → Type 0
 Does may_give fixed history (asked.Stream asker positions exp) store store' old new before now status end =
-    (store' ≡ store) × Streams may_give exp fixed history (asker_of asker) positions old new before now status end
+    (store' ≡ store) × Streams may_give exp fixed history asker positions old new before now status end
 Does may_give fixed history (asked.Number user client) store store' old new before now status end = AnswersNumber fixed history user client store' old new before now status end
 Does may_give fixed history (asked.Upload changes) store store' old new before now status end = AnswersUpload fixed history changes store' old new before now status end
 

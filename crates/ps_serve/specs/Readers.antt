@@ -3,7 +3,7 @@ use Rattle.std.specs.Prelude.{◌≡◌, ℕ, List, length, Option, Some, Result
 use mathlib.Core.List.{IsPrefix}
 use Rattle.ps_lock.specs.declared.tables.StoreLock.{StoreLock}
 use Rattle.ps_lock.specs.Words.{IsSeatOf, seen_by, own_entries_of}
-use Rattle.ps_queries.specs.Meaning.{Asker}
+use Rattle.ps_queries.specs.declared.askers.Asker.{Asker}
 use Rattle.ps_store.specs.declared.events.Event.{Event}
 use Rattle.ps_store.specs.declared.fixed.Fixed.{Fixed}
 use Rattle.ps_store.specs.declared.readings.TakeFault.{TakeFault}

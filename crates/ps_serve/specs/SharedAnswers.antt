@@ -5,9 +5,8 @@ use Rattle.ps_data.specs.declared.ids.Position.{Position}
 use Rattle.ps_io.specs.Counts.{Rose}
 use Rattle.ps_io.specs.Sources.{Input}
 use Rattle.ps_lines.specs.declared.bodies.Known.{Known}
-use Rattle.ps_queries.specs.Meaning.{Asker}
+use Rattle.ps_queries.specs.declared.askers.Asker.{Asker}
 use Rattle.ps_rows.specs.declared.changes.Change.{Change}
-use Rattle.ps_sql_eval.specs.Evaluated.{asker_of}
 use Rattle.ps_token.specs.declared.key_lists.Key.{Key}
 use Rattle.ps_write_cp.specs.declared.faults.NumberFault.{NumberFault}
 use Rattle.ps_write_cp.specs.declared.faults.NumberFault.TheVariants as numbering
@@ -109,7 +108,7 @@ module _ (fixed : Fixed) (low : ℕ) (history : List Event) where
   -- what is asked for was done, and told; a stream adds nothing to the history
   abbrev pub DoesAt : (ℕ → Type 0) → Bool → Asked → List (Event × ℕ) → List (Event × ℕ) → Option (List ℕ) → Option (List ℕ) → ℕ → ℕ → Outcome → Type 0
   DoesAt may_give until_drained (asked.Stream asker positions exp) own own' old new before now outcome =
-      (own' ≡ own) × StreamsAt may_give until_drained (asker_of asker) positions exp old new before now outcome
+      (own' ≡ own) × StreamsAt may_give until_drained asker positions exp old new before now outcome
   DoesAt may_give until_drained (asked.Number user client) own own' old new before now outcome = AnswersNumberAt user client own own' old new before now outcome
   DoesAt may_give until_drained (asked.Upload changes) own own' old new before now outcome = AnswersUploadAt changes own own' old new before now outcome
 
@@ -127,7 +126,7 @@ module _ (fixed : Fixed) (low : ℕ) (history : List Event) where
   -- token's end, there are never too many buckets, and no write failed
   abbrev pub DrainsSo : (ℕ → Type 0) → Bool → ℕ → ℕ → End → Result Asked Refusal → Type 0
   DrainsSo may_give until_drained before now end (Ok (asked.Stream asker positions exp)) =
-      until_drained ≡ true → ((moment : ℕ) → may_give moment → moment < exp) → AreFewThroughout (asker_of asker) → ¬ Rose before now
+      until_drained ≡ true → ((moment : ℕ) → may_give moment → moment < exp) → AreFewThroughout asker → ¬ Rose before now
       → (end ≡ Drained) ⊎ (end ≡ Memory)
   DrainsSo may_give until_drained before now end (Ok (asked.Number user client)) = Unit {0}
   DrainsSo may_give until_drained before now end (Ok (asked.Upload changes)) = Unit {0}

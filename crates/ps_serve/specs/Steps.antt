@@ -5,7 +5,7 @@ use Rattle.ps_io.specs.Contents.{Gains, GainsFront}
 use Rattle.ps_io.specs.Counts.{Rose}
 use Rattle.ps_lines.specs.declared.lines.Line.{Line}
 use Rattle.ps_lines.specs.declared.lines.Line.TheVariants.{Expires}
-use Rattle.ps_queries.specs.Meaning.{Asker}
+use Rattle.ps_queries.specs.declared.askers.Asker.{Asker}
 use Rattle.ps_store.specs.declared.events.Event.{Event}
 use Rattle.ps_store.specs.declared.fixed.Fixed.{Fixed}
 use Rattle.ps_store.specs.Courses.{Course, course_of}

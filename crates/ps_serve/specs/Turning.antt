@@ -2,7 +2,6 @@
 use Rattle.std.specs.Prelude.{List, length}
 use Rattle.ps_lines.specs.declared.bodies.Known.{Known}
 use Rattle.ps_lines.specs.declared.lines.Line.{Line}
-use Rattle.ps_sql_eval.specs.Evaluated.{asker_of}
 use Rattle.ps_store.specs.declared.events.Event.{Event}
 use Rattle.ps_store.specs.declared.fixed.Fixed.{Fixed}
 use Rattle.ps_store.specs.Courses.{Course, course_of}
@@ -13,7 +12,7 @@ use Rattle.ps_streams.specs.Ties.{HasTaken}
 use Rattle.ps_serve.specs.Runs.{IsStreaming}
 
 abbrev pub course_for : Fixed → List Event → Kept → Course
-course_for fixed history session = course_of fixed.rules history (asker_of session.asker)
+course_for fixed history session = course_of fixed.rules history session.asker
 
 abbrev pub turn_for : Fixed → List Event → Kept → Turned
 turn_for fixed history session = turn (course_for fixed history session) (length history) (state_of session)

@@ -5,7 +5,6 @@ ghost use mathlib.Core.List.{IsPrefix};
 ghost use Rattle.ps_lines.specs.declared.bodies.Known.{Known as KnownSeen};
 ghost use Rattle.ps_lines.specs.Writing.{IsWritable};
 ghost use Rattle.ps_lock.specs.Words.{IsSeatOf, seen_by, own_entries_of};
-ghost use Rattle.ps_sql_eval.specs.Evaluated.{asker_of};
 ghost use Rattle.ps_store.specs.Courses.{course_of};
 ghost use Rattle.ps_session.specs.declared.phases.Phase.TheVariants.{Start};
 ghost use Rattle.ps_session.specs.Kept.{state_of};
@@ -66,12 +65,12 @@ pub fn stream_on<R: Wait, K: Sink, C: Clock, B: Bell>(
 ) -> (Reader, End)
     requires at_end { IsAtEnd desk.now.lock.now reader }
     requires begun { (state_of stream.old.session).phase ≢ Start }
-    requires way { (at : ℕ) × IsUnderWay (course_of (fixed_of desk.now.lock.now).rules (seen reader) (asker_of stream.old.session.asker)) (length (seen reader)) at (state_of stream.old.session) }
+    requires way { (at : ℕ) × IsUnderWay (course_of (fixed_of desk.now.lock.now).rules (seen reader) stream.old.session.asker) (length (seen reader)) at (state_of stream.old.session) }
     ensures goes_on { GoesOn desk.now.lock.now reader result.0 }
     ensures ends { (positions : List KnownSeen) (low : ℕ) (front : List ℕ) (first : Option (List ℕ)) (before : ℕ) → before ≤ K.faults to.old
-        → HasStreamed (C.may_give terms.now.clock.now) terms.now.exp (fixed_of desk.now.lock.now) (asker_of stream.old.session.asker) positions low
+        → HasStreamed (C.may_give terms.now.clock.now) terms.now.exp (fixed_of desk.now.lock.now) stream.old.session.asker positions low
         (seen reader) front first (K.taken to.old) (state_of stream.old.session) stream.old.served.items
-        → EndsSo (C.may_give terms.now.clock.now) terms.now.exp (fixed_of desk.now.lock.now) (asker_of stream.old.session.asker) positions low
+        → EndsSo (C.may_give terms.now.clock.now) terms.now.exp (fixed_of desk.now.lock.now) stream.old.session.asker positions low
         (seen result.0) terms.now.until_drained front first (K.taken to.new) stream.new.served.items before (K.faults to.new) result.1 }
     ensures faults { K.faults to.old ≤ K.faults to.new }
     ensures number { K.number to.new ≡ K.number to.old }
@@ -115,7 +114,7 @@ fn take_first<R: Wait>(
 ) -> (Reader, Result<Vec<u8>, Refusal>)
     requires start { (state_of session.old).phase ≡ Start }
     requires at_end { IsAtEnd desk.now.lock.now reader }
-    ensures begins { HasBegun desk.now.lock.now reader result.0 (asker_of session.old.asker) (state_of session.old) (state_of session.new) result.1 }
+    ensures begins { HasBegun desk.now.lock.now reader result.0 session.old.asker (state_of session.old) (state_of session.new) result.1 }
     ensures asker { session.new.asker ≡ session.old.asker }
 {
     let (reader, turned) = turn_through(desk, reader, session);
@@ -153,7 +152,7 @@ pub fn stream_from<R: Wait, K: Sink, C: Clock, B: Bell>(
     ensures goes_on { GoesOn desk.now.lock.now reader result.0 }
     ensures streams { (positions : List KnownSeen) (low : ℕ) → low ≤ length (seen reader) → state_of stream.old.session ≡ begin (requested_in positions)
         → StreamsAt (fixed_of desk.now.lock.now) low (seen result.0) (C.may_give terms.now.clock.now) terms.now.until_drained
-        (asker_of stream.old.session.asker) positions terms.now.exp (K.taken to.old) (K.taken to.new) (K.faults to.old) (K.faults to.new)
+        stream.old.session.asker positions terms.now.exp (K.taken to.old) (K.taken to.new) (K.faults to.old) (K.faults to.new)
         (record { status = result.1.0; end = result.1.1; served = stream.new.served.items }) }
     ensures faults { K.faults to.old ≤ K.faults to.new }
     ensures number { K.number to.new ≡ K.number to.old }
@@ -193,7 +192,7 @@ pub fn stream_through<R: Wait, K: Sink, C: Clock, B: Bell>(
     ensures saw { IsPrefix (seen_by seat) (seen_by result.0) }
     ensures own { own_entries_of result.0 ≡ own_entries_of seat }
     ensures streams { StreamsAt (fixed_of desk.now.lock.now) (length (seen_by seat)) (seen_by result.0) (C.may_give terms.now.clock.now) terms.now.until_drained
-        (asker_of request.asker) request.positions terms.now.exp (K.taken to.old) (K.taken to.new) (K.faults to.old) (K.faults to.new) result.1 }
+        request.asker request.positions terms.now.exp (K.taken to.old) (K.taken to.new) (K.faults to.old) (K.faults to.new) result.1 }
     ensures faults { K.faults to.old ≤ K.faults to.new }
     ensures number { K.number to.new ≡ K.number to.old }
 {

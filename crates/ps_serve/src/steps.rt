@@ -2,7 +2,6 @@
 
 ghost use Rattle.std.specs.Prelude.{◌≡◌, ◌≤◌, ◌<◌, ℕ, ◌≢◌, true, false, List, Some, length, IfOk, IfSome, if◌then◌else◌, vec_len, vec_capacity};
 ghost use Rattle.ps_lines.specs.Writing.{IsWritable};
-ghost use Rattle.ps_sql_eval.specs.Evaluated.{asker_of};
 ghost use Rattle.ps_store.specs.Courses.{course_of};
 ghost use Rattle.ps_session.specs.declared.actions.Action.TheVariants as actions;
 ghost use Rattle.ps_session.specs.declared.phases.Phase.TheVariants.{Start, Download};
@@ -170,8 +169,8 @@ fn send_on<R: Wait, K: Sink>(
     requires phase { (state_of stream.old.session).phase ≡ Download }
     requires completes { completes ≡ completes_in (state_of stream.old.session).phase (state_of stream.old.session) }
     requires at_end { IsAtEnd desk.now.lock.now reader }
-    requires way { (at : ℕ) × IsUnderWay (course_of (fixed_of desk.now.lock.now).rules (seen reader) (asker_of stream.old.session.asker)) (length (seen reader)) at (state_of stream.old.session) }
-    ensures sent { HasSent desk.now.lock.now reader result.0 (asker_of stream.old.session.asker)
+    requires way { (at : ℕ) × IsUnderWay (course_of (fixed_of desk.now.lock.now).rules (seen reader) stream.old.session.asker) (length (seen reader)) at (state_of stream.old.session) }
+    ensures sent { HasSent desk.now.lock.now reader result.0 stream.old.session.asker
         (state_of stream.old.session) (state_of stream.new.session) stream.old.served.items stream.new.served.items
         (K.taken to.old) (K.taken to.new) (K.faults to.old) (K.faults to.new) result.1 }
     ensures asker { stream.new.session.asker ≡ stream.old.session.asker }
@@ -199,8 +198,8 @@ fn take_again<R: Wait, K: Sink, C: Clock>(
 ) -> (Reader, Result<(), End>)
     requires again { TakesAgain (state_of stream.old.session).phase }
     requires at_end { IsAtEnd desk.now.lock.now reader }
-    requires way { (at : ℕ) × IsUnderWay (course_of (fixed_of desk.now.lock.now).rules (seen reader) (asker_of stream.old.session.asker)) (length (seen reader)) at (state_of stream.old.session) }
-    ensures steps { HasStepped (C.may_give terms.now.clock.now) terms.now.exp desk.now.lock.now reader result.0 (asker_of stream.old.session.asker)
+    requires way { (at : ℕ) × IsUnderWay (course_of (fixed_of desk.now.lock.now).rules (seen reader) stream.old.session.asker) (length (seen reader)) at (state_of stream.old.session) }
+    ensures steps { HasStepped (C.may_give terms.now.clock.now) terms.now.exp desk.now.lock.now reader result.0 stream.old.session.asker
         (state_of stream.old.session) (state_of stream.new.session) stream.old.served.items stream.new.served.items
         (K.taken to.old) (K.taken to.new) (K.faults to.old) (K.faults to.new) result.1 }
     ensures asker { stream.new.session.asker ≡ stream.old.session.asker }
@@ -240,8 +239,8 @@ pub fn step<R: Wait, K: Sink, C: Clock>(
     requires action { next_action (state_of stream.old.session) ≡ action }
     requires begun { (state_of stream.old.session).phase ≢ Start }
     requires at_end { IsAtEnd desk.now.lock.now reader }
-    requires way { (at : ℕ) × IsUnderWay (course_of (fixed_of desk.now.lock.now).rules (seen reader) (asker_of stream.old.session.asker)) (length (seen reader)) at (state_of stream.old.session) }
-    ensures steps { HasStepped (C.may_give terms.now.clock.now) terms.now.exp desk.now.lock.now reader result.0 (asker_of stream.old.session.asker)
+    requires way { (at : ℕ) × IsUnderWay (course_of (fixed_of desk.now.lock.now).rules (seen reader) stream.old.session.asker) (length (seen reader)) at (state_of stream.old.session) }
+    ensures steps { HasStepped (C.may_give terms.now.clock.now) terms.now.exp desk.now.lock.now reader result.0 stream.old.session.asker
         (state_of stream.old.session) (state_of stream.new.session) stream.old.served.items stream.new.served.items
         (K.taken to.old) (K.taken to.new) (K.faults to.old) (K.faults to.new) result.1 }
     ensures asker { stream.new.session.asker ≡ stream.old.session.asker }

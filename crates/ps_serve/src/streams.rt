@@ -4,7 +4,6 @@ ghost use Rattle.std.specs.Prelude.{◌≡◌, ◌≢◌, ◌≤◌, List, [], �
 ghost use Rattle.ps_lines.specs.declared.bodies.Known.{Known as KnownSeen};
 ghost use Rattle.ps_lines.specs.declared.lines.Line.{Line as LineSeen};
 ghost use Rattle.ps_lines.specs.Writing.{IsWritable};
-ghost use Rattle.ps_sql_eval.specs.Evaluated.{asker_of};
 ghost use Rattle.ps_store.specs.declared.events.Event.{Event as EventSeen};
 ghost use Rattle.ps_store.specs.declared.fixed.Fixed.{Fixed as FixedSeen};
 ghost use Rattle.ps_store.specs.Stores.{StoreStandsFor};
@@ -50,7 +49,7 @@ pub(crate) fn send<K: Sink>(alloc: Global, line: Option<Line>, to: &mut K) -> Re
 fn turn(alloc: Global, store: &Store, session: &mut Session) -> Result<Option<Line>, TakeFault>
     requires { (fixed : FixedSeen) × (history : List EventSeen) × StoreStandsFor fixed store.now history × IsHere fixed history session.old }
     ensures turns { (fixed : FixedSeen) (history : List EventSeen) → StoreStandsFor fixed store.now history → IsHere fixed history session.old
-        → TurnsTo fixed history (asker_of session.old.asker) (state_of session.old) (state_of session.new) result }
+        → TurnsTo fixed history session.old.asker (state_of session.old) (state_of session.new) result }
     ensures writable { IfOk result (λ line. IfSome line IsWritable) }
     ensures asker { session.new.asker ≡ session.old.asker }
 {
@@ -63,7 +62,7 @@ fn take(alloc: Global, store: &Store, session: &mut Session) -> Result<Option<Li
     requires start { (state_of session.old).phase ≡ Start }
     requires serves { (fixed : FixedSeen) × (history : List EventSeen) × StoreStandsFor fixed store.now history }
     ensures takes { (fixed : FixedSeen) (history : List EventSeen) → StoreStandsFor fixed store.now history
-        → Takes fixed history (asker_of session.old.asker) (turn_for fixed history session.old) (state_of session.new) result }
+        → Takes fixed history session.old.asker (turn_for fixed history session.old) (state_of session.new) result }
     ensures writable { IfOk result (λ line. IfSome line IsWritable) }
     ensures asker { session.new.asker ≡ session.old.asker }
 {
@@ -106,7 +105,7 @@ fn take_again<K: Sink, C: Clock>(
 ) -> Result<(), End>
     requires here { (fixed : FixedSeen) × (history : List EventSeen) × StoreStandsFor fixed store.now history × IsHere fixed history session.old }
     ensures sends { (fixed : FixedSeen) (history : List EventSeen) → StoreStandsFor fixed store.now history → IsHere fixed history session.old
-        → SendsInTime (C.may_give clock.now) exp fixed history (asker_of session.old.asker) (turn_for fixed history session.old).line
+        → SendsInTime (C.may_give clock.now) exp fixed history session.old.asker (turn_for fixed history session.old).line
         (K.taken to.old) (K.taken to.new) (K.faults to.old) (K.faults to.new) result }
     ensures state { OnOk result ((fixed : FixedSeen) (history : List EventSeen) → StoreStandsFor fixed store.now history → IsHere fixed history session.old
         → state_of session.new ≡ (turn_for fixed history session.old).session) }
@@ -139,7 +138,7 @@ fn make_turn<K: Sink, C: Clock>(
     requires goes { action ≢ actions.Wait }
     requires here { (fixed : FixedSeen) × (history : List EventSeen) × StoreStandsFor fixed store.now history × IsHere fixed history session.old }
     ensures sends { (fixed : FixedSeen) (history : List EventSeen) → StoreStandsFor fixed store.now history → IsHere fixed history session.old
-        → SendsSo action (C.may_give clock.now) exp fixed history (asker_of session.old.asker) (turn_for fixed history session.old).line
+        → SendsSo action (C.may_give clock.now) exp fixed history session.old.asker (turn_for fixed history session.old).line
         (K.taken to.old) (K.taken to.new) (K.faults to.old) (K.faults to.new) result }
     ensures state { OnOk result ((fixed : FixedSeen) (history : List EventSeen) → StoreStandsFor fixed store.now history → IsHere fixed history session.old
         → state_of session.new ≡ (turn_for fixed history session.old).session) }
@@ -179,7 +178,7 @@ fn go_on<K: Sink, C: Clock>(
     requires here { (fixed : FixedSeen) × (history : List EventSeen) × StoreStandsFor fixed store.now history × IsHere fixed history session.old }
     ensures streams { (fixed : FixedSeen) (history : List EventSeen) (positions : List KnownSeen) (done : List LineSeen) → StoreStandsFor fixed store.now history
         → IsStreamingFor fixed history positions session.old done
-        → StreamsOn (C.may_give clock.now) exp fixed history (asker_of session.old.asker) positions [] done (K.taken to.old) (K.taken to.new) (K.faults to.old) (K.faults to.new) result }
+        → StreamsOn (C.may_give clock.now) exp fixed history session.old.asker positions [] done (K.taken to.old) (K.taken to.new) (K.faults to.old) (K.faults to.new) result }
     ensures once { TakesOnce result }
     ensures faults { K.faults to.old ≤ K.faults to.new }
     ensures number { K.number to.new ≡ K.number to.old }
@@ -203,7 +202,7 @@ fn first_line(alloc: Global, store: &Store, session: &mut Session) -> Result<Vec
     requires start { (state_of session.old).phase ≡ Start }
     requires serves { (fixed : FixedSeen) × (history : List EventSeen) × StoreStandsFor fixed store.now history }
     ensures begins { (fixed : FixedSeen) (history : List EventSeen) → StoreStandsFor fixed store.now history
-        → Begins fixed history (asker_of session.old.asker) (turn_for fixed history session.old) (state_of session.new) result }
+        → Begins fixed history session.old.asker (turn_for fixed history session.old) (state_of session.new) result }
     ensures asker { session.new.asker ≡ session.old.asker }
 {
     let line = match take(alloc, store, session) {
@@ -242,7 +241,7 @@ fn stream_from<K: Sink, C: Clock>(
     requires serves { (fixed : FixedSeen) × (history : List EventSeen) × StoreStandsFor fixed store.now history }
     ensures streams { (fixed : FixedSeen) (history : List EventSeen) (positions : List KnownSeen) → StoreStandsFor fixed store.now history
         → state_of session.old ≡ begin (requested_in positions)
-        → Streams (C.may_give clock.now) exp fixed history (asker_of session.old.asker) positions (K.taken to.old) (K.taken to.new) (K.faults to.old) (K.faults to.new) result.0 result.1 }
+        → Streams (C.may_give clock.now) exp fixed history session.old.asker positions (K.taken to.old) (K.taken to.new) (K.faults to.old) (K.faults to.new) result.0 result.1 }
     ensures faults { K.faults to.old ≤ K.faults to.new }
     ensures number { K.number to.new ≡ K.number to.old }
 {
@@ -274,7 +273,7 @@ pub fn answer_stream<K: Sink, C: Clock>(
 ) -> (u16, End)
     requires { (fixed : FixedSeen) × (history : List EventSeen) × StoreStandsFor fixed store.now history }
     ensures streams { (fixed : FixedSeen) (history : List EventSeen) → StoreStandsFor fixed store.now history
-        → Streams (C.may_give clock.now) exp fixed history (asker_of request.asker) request.positions (K.taken to.old) (K.taken to.new) (K.faults to.old) (K.faults to.new) result.0 result.1 }
+        → Streams (C.may_give clock.now) exp fixed history request.asker request.positions (K.taken to.old) (K.taken to.new) (K.faults to.old) (K.faults to.new) result.0 result.1 }
     ensures faults { K.faults to.old ≤ K.faults to.new }
     ensures number { K.number to.new ≡ K.number to.old }
 {

@@ -3,7 +3,6 @@
 ghost use Rattle.std.specs.Prelude.{◌≡◌, ℕ, List, [], Option, Some, None, IfOk, length};
 ghost use mathlib.Core.List.{IsPrefix};
 ghost use Rattle.ps_lock.specs.Words.{IsSeatOf, seen_by, own_entries_of};
-ghost use Rattle.ps_sql_eval.specs.Evaluated.{asker_of};
 ghost use Rattle.ps_store.specs.declared.events.Event.{Event as EventSeen};
 ghost use Rattle.ps_store.specs.Courses.{course_of};
 ghost use Rattle.ps_session.specs.Kept.{state_of};
@@ -130,8 +129,8 @@ fn turn_named<N: Named, R: Wait>(
     requires lock { N.lock ≡ Some desk.now.lock.now }
     requires entries { N.entries ≡ own reader }
     requires at_end { IsAtEnd desk.now.lock.now reader }
-    requires way { (at : ℕ) × IsUnderWay (course_of (fixed_of desk.now.lock.now).rules (seen reader) (asker_of session.old.asker)) (length (seen reader)) at (state_of session.old) }
-    ensures turns { HasTurnedAt desk.now.lock.now reader result.0 (asker_of session.old.asker) (state_of session.old) (state_of session.new) result.1 }
+    requires way { (at : ℕ) × IsUnderWay (course_of (fixed_of desk.now.lock.now).rules (seen reader) session.old.asker) (length (seen reader)) at (state_of session.old) }
+    ensures turns { HasTurnedAt desk.now.lock.now reader result.0 session.old.asker (state_of session.old) (state_of session.new) result.1 }
     ensures writable { IfOk result.1 IsWritableOutcome }
     ensures asker { session.new.asker ≡ session.old.asker }
 {
@@ -157,8 +156,8 @@ pub fn turn_through<R: Wait>(
     session: &mut Session,
 ) -> (Reader, Result<TurnOutcome, TakeFault>)
     requires at_end { IsAtEnd desk.now.lock.now reader }
-    requires way { (at : ℕ) × IsUnderWay (course_of (fixed_of desk.now.lock.now).rules (seen reader) (asker_of session.old.asker)) (length (seen reader)) at (state_of session.old) }
-    ensures turns { HasTurnedAt desk.now.lock.now reader result.0 (asker_of session.old.asker) (state_of session.old) (state_of session.new) result.1 }
+    requires way { (at : ℕ) × IsUnderWay (course_of (fixed_of desk.now.lock.now).rules (seen reader) session.old.asker) (length (seen reader)) at (state_of session.old) }
+    ensures turns { HasTurnedAt desk.now.lock.now reader result.0 session.old.asker (state_of session.old) (state_of session.new) result.1 }
     ensures writable { IfOk result.1 IsWritableOutcome }
     ensures asker { session.new.asker ≡ session.old.asker }
 {

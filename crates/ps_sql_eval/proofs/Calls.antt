@@ -9,8 +9,8 @@ use Rattle.ps_queries.specs.Meaning.{Given, value_of, call_value}
 use Rattle.ps_data.specs.declared.columns.Column.{Column}
 use Rattle.ps_queries.specs.declared.subjects.Subject.TheVariants as subjects
 use Rattle.ps_queries.specs.Subjects.{speaks, IsSameForEveryAsker, IsSameForEveryBucket}
-use Rattle.ps_sql_eval.specs.declared.askers.Asker.{Asker}
-use Rattle.ps_sql_eval.specs.Evaluated.{asker_of, given_of, without_bucket, IsValueFor, IsValueOn}
+use Rattle.ps_queries.specs.declared.askers.Asker.{Asker}
+use Rattle.ps_sql_eval.specs.Evaluated.{given_of, without_bucket, IsValueFor, IsValueOn}
 use Rattle.ps_queries.specs.ValueLaws.{value_of-Call}
 
 pub call_is : {E : Type 0} (given : Given) (expr : Expr) (function : Function) (arguments passed : List Expr) (r : Result Value E) → expr ≡ exprs.Call function arguments → passed ≡ arguments
@@ -29,5 +29,5 @@ value_for law expr asker id row (Err fault) silent is = tt
 pub value_on : {E : Type 0} → IsSameForEveryAsker → IsSameForEveryBucket → (expr : Expr) (asker : Asker) (id : List ℕ) (row : List Column) (r : Result Value E) → speaks subjects.Asker expr ≡ false
     → speaks subjects.Bucket expr ≡ false → IfOk r (λ value. value ≡ value_of (without_bucket asker id row) expr) → IfOk r (IsValueOn expr id row)
 value_on asks law expr asker id row (Ok value) quiet silent is =
-    λ other bucket. is ∙ law expr (without_bucket asker id row) bucket silent ∙ asks expr (given_of (asker_of asker) id row bucket) other quiet
+    λ other bucket. is ∙ law expr (without_bucket asker id row) bucket silent ∙ asks expr (given_of asker id row bucket) other quiet
 value_on asks law expr asker id row (Err fault) quiet silent is = tt

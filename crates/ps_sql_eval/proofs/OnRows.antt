@@ -5,7 +5,8 @@ use Rattle.std.specs.List.{list_any}
 use Rattle.ps_data.specs.declared.values.Value.{Value}
 use Rattle.ps_data.specs.Values.{is_null}
 use Rattle.ps_queries.specs.declared.queries.ParameterQuery.{ParameterQuery}
-use Rattle.ps_queries.specs.Meaning.{Asker, holds}
+use Rattle.ps_queries.specs.declared.askers.Asker.{Asker}
+use Rattle.ps_queries.specs.Meaning.{holds}
 use Rattle.ps_queries.specs.Vectors.{SourceRow, asked_of, vector_values, vector_on}
 
 module _ (names : List (List ℕ)) (asker : Asker) (query : ParameterQuery) (row : SourceRow) where

@@ -8,32 +8,27 @@ use Rattle.ps_data.specs.declared.values.Value.{Value}
 use Rattle.ps_data.specs.declared.values.Value.TheVariants.{Null, Int, Text}
 use Rattle.ps_queries.specs.declared.expressions.Expr.{Expr}
 use Rattle.ps_queries.specs.Meaning.{Given, value_of}
-use Rattle.ps_queries.specs.Meaning as meaning
-use Rattle.ps_sql_eval.specs.declared.askers.Asker.{Asker}
-
--- an asker by its texts
-abbrev pub asker_of : Asker → meaning.Asker
-asker_of asker = record { user = asker.user; payload = asker.payload; parameters = asker.parameters; client = asker.client }
+use Rattle.ps_queries.specs.declared.askers.Asker.{Asker}
 
 -- nobody asks: data queries have no request functions
-abbrev pub nobody : meaning.Asker
+abbrev pub nobody : Asker
 nobody = record { user = []; payload = []; parameters = []; client = None }
 
 -- an asker, a row with its id, and a bucket's parameters
-abbrev pub given_of : meaning.Asker → List ℕ → List Column → (List ℕ → Value) → Given
+abbrev pub given_of : Asker → List ℕ → List Column → (List ℕ → Value) → Given
 given_of asker id row bucket = record { asker = asker; id = id; row = row; bucket = bucket }
 
 -- the bucket whose parameters are all Null
 abbrev pub without_bucket : Asker → List ℕ → List Column → Given
-without_bucket asker id row = given_of (asker_of asker) id row (λ name. Null)
+without_bucket asker id row = given_of asker id row (λ name. Null)
 
 -- the value for an asker on a row, whatever the bucket
 abbrev pub IsValueFor : Expr → Asker → List ℕ → List Column → Value → Type 0
-IsValueFor expr asker id row value = (bucket : List ℕ → Value) → value ≡ value_of (given_of (asker_of asker) id row bucket) expr
+IsValueFor expr asker id row value = (bucket : List ℕ → Value) → value ≡ value_of (given_of asker id row bucket) expr
 
 -- the value on a row, whoever asks and whatever the bucket
 abbrev pub IsValueOn : Expr → List ℕ → List Column → Value → Type 0
-IsValueOn expr id row value = (asker : meaning.Asker) (bucket : List ℕ → Value) → value ≡ value_of (given_of asker id row bucket) expr
+IsValueOn expr id row value = (asker : Asker) (bucket : List ℕ → Value) → value ≡ value_of (given_of asker id row bucket) expr
 
 -- the JSON that a value's text holds
 abbrev pub json_in : Value → Option Data

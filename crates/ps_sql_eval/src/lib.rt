@@ -12,8 +12,9 @@ mod truths;
 mod vectors;
 
 pub use arrays::elements;
-pub use askers::{Asker, nobody};
+pub use askers::nobody;
 pub use columns::column_value;
 pub use evaluations::{eval_request, eval_row, eval_without_bucket};
 pub use objects::{content, object_id};
+pub use ps_queries::Asker;
 pub use vectors::{holds, vector_on};

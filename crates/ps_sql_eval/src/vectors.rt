@@ -6,7 +6,7 @@ ghost use Rattle.std.specs.Option.{option_to_list};
 ghost use Rattle.ps_data.specs.Values.{is_null};
 ghost use Rattle.ps_queries.specs.Meaning.{holds as holds_for};
 ghost use Rattle.ps_queries.specs.Vectors.{output_value as value_of_output, vector_on as vectors_on, at_row};
-ghost use Rattle.ps_sql_eval.specs.Evaluated.{asker_of, without_bucket};
+ghost use Rattle.ps_sql_eval.specs.Evaluated.{without_bucket};
 
 use crate::Asker;
 use crate::evaluations::eval_without_bucket;
@@ -40,7 +40,7 @@ pub fn vector_on(
     id: &Text,
     row: &Row,
 ) -> Result<Option<Items<Value>>, Memory>
-    ensures { IfOk result (λ vector. option_to_list vector ≡ vectors_on names.now (asker_of asker.now) query.now (at_row id.now row.now)) }
+    ensures { IfOk result (λ vector. option_to_list vector ≡ vectors_on names.now asker.now query.now (at_row id.now row.now)) }
 {
     if !lets_through(alloc, query, asker, id, row)? {
         return Ok(None);

@@ -4,7 +4,7 @@ use Rattle.std.specs.Prelude.{T, Contains, ◌↔◌}
 use Rattle.std.specs.FinMap.Entries.{find, is_sorted}
 use Rattle.ps_data.specs.declared.columns.Column.{Column}
 use Rattle.ps_rows.specs.Source.{Key, key_cmp, Version, Source}
-use Rattle.ps_queries.specs.Meaning.{Asker}
+use Rattle.ps_queries.specs.declared.askers.Asker.{Asker}
 use Rattle.ps_queries.specs.Vectors.{SourceRow}
 use Rattle.ps_definitions.specs.declared.definitions.Definition.{Definition}
 use Rattle.ps_definitions.specs.RuleSets.{RuleSet}
@@ -28,7 +28,7 @@ use Rattle.ps_store.proofs.Apart.{in_order}
 use Rattle.ps_store.proofs.Copies.{find_there, from_find}
 use Rattle.ps_store.proofs.Generating.{all_higher}
 use Rattle.ps_store.proofs.Going.{IsWell, ComesWell, done_of, fed_low, reached_low, well_history}
-use Rattle.ps_store.proofs.Members.{Has, has_map, from_map, has_contains, contains_has}
+use Rattle.ps_data.proofs.Members.{Has, has_map, from_map, has_contains, contains_has}
 use Rattle.ps_store.proofs.Moments.{after_all}
 use Rattle.ps_store.proofs.Noted.{rows_noted}
 use Rattle.ps_store.proofs.Queues.{AllUpTo}

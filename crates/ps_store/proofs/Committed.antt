@@ -8,7 +8,7 @@ use Rattle.ps_bucket_log.specs.declared.ops.Op.{Op}
 use Rattle.ps_bucket_log.specs.Ops.{upto}
 use Rattle.ps_bucket_log.specs.Buckets.{bucket_of}
 use Rattle.ps_rows.specs.Source.{Source, source_at}
-use Rattle.ps_queries.specs.Meaning.{Asker}
+use Rattle.ps_queries.specs.declared.askers.Asker.{Asker}
 use Rattle.ps_queries.specs.Vectors.{SourceRow}
 use Rattle.ps_definitions.specs.declared.definitions.Definition.{Definition}
 use Rattle.ps_definitions.specs.Names.{begins_word}
@@ -30,7 +30,7 @@ use Rattle.ps_store.proofs.Generating.{moments_front, steps_from}
 use Rattle.ps_store.proofs.Going.{IsWell, well_history}
 use Rattle.ps_store.proofs.Filling.{in_bucket_cons}
 use Rattle.ps_store.proofs.Marks.{AreOf, of_append, change_of, is_of_marked, bucket_begins}
-use Rattle.ps_store.proofs.Members.{Has, contains_has}
+use Rattle.ps_data.proofs.Members.{Has, contains_has}
 use Rattle.ps_store.proofs.Moments.{after_all, MomentsRise}
 use Rattle.ps_store.proofs.Stepping.{source_changes, steps_rise}
 

@@ -24,7 +24,8 @@ use Rattle.ps_queries.specs.declared.queries.Output.{Output}
 use Rattle.ps_queries.specs.declared.queries.DataQuery.{DataQuery}
 use Rattle.ps_queries.specs.declared.queries.ParameterQuery.{ParameterQuery}
 use Rattle.ps_queries.specs.declared.subjects.Subject.TheVariants as subjects
-use Rattle.ps_queries.specs.Meaning.{Asker, Given, value_of, text_of, is_true, Holds, holds}
+use Rattle.ps_queries.specs.declared.askers.Asker.{Asker}
+use Rattle.ps_queries.specs.Meaning.{Given, value_of, text_of, is_true, Holds, holds}
 use Rattle.ps_queries.specs.Subjects.{speaks, IsSameForEveryAsker}
 use Rattle.ps_queries.specs.Subjects.{condition_speaks}
 use Rattle.ps_definitions.specs.declared.definitions.Definition.{Definition}
@@ -43,13 +44,14 @@ use Rattle.ps_queries.specs.Objects.{value_named, object_id, output_column, show
 use Rattle.ps_sql_eval.specs.Evaluated.{nobody}
 use Rattle.ps_bucket_eval.specs.Shown.{alone}
 use Rattle.ps_bucket_eval.specs.Vectors.{with_vector, holding}
-use Rattle.ps_bucket_eval.specs.Entries.{RowOf, placed_in, entry_of, placed_all, buckets_of, query_entries, definition_entries, entries_of}
+use Rattle.ps_bucket_eval.specs.Entries.{placed_in, entry_of, placed_all, buckets_of, query_entries, definition_entries, entries_of}
 use Rattle.ps_definitions.specs.Laws.{NamesDiffer}
 use Rattle.ps_bucket_eval.specs.Laws.{IsVectorOf, PlacedWhereItHolds}
 use Rattle.ps_store.specs.Originals.{row_of}
 use Rattle.ps_store.specs.Standing.{Standing, IsCopyOf}
 use Rattle.ps_store.specs.Laws.{AreSqlVectors, IsBucketOf}
-use Rattle.ps_store.proofs.Members.{Has, has_map, from_map, has_flat, from_flat, any_has, has_any, none_has, has_contains, contains_has}
+use Rattle.ps_definitions.proofs.NamesInOrder.{from_in_order}
+use Rattle.ps_data.proofs.Members.{Has, has_map, from_map, has_flat, from_flat, any_has, has_any, none_has, has_contains, contains_has}
 
 -- ---- lists
 
@@ -82,22 +84,6 @@ all_of P (y ∷ xs) x h i = elim i [ inl e ↦ subst P e h.0 | inr t ↦ all_of 
 only_one : {X : Type 0} (b : Bool) (x y : X) → Has (if b then x ∷ [] else []) y → x ≡ y
 only_one true x y h = elim h [ inl e ↦ e | inr t ↦ absurd t ]
 only_one false x y h = absurd h
-
--- what is in a list in order was put into it
-from_insert : (xs : List (List ℕ)) (k q : List ℕ) → Has (insert_key (slice_cmp nat_cmp) xs k) q → (k ≡ q) ⊎ Has xs q
-from_insert [] k q h = h
-from_insert (x ∷ xs) k q h = elim (slice_cmp nat_cmp k x) as (λ o. Has (match_ordering o (k ∷ x ∷ xs) (x ∷ xs) (x ∷ insert_key (slice_cmp nat_cmp) xs k)) q → (k ≡ q) ⊎ Has (x ∷ xs) q) [
-  | Less ↦ λ i. i
-  | Equal ↦ λ i. inr i
-  | Greater ↦ λ i. elim i [
-    | inl a ↦ inr (inl a)
-    | inr b ↦ elim (from_insert xs k q b) [ inl c ↦ inl c | inr d ↦ inr (inr d) ]
-  ]
-] h
-
-from_in_order : (names : List (List ℕ)) (q : List ℕ) → Has (in_order names) q → Has names q
-from_in_order [] q h = absurd h
-from_in_order (n ∷ ns) q h = elim (from_insert (in_order ns) n q h) [ inl e ↦ inl e | inr t ↦ inr (from_in_order ns q t) ]
 
 -- ---- options and tests
 
@@ -237,14 +223,14 @@ each_named d asker rows values names h = go d.parameters names h
 -- ---- an entry of a query
 
 -- it is that of some vector, of a query of the row's table that shows an object
-record IsShape (d : Definition) (q : Planned) (row : RowOf) (x : Placed) : Type 0 where
+record IsShape (d : Definition) (q : Planned) (row : SourceRow) (x : Placed) : Type 0 where
   pub table : q.query.table ≡ row.table
   pub object : List ℕ
   pub shows : object_id (alone row.id row.row) q.query ≡ Some object
   pub values : List Value
   pub is : entry_of d q row object values ≡ x
 
-module _ (d : Definition) (q : Planned) (row : RowOf) (x : Placed) where
+module _ (d : Definition) (q : Planned) (row : SourceRow) (x : Placed) where
   all_shape : q.query.table ≡ row.table → (o : Option (List ℕ)) → object_id (alone row.id row.row) q.query ≡ o → Has (placed_all d row q o) x → IsShape d q row x
   unfolding buckets_of
   all_shape table None e h = absurd h
@@ -264,7 +250,7 @@ module _ (d : Definition) (q : Planned) (row : RowOf) (x : Placed) where
 -- ---- copies and entries
 
 module _ (rules : RuleSet) (asker : Asker) (source : Source) (are : AreRules rules) (sorted : T (is_sorted key_cmp source)) (sql : AreSqlVectors rules.definitions asker (rows_in source))
-    (same : IsSameForEveryAsker) (differ : NamesDiffer) (placed : (row : RowOf) → PlacedWhereItHolds rules row (entries_of rules.definitions row)) where
+    (same : IsSameForEveryAsker) (differ : NamesDiffer) (placed : (row : SourceRow) → PlacedWhereItHolds rules row (entries_of rules.definitions row)) where
   abbrev vectors : Definition → List (List Value)
   vectors d = parameter_vectors d asker (rows_in source)
 

@@ -7,7 +7,7 @@ use Rattle.std.proofs.lemmas.List.Sums.{fold-append}
 use Rattle.std.specs.List.Sorted.{IsStrictlySortedBy}
 use Rattle.std.specs.Ordering.{nat_cmp, ordering_then}
 use Rattle.std.specs.Cmp.{tied_itself, nat_cmp_total}
-use Rattle.std.specs.Cmp.Lexicographic.{slice_cmp}
+use Rattle.std.specs.Cmp.Lexicographic.{slice_cmp, nat_list_cmp_total}
 use Rattle.std.specs.declared.cmp.Ordering.{Ordering}
 use Rattle.std.specs.declared.cmp.Ordering.TheVariants.{Less, Equal}
 use Rattle.std.proofs.lemmas.Slice.Eq.{bytes_eq-Decides}
@@ -20,7 +20,7 @@ use Rattle.ps_rows.specs.declared.changes.Transaction.{Transaction}
 use Rattle.ps_write_cp.specs.Kept.{Rises}
 use Rattle.ps_write_cp.specs.Laws.{HasHead, IsGreatestReached, CoveredIsGreatest, CoversAllBefore}
 use Rattle.ps_write_cp.specs.Numbers.{Made, is_of, covered}
-use Rattle.ps_queries.specs.Meaning.{Asker}
+use Rattle.ps_queries.specs.declared.askers.Asker.{Asker}
 use Rattle.ps_definitions.specs.declared.definitions.Definition.{Definition}
 use Rattle.ps_definitions.specs.RuleSets.{RuleSet, AreRules, IsSound as IsSoundDefinition}
 use Rattle.ps_queries.specs.Vectors.{SourceRow}
@@ -47,8 +47,9 @@ use Rattle.ps_store.proofs.Going.{IsWell, well_fresh}
 use Rattle.ps_store.proofs.Growing.{IsSound, IsLater, entries_lower, sound_fresh, heads_push, sound_after, sound_at, later_at, later_whole, later_end, legal_at, legal_parts, last_at, head_at, rises_at}
 use Rattle.ps_store.proofs.Lawful.{BucketLaws, EndsWithin, EndsPast, KeepsLogs, KeepsTakes, lawful}
 use Rattle.ps_store.proofs.Fronts.{is_le, le_from}
-use Rattle.ps_store.proofs.Members.{Has, has_left, has_right, has_cases, has_filter, from_filter, has_map, from_map, has_flat, from_flat, has_contains, contains_has}
-use Rattle.ps_store.proofs.Ordered.{NamesRise, in_order_rise, has_in_order, from_in_order, names_sorted, never_below}
+use Rattle.ps_data.proofs.Members.{Has, has_left, has_right, has_cases, has_filter, from_filter, has_map, from_map, has_flat, from_flat, has_contains, contains_has}
+use Rattle.ps_data.proofs.Rising.{Rises, rises_sorted, never}
+use Rattle.ps_definitions.proofs.NamesInOrder.{name_cmp, in_order_rises, has_in_order, from_in_order}
 use Rattle.ps_store.proofs.Reaching.{take_append, head_above}
 use Rattle.ps_store.proofs.Telling.{tells_reach}
 
@@ -112,10 +113,10 @@ module _ (op : ℕ) (log : List ℕ → List Op) where
   none_told name (q ∷ names) h = by (bytes_eq name q) refl (none_told name names (λ y i. h y (inr i)))
     where
       by : (b : Bool) → bytes_eq name q ≡ b → bucket_in name (told names) ≡ None → (if b then Some (bucket_upto op q (log q)) else bucket_in name (told names)) ≡ None
-      by true e rest = absurd (never_below name (subst (λ (z : List ℕ). slice_cmp nat_cmp name z ≡ Less) (sym ((bytes_eq-Decides name q).0 e)) (h q (inl refl))))
+      by true e rest = absurd (never name_cmp nat_list_cmp_total name (subst (λ (z : List ℕ). slice_cmp nat_cmp name z ≡ Less) (sym ((bytes_eq-Decides name q).0 e)) (h q (inl refl))))
       by false e rest = rest
 
-  told_apart : (names : List (List ℕ)) → NamesRise names → AreApart (told names)
+  told_apart : (names : List (List ℕ)) → Rises name_cmp names → AreApart (told names)
   told_apart [] h = tt
   told_apart (q ∷ names) h = (none_told q names h.0, told_apart names h.1)
 
@@ -156,7 +157,7 @@ behind_mark : (mark a b : List ℕ) → slice_cmp nat_cmp (mark ++ a) (mark ++ b
 behind_mark [] a b = refl
 behind_mark (n ∷ mark) a b = ap (λ (o : Ordering). ordering_then o (slice_cmp nat_cmp (mark ++ a) (mark ++ b))) (nat_itself n) ∙ behind_mark mark a b
 
-pub marked_rise : (number : ℕ) (names : List (List ℕ)) → NamesRise names → NamesRise (with_mark number names)
+pub marked_rise : (number : ℕ) (names : List (List ℕ)) → Rises name_cmp names → Rises name_cmp (with_mark number names)
 marked_rise number [] h = tt
 marked_rise number (x ∷ xs) h = (
   λ y i.
@@ -409,14 +410,14 @@ module _ (laws : StoreLaws) (rules : RuleSet) (history : List Event) (asker : As
             (r.0, sym r.2, is_bucket definitions asker (rows n) r.0 r.1)
         by bucket key some false is = absurd (some (holds.only bucket is key))
 
-  names_rise : (n : ℕ) → NamesRise (names_of (place n) asker)
-  names_rise n = marked_rise (place n).force.number (plain_names n) (in_order_rise (flat_map (definition_names asker (rows n)) (place n).force.rules.definitions))
+  names_rise : (n : ℕ) → Rises name_cmp (names_of (place n) asker)
+  names_rise n = marked_rise (place n).force.number (plain_names n) (in_order_rises (flat_map (definition_names asker (rows n)) (place n).force.rules.definitions))
 
   keeps_takes : KeepsTakes course (λ n bucket. (place n).log bucket)
   keeps_takes = record {
     op = λ n. refl;
     number = λ n. numbers_low laws.grows laws.stands laws.buckets.itself laws.compacted rules history asker n legal laws.greatest;
-    rise = λ n. subst (IsStrictlySortedBy (slice_cmp nat_cmp)) (names_kept (place n).op (place n).log (names_of (place n) asker)) (names_sorted (names_of (place n) asker) (names_rise n));
+    rise = λ n. subst (IsStrictlySortedBy (slice_cmp nat_cmp)) (names_kept (place n).op (place n).log (names_of (place n) asker)) (rises_sorted name_cmp (names_of (place n) asker) (names_rise n));
     apart = λ n. told_apart (place n).op (place n).log (names_of (place n) asker) (names_rise n);
     position = λ n m low. (goes n m low).position;
     position_low = λ n. (tells_reach rules (take n history) (legal_place n)).checkpoint.fed;

@@ -9,7 +9,7 @@ use Rattle.ps_rows.specs.declared.shown.Shown.{Shown}
 use Rattle.ps_rows.specs.Source.{Key, key_cmp, Source}
 use Rattle.ps_client_log.specs.Rows.{HeldCopy, content_of, row_at}
 use Rattle.ps_client_log.specs.Rows as held_rows
-use Rattle.ps_queries.specs.Meaning.{Asker}
+use Rattle.ps_queries.specs.declared.askers.Asker.{Asker}
 use Rattle.ps_definitions.specs.declared.definitions.Definition.{Definition}
 use Rattle.ps_granted.specs.declared.copies.Granted.{Granted}
 use Rattle.ps_granted.specs.Grants.{granted}
@@ -22,7 +22,7 @@ use Rattle.ps_store.specs.Latest.{IsHeld, IsLatestHeld, IsLatestData, ShowsLates
 use Rattle.ps_store.specs.Laws.{IsBucketOf}
 use Rattle.ps_store.specs.StepLaws.{HoldsLaneBuckets}
 use Rattle.ps_store.proofs.Copies.{find_there, from_find}
-use Rattle.ps_store.proofs.Members.{Has, has_map, from_map, has_contains, contains_has}
+use Rattle.ps_data.proofs.Members.{Has, has_map, from_map, has_contains, contains_has}
 
 -- ---- rows by their objects
 

@@ -10,7 +10,7 @@ use Rattle.ps_store.specs.Originals.{Timed}
 use Rattle.ps_store.proofs.Going.{IsWell, ComesWell, IsOver, done_of, well_event}
 use Rattle.ps_store.proofs.Lawful.{EndsPast}
 use Rattle.ps_store.proofs.Marks.{one_generation}
-use Rattle.ps_store.proofs.Members.{Has, has_cases}
+use Rattle.ps_data.proofs.Members.{Has, has_cases}
 
 -- ---- what is found
 

@@ -6,7 +6,7 @@ use Rattle.ps_rows.specs.declared.shown.Shown.{Shown}
 use Rattle.ps_rows.specs.Source.{Key as Object, source_at}
 use Rattle.ps_client_log.specs.Kept.{Kept, bucket_at}
 use Rattle.ps_client_log.specs.Rows.{IsLatestContent, row_at}
-use Rattle.ps_queries.specs.Meaning.{Asker}
+use Rattle.ps_queries.specs.declared.askers.Asker.{Asker}
 use Rattle.ps_definitions.specs.declared.definitions.Definition.{Definition}
 use Rattle.ps_queries.specs.Vectors.{SourceRow}
 use Rattle.ps_store.specs.Originals.{timed, ops_from}

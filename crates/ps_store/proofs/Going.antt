@@ -22,7 +22,7 @@ use Rattle.ps_store.proofs.Fronts.{upto_timed}
 use Rattle.ps_store.proofs.Generating.{IsLane, takes, queues, others, goes_on, feeds, begins, first_lane, all_append, all_parts}
 use Rattle.ps_store.proofs.Ids.{between_wider, change_between}
 use Rattle.ps_store.proofs.Marks.{none_in, next_of}
-use Rattle.ps_store.proofs.Members.{Has, has_cases}
+use Rattle.ps_data.proofs.Members.{Has, has_cases}
 use Rattle.ps_store.proofs.Placing.{AtPlace, Moves, stays, moved, next_past, place_whole, place_fed, upto_past, next_moves, feed_moves}
 use Rattle.ps_store.proofs.Moments.{after_all}
 use Rattle.ps_store.proofs.Queues.{AllUpTo}

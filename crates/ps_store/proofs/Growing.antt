@@ -33,7 +33,7 @@ use Rattle.ps_store.specs.Steps.{marked}
 use Rattle.ps_store.proofs.Cutting.{newest_low}
 use Rattle.ps_store.proofs.Filling.{in_bucket_cons, in_bucket_append}
 use Rattle.ps_store.proofs.Lawful.{Grown, EndsWithin}
-use Rattle.ps_store.proofs.Members.{Has, has_cases}
+use Rattle.ps_data.proofs.Members.{Has, has_cases}
 use Rattle.ps_store.proofs.Reaching.{head_fed, rises_push}
 use Rattle.ps_store.proofs.Sums.{every_append, AreSummed, AreEnteredSummed, lane_summed, summed_in}
 

@@ -11,9 +11,10 @@ use Rattle.ps_definitions.specs.RuleSets.{rises_past, numbers_of}
 use Rattle.ps_bucket_eval.specs.declared.placed.Placed.{Placed}
 use Rattle.ps_queries.specs.Objects.{object_id}
 use Rattle.ps_bucket_eval.specs.Shown.{alone}
-use Rattle.ps_bucket_eval.specs.Entries.{RowOf, subkey_of, placed_in, placed_all, buckets_of, query_entries, definition_entries, entries_of}
+use Rattle.ps_queries.specs.Vectors.{SourceRow}
+use Rattle.ps_bucket_eval.specs.Entries.{subkey_of, placed_in, placed_all, buckets_of, query_entries, definition_entries, entries_of}
 use Rattle.ps_store.specs.Laws.{HaveNumbers}
-use Rattle.ps_store.proofs.Members.{Has, from_map, from_flat, has_contains}
+use Rattle.ps_data.proofs.Members.{Has, from_map, from_flat, has_contains}
 use Rattle.ps_store.proofs.Queries.{same_place}
 
 -- ---- texts without `/`
@@ -44,7 +45,7 @@ same_behind xs ys p q same e =
     let tails : (47 ∷ p) ≡ (47 ∷ q) = append_cancel_left ys (47 ∷ p) (47 ∷ q) (subst (λ zs. zs ++ (47 ∷ p) ≡ ys ++ (47 ∷ q)) same e) in
     cc
 
-same_subkey : (m n : ℕ) (a b : RowOf) → m < 2 ^ 32 → n < 2 ^ 32 → subkey_of m a ≡ subkey_of n b → (m ≡ n) × (a.table ++ (47 ∷ a.id) ≡ b.table ++ (47 ∷ b.id))
+same_subkey : (m n : ℕ) (a b : SourceRow) → m < 2 ^ 32 → n < 2 ^ 32 → subkey_of m a ≡ subkey_of n b → (m ≡ n) × (a.table ++ (47 ∷ a.id) ≡ b.table ++ (47 ∷ b.id))
 unfolding subkey_of
 same_subkey m n a b h k e =
     let parts = same_split (decimal m) (decimal n) (a.table ++ (47 ∷ a.id)) (b.table ++ (47 ∷ b.id)) (decimal_no_slash m (omega arith)) (decimal_no_slash n (omega arith)) e in
@@ -53,7 +54,7 @@ same_subkey m n a b h k e =
 -- ---- an entry's query
 
 -- the query that an entry of a row is of
-pub record IsOf (definitions : List Definition) (source : RowOf) (entry : Placed) : Type 0 where
+pub record IsOf (definitions : List Definition) (source : SourceRow) (entry : Placed) : Type 0 where
   pub definition : Definition
   pub planned : Planned
   pub of_rules : Has definitions definition
@@ -62,7 +63,7 @@ pub record IsOf (definitions : List Definition) (source : RowOf) (entry : Placed
   pub number : planned.number ≡ entry.number
   pub subkey : entry.key.subkey ≡ subkey_of planned.number source
 
-module _ (source : RowOf) (definition : Definition) (planned : Planned) (entry : Placed) where
+module _ (source : SourceRow) (definition : Definition) (planned : Planned) (entry : Placed) where
   from_all : (o : Option (List ℕ)) → Has (placed_all definition source planned o) entry → (planned.number ≡ entry.number) × (entry.key.subkey ≡ subkey_of planned.number source)
   from_all None h = absurd h
   from_all (Some object) h =
@@ -78,7 +79,7 @@ module _ (source : RowOf) (definition : Definition) (planned : Planned) (entry :
       go true e i = let r = from_all (object_id (alone source.id source.row) planned.query) i in ((bytes_eq-Decides planned.query.table source.table).0 e, r.0, r.1)
       go false e i = absurd i
 
-pub is_of : (definitions : List Definition) (source : RowOf) (entry : Placed) → Has (entries_of definitions source) entry → IsOf definitions source entry
+pub is_of : (definitions : List Definition) (source : SourceRow) (entry : Placed) → Has (entries_of definitions source) entry → IsOf definitions source entry
 is_of definitions source entry h =
     let a = from_flat (definition_entries source) definitions entry h in
     let b = from_flat (query_entries a.0 source) a.0.queries entry a.2 in
@@ -88,13 +89,13 @@ is_of definitions source entry h =
 -- ---- equal keys
 
 -- entries with one key are of one query and of one row
-pub record IsSameRow (a b : RowOf) (x y : Placed) : Type 0 where
+pub record IsSameRow (a b : SourceRow) (x y : Placed) : Type 0 where
   pub number : x.number ≡ y.number
   pub table : a.table ≡ b.table
   pub id : a.id ≡ b.id
 
 pub same_row : (definitions : List Definition) → rises_past 0 (numbers_of definitions) ≡ true → HaveNumbers definitions
-    → (a b : RowOf) (x y : Placed) → Has (entries_of definitions a) x → Has (entries_of definitions b) y → x.key ≡ y.key → IsSameRow a b x y
+    → (a b : SourceRow) (x y : Placed) → Has (entries_of definitions a) x → Has (entries_of definitions b) y → x.key ≡ y.key → IsSameRow a b x y
 same_row definitions rise have a b x y i j e =
     let f = is_of definitions a x i in
     let g = is_of definitions b y j in

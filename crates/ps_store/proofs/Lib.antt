@@ -38,7 +38,6 @@ pub mod Looking
 pub mod Maps
 pub mod Marks
 pub mod MarksIn
-pub mod Members
 pub mod Moments
 pub mod MomentsSorted
 pub mod Moving
@@ -47,7 +46,6 @@ pub mod Noted
 pub mod Numbering
 pub mod OneGeneration
 pub mod OneMoment
-pub mod Ordered
 pub mod Orders
 pub mod OwnLogs
 pub mod Placing

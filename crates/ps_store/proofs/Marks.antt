@@ -16,7 +16,7 @@ use Rattle.ps_queries.specs.Objects.{object_id}
 use Rattle.ps_bucket_eval.specs.declared.placed.Placed.{Placed}
 use Rattle.ps_bucket_eval.specs.Shown.{alone}
 use Rattle.ps_bucket_eval.specs.Vectors.{holding}
-use Rattle.ps_bucket_eval.specs.Entries.{RowOf, placed_in, placed_all, buckets_of, query_entries, definition_entries, entries_of}
+use Rattle.ps_bucket_eval.specs.Entries.{placed_in, placed_all, buckets_of, query_entries, definition_entries, entries_of}
 use Rattle.ps_rows.specs.Source.{Key, Source}
 use Rattle.ps_data.specs.declared.columns.Column.{Column}
 use Rattle.ps_data.specs.declared.values.Value.{Value}
@@ -25,9 +25,9 @@ use Rattle.ps_store.specs.Limits.{greatest}
 use Rattle.ps_store.specs.Originals.{Entered, Timed, removed, put, leaving, stays, numbered, row_of, key_of, entries_at, standing_entries, change_ops, in_bucket}
 use Rattle.ps_store.specs.Steps.{marked}
 use Rattle.ps_store.proofs.Filling.{in_bucket_cons}
-use Rattle.ps_store.proofs.Members.{Has, from_map, from_flat, from_filter}
-use Rattle.ps_store.proofs.Ordered.{from_in_order}
-use Rattle.ps_queries.specs.Meaning.{Asker}
+use Rattle.ps_data.proofs.Members.{Has, from_map, from_flat, from_filter}
+use Rattle.ps_definitions.proofs.NamesInOrder.{from_in_order}
+use Rattle.ps_queries.specs.declared.askers.Asker.{Asker}
 use Rattle.ps_queries.specs.Vectors.{SourceRow}
 use Rattle.ps_definitions.specs.Vectors.{parameter_vectors}
 use Rattle.ps_params.specs.Names.{definition_names, bucket_names, IsTold, AreTold as ArePlainTold}
@@ -186,7 +186,7 @@ at_one : {X : Type 0} (P : X → Type 0) (xs : List X) (x : X) → AllByRecursio
 at_one P [] x h i = absurd i
 at_one P (y ∷ ys) x h i = elim i [ inl e ↦ subst P e h.0 | inr t ↦ at_one P ys x h.1 t ]
 
-module _ (source : RowOf) (definition : Definition) (planned : Planned) (entry : Placed) (sound : is_definition_name definition.name ≡ true) where
+module _ (source : SourceRow) (definition : Definition) (planned : Planned) (entry : Placed) (sound : is_definition_name definition.name ≡ true) where
   all_begin : (o : Option (List ℕ)) → Has (placed_all definition source planned o) entry → begins_word entry.bucket ≡ true
   unfolding buckets_of
   all_begin None h = absurd h
@@ -205,7 +205,7 @@ module _ (source : RowOf) (definition : Definition) (planned : Planned) (entry :
       go true i = all_begin (object_id (alone source.id source.row) planned.query) i
       go false i = absurd i
 
-entry_begins : (rules : RuleSet) (source : RowOf) (entry : Placed) → AreRules rules → Has (entries_of rules.definitions source) entry → begins_word entry.bucket ≡ true
+entry_begins : (rules : RuleSet) (source : SourceRow) (entry : Placed) → AreRules rules → Has (entries_of rules.definitions source) entry → begins_word entry.bucket ≡ true
 entry_begins rules source entry are h =
     let a = from_flat (definition_entries source) rules.definitions entry h in
     let b = from_flat (query_entries a.0 source) a.0.queries entry a.2 in

@@ -23,7 +23,7 @@ use Rattle.ps_store.specs.Generations.{last_change, is_earlier, queue_of}
 use Rattle.ps_store.specs.Originals.{Timed}
 use Rattle.ps_store.specs.Rows.{in_place, live_with, live_in, HaveOwnMoments, moment_of, moment_cmp}
 use Rattle.ps_store.proofs.Copies.{find_there}
-use Rattle.ps_store.proofs.Members.{Has, has_map, from_map, has_contains, contains_has}
+use Rattle.ps_data.proofs.Members.{Has, has_map, from_map, has_contains, contains_has}
 use Rattle.ps_store.proofs.Queues.{Ascend, from_queue, has_queue, queue_ascends, key_behind, sorted_behind}
 
 -- ---- the rows that are there

@@ -4,7 +4,7 @@ use Rattle.std.specs.List.{AllByRecursion}
 use Rattle.std.proofs.lemmas.List.{drop_more}
 use Rattle.ps_definitions.specs.declared.definitions.Definition.{Definition}
 use Rattle.ps_definitions.specs.declared.queries.Planned.{Planned}
-use Rattle.ps_store.proofs.Members.{Has, contains_has}
+use Rattle.ps_data.proofs.Members.{Has, contains_has}
 use Rattle.ps_store.specs.Laws.{HaveNumbers}
 use Rattle.ps_store.specs.Numbers.{IsNumbered, AreNumbered}
 

@@ -9,7 +9,7 @@ use Rattle.std.specs.declared.cmp.Ordering.TheVariants.{Less, Equal, Greater}
 use Rattle.std.proofs.lemmas.Bool.{cases_lt, false_from_ne_true}
 use Rattle.ps_bucket_eval.specs.declared.placed.Placed.{Placed}
 use Rattle.ps_bucket_eval.specs.Laws.{placed_cmp, EntriesRise}
-use Rattle.ps_store.proofs.Members.{Has}
+use Rattle.ps_data.proofs.Members.{Has}
 use Rattle.ps_store.proofs.Replays.{is_at, at_is, HasId, has_of_id, id_within, AreApart}
 
 all_of : {X : Type 0} (P : X → Type 0) (xs : List X) (x : X) → AllByRecursion P xs → Has xs x → P x

@@ -5,7 +5,7 @@ use Rattle.std.proofs.lemmas.Bool.{and_parts, ltb-true}
 use Rattle.ps_definitions.specs.declared.queries.Planned.{Planned}
 use Rattle.ps_definitions.specs.declared.definitions.Definition.{Definition}
 use Rattle.ps_definitions.specs.RuleSets.{rises_past, numbers_of}
-use Rattle.ps_store.proofs.Members.{Has, has_right, has_map, has_flat}
+use Rattle.ps_data.proofs.Members.{Has, has_right, has_map, has_flat}
 
 rises_above : (before : ℕ) (ns : List ℕ) (n : ℕ) → rises_past before ns ≡ true → Has ns n → before < n
 rises_above before [] n h i = absurd i

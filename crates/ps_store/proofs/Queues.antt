@@ -13,7 +13,7 @@ use Rattle.ps_store.specs.Originals.{Timed, key_of, after}
 use Rattle.ps_store.specs.Steps.{Step, source_after, changes_of}
 use Rattle.ps_store.proofs.Apart.{HaveMoments, moments_after, moments_past}
 use Rattle.ps_store.proofs.Copies.{find_there, from_find}
-use Rattle.ps_store.proofs.Members.{Has}
+use Rattle.ps_data.proofs.Members.{Has}
 use Rattle.ps_store.proofs.Moments.{after_all, IsEarlier, IsReached, MomentsRise}
 
 -- ---- what is in a queue

@@ -11,7 +11,7 @@ use Rattle.ps_bucket_log.specs.Ops.{same_key}
 use Rattle.ps_bucket_log.specs.Buckets.{Bucket, after, held_after}
 use Rattle.ps_bucket_eval.specs.declared.placed.Placed.{Placed}
 use Rattle.ps_store.specs.Originals.{Entered, removed, put, numbered, stays, leaving, written, in_bucket}
-use Rattle.ps_store.proofs.Members.{Has, any_has, has_any, has_filter, from_filter}
+use Rattle.ps_data.proofs.Members.{Has, any_has, has_any, has_filter, from_filter}
 
 -- ---- a bucket's operations among all
 

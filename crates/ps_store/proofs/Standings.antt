@@ -17,13 +17,14 @@ use Rattle.ps_rows.specs.Keys.{keys_total, keys_exact, find-after_row}
 use Rattle.ps_definitions.specs.declared.definitions.Definition.{Definition}
 use Rattle.ps_definitions.specs.RuleSets.{rises_past, numbers_of}
 use Rattle.ps_bucket_eval.specs.declared.placed.Placed.{Placed}
-use Rattle.ps_bucket_eval.specs.Entries.{RowOf, entries_of}
+use Rattle.ps_queries.specs.Vectors.{SourceRow}
+use Rattle.ps_bucket_eval.specs.Entries.{entries_of}
 use Rattle.ps_bucket_eval.specs.Laws.{EntriesRise}
 use Rattle.ps_store.specs.Originals.{put, leaving, written, Timed, key_of, after, row_of, entries_at, columns_of, standing_entries, change_ops, in_bucket}
 use Rattle.ps_store.specs.Standing.{Holding, Standing, HoldsStanding}
 use Rattle.ps_store.specs.Steps.{Step, lane_ops, source_after, held_of, in_lane}
 use Rattle.ps_store.specs.Laws.{HaveNumbers}
-use Rattle.ps_store.proofs.Members.{Has, any_has, has_any, has_contains, contains_has}
+use Rattle.ps_data.proofs.Members.{Has, any_has, has_any, has_contains, contains_has}
 use Rattle.ps_store.proofs.Keys.{same_row}
 use Rattle.ps_store.proofs.Replays.{held_over, held_over-append, reader_holds, is_at, at_is, at_itself, HasId, id_of_has, id_within, AreApart, held_elsewhere, held_there, length-written}
 use Rattle.ps_store.proofs.Orders.{Rise, rise_of, apart_of, ids_rise}
@@ -127,12 +128,12 @@ changed definitions position index (Some columns) key k version same e =
       λ x h. subst (λ c. Has (entries_of definitions (row_of c columns)) x) same (subst (λ (v : Version). Has (entries_of definitions (row_of key v.columns)) x) (sym is) h),
     )
 
-module _ (definitions : List Definition) (order : (source : RowOf) → EntriesRise (entries_of definitions source)) (numbers : rises_past 0 (numbers_of definitions) ≡ true) (have : HaveNumbers definitions) where
+module _ (definitions : List Definition) (order : (source : SourceRow) → EntriesRise (entries_of definitions source)) (numbers : rises_past 0 (numbers_of definitions) ≡ true) (have : HaveNumbers definitions) where
   entries_rise : (k : Key) (row : Option (List Column)) → Rise (entries_at definitions k row)
   entries_rise k None = tt
   entries_rise k (Some columns) = rise_of (entries_of definitions (row_of k columns)) (order (row_of k columns))
 
-  same_number : (a b : RowOf) (x y : Placed) → Has (entries_of definitions a) x → Has (entries_of definitions b) y → x.key ≡ y.key → x.number ≡ y.number
+  same_number : (a b : SourceRow) (x y : Placed) → Has (entries_of definitions a) x → Has (entries_of definitions b) y → x.key ≡ y.key → x.number ≡ y.number
   same_number a b x y i j e = (same_row definitions numbers have a b x y i j e).number
 
   entries_apart : (k : Key) (row : Option (List Column)) → AreApart (entries_at definitions k row)
@@ -366,7 +367,7 @@ module _ (definitions : List Definition) (source : Source) (next position index 
   }
 
 -- readers that took the operations of all steps hold what stands
-pub steps_standing : (definitions : List Definition) → ((source : RowOf) → EntriesRise (entries_of definitions source)) → rises_past 0 (numbers_of definitions) ≡ true → HaveNumbers definitions
+pub steps_standing : (definitions : List Definition) → ((source : SourceRow) → EntriesRise (entries_of definitions source)) → rises_past 0 (numbers_of definitions) ≡ true → HaveNumbers definitions
     → (ss : List Step) → StepsFrom definitions [] 0 0 0 ss → (held : Holding)
     → ((bucket : List ℕ) (key : EntryKey) → held_over bucket key None (step_ops definitions [] ss) ≡ held bucket key) → HoldsStanding definitions (source_after [] ss) held
 steps_standing definitions order numbers have ss rise held same =

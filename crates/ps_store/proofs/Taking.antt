@@ -12,7 +12,7 @@ use Rattle.ps_bucket_log.specs.Batches as logs
 use Rattle.ps_rows.specs.declared.changes.Change.{Change}
 use Rattle.ps_rows.specs.declared.changes.Transaction.{Transaction}
 use Rattle.ps_rows.specs.Source.{source_at}
-use Rattle.ps_queries.specs.Meaning.{Asker}
+use Rattle.ps_queries.specs.declared.askers.Asker.{Asker}
 use Rattle.ps_definitions.specs.declared.definitions.Definition.{Definition}
 use Rattle.ps_definitions.specs.RuleSets.{RuleSet}
 use Rattle.ps_queries.specs.Vectors.{SourceRow}
@@ -48,9 +48,10 @@ use Rattle.ps_store.proofs.Fronts.{upto_timed, upto-timed, written_upto}
 use Rattle.ps_store.proofs.Marks.{all_told, names_own}
 use Rattle.ps_store.proofs.OwnLogs.{log_mine}
 use Rattle.ps_store.proofs.Going.{IsWell, well_history}
-use Rattle.ps_store.proofs.Members.{Has}
+use Rattle.ps_data.proofs.Members.{Has}
 use Rattle.ps_store.proofs.CourseReadings.{marked_rise}
-use Rattle.ps_store.proofs.Ordered.{in_order_rise, names_sorted}
+use Rattle.ps_data.proofs.Rising.{rises_sorted}
+use Rattle.ps_definitions.proofs.NamesInOrder.{name_cmp, in_order_rises}
 
 -- ---- notes of changes
 
@@ -250,7 +251,7 @@ module _ (fixed : Fixed) (store : Store) (history : List Event) (h : StoreStands
             };
             few = few_are buckets few are;
             rise = subst (IsStrictlySortedBy (slice_cmp nat_cmp)) named
-                (names_sorted (names_of l asker) (marked_rise l.force.number (bucket_names l.force.rules.definitions asker rows) (in_order_rise (flat_map (definition_names asker rows) l.force.rules.definitions))));
+                (rises_sorted name_cmp (names_of l asker) (marked_rise l.force.number (bucket_names l.force.rules.definitions asker rows) (in_order_rises (flat_map (definition_names asker rows) l.force.rules.definitions))));
             told = subst AreTold named (all_told l.force.number l.force.rules asker rows number_low well.force.are (subst ArePlainTold plain_are told));
           }
 

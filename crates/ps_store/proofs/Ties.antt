@@ -4,7 +4,7 @@ use Rattle.std.specs.Prelude.{filter_map}
 use Rattle.std.specs.List.{cons_option}
 use Rattle.std.proofs.lemmas.Option.{same_Some}
 use Rattle.ps_rows.specs.Source.{Key, Version, Source}
-use Rattle.ps_queries.specs.Meaning.{Asker}
+use Rattle.ps_queries.specs.declared.askers.Asker.{Asker}
 use Rattle.ps_definitions.specs.declared.definitions.Definition.{Definition}
 use Rattle.ps_definitions.specs.declared.queries.Planned.{Planned}
 use Rattle.ps_definitions.specs.RuleSets.{RuleSet, AreRules}
@@ -15,7 +15,7 @@ use Rattle.ps_granted.specs.Grants.{is_granted, copy_with, copy_of, grant_of, gr
 use Rattle.ps_granted.specs.Latest.{object_of, TiesAgree}
 use Rattle.ps_queries.specs.Objects.{object_id, content_of}
 use Rattle.ps_granted.specs.Sources.{row_of, rows_in}
-use Rattle.ps_store.proofs.Members.{Has, from_flat, contains_has}
+use Rattle.ps_data.proofs.Members.{Has, from_flat, contains_has}
 use Rattle.ps_store.proofs.Queries.{same_place}
 use Rattle.ps_store.proofs.OneMoment.{HaveOneMoment, neither_later}
 

@@ -2,7 +2,7 @@
 use Rattle.std.proofs.Common.{◌≡◌, false, true, refl}
 use Rattle.std.specs.Fmt.{digits}
 use Rattle.ps_data.specs.Documents.{document_of, quoted_of}
-use Rattle.ps_queries.specs.Meaning.{Asker}
+use Rattle.ps_queries.specs.declared.askers.Asker.{Asker}
 use Rattle.ps_queries.specs.Objects.{object_id, shown_columns, content_of}
 use Rattle.ps_definitions.specs.Buckets.{bucket_name_of}
 use Rattle.ps_definitions.specs.RuleSets.{RuleSet}

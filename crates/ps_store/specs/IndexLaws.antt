@@ -1,6 +1,6 @@
 -- What the index of a store's parameter rows gives, at each position from the checkpoint's on up to which all is written.
 use Rattle.std.specs.Prelude.{◌≡◌, ℕ, ◌≤◌, List, Some}
-use Rattle.ps_queries.specs.Meaning.{Asker}
+use Rattle.ps_queries.specs.declared.askers.Asker.{Asker}
 use Rattle.ps_queries.specs.Vectors.{SourceRow}
 use Rattle.ps_rows.specs.Source.{source_at}
 use Rattle.ps_granted.specs.Sources.{rows_in}

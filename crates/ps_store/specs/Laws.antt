@@ -9,7 +9,7 @@ use Rattle.ps_rows.specs.declared.shown.Shown.{Shown}
 use Rattle.ps_rows.specs.Source.{Key as Object, source_at}
 use Rattle.ps_client_log.specs.Kept.{Kept, bucket_at}
 use Rattle.ps_client_log.specs.Rows.{HeldCopy, Holds, object_of, IsLatestContent, AreInOrder, row_at}
-use Rattle.ps_queries.specs.Meaning.{Asker}
+use Rattle.ps_queries.specs.declared.askers.Asker.{Asker}
 use Rattle.ps_definitions.specs.RuleSets.{RuleSet, AreRules}
 use Rattle.ps_definitions.specs.declared.definitions.Definition.{Definition}
 use Rattle.ps_definitions.specs.declared.queries.Planned.{Planned}

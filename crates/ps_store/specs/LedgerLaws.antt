@@ -6,7 +6,7 @@ use Rattle.ps_bucket_log.specs.Buckets.{bucket_of}
 use Rattle.ps_rows.specs.declared.changes.Transaction.{Transaction}
 use Rattle.ps_rows.specs.declared.shown.Shown.{Shown}
 use Rattle.ps_rows.specs.Source.{Source, source_at}
-use Rattle.ps_queries.specs.Meaning.{Asker}
+use Rattle.ps_queries.specs.declared.askers.Asker.{Asker}
 use Rattle.ps_definitions.specs.RuleSets.{RuleSet, AreRules}
 use Rattle.ps_granted.specs.Latest.{due}
 use Rattle.ps_granted.specs.Sources.{rows_in}

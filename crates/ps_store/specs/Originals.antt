@@ -12,7 +12,7 @@ use Rattle.ps_rows.specs.declared.changes.Transaction.{Transaction}
 use Rattle.ps_rows.specs.Source.{Key, key_cmp, Version, Source, after_row}
 use Rattle.ps_definitions.specs.declared.definitions.Definition.{Definition}
 use Rattle.ps_bucket_eval.specs.declared.placed.Placed.{Placed}
-use Rattle.ps_bucket_eval.specs.Entries.{RowOf}
+use Rattle.ps_queries.specs.Vectors.{SourceRow}
 -- the entries of a row, where it is there
 pub use Rattle.ps_bucket_eval.specs.Changes.{entries_at}
 -- ---- one change
@@ -70,7 +70,7 @@ key_of t = (t.change.table, t.change.id)
 abbrev pub after : Source → Timed → Source
 after source t = after_row t.position t.index (key_of t) t.change.row source
 
-abbrev pub row_of : Key → List Column → RowOf
+abbrev pub row_of : Key → List Column → SourceRow
 row_of key columns = record { table = key.0; id = key.1; row = columns }
 
 abbrev pub columns_of : Option Version → Option (List Column)

@@ -11,7 +11,7 @@ use Rattle.ps_bucket_log.specs.Ops.{upto, sum_of, newest}
 use Rattle.ps_bucket_log.specs.Batches as logs
 use Rattle.ps_write_cp.specs.Numbers.{covered}
 use Rattle.ps_rows.specs.Source.{source_at}
-use Rattle.ps_queries.specs.Meaning.{Asker}
+use Rattle.ps_queries.specs.declared.askers.Asker.{Asker}
 use Rattle.ps_granted.specs.Sources.{rows_in}
 use Rattle.ps_params.specs.Names.{bucket_names, IsTold}
 use Rattle.ps_store.specs.declared.events.Event.{Event}

@@ -5,7 +5,7 @@ use Rattle.ps_bucket_log.specs.declared.takes.TakenBucket.{TakenBucket}
 use Rattle.ps_bucket_log.specs.Ops.{id_of}
 use Rattle.ps_rows.specs.declared.shown.Shown.{Shown}
 use Rattle.ps_queries.specs.declared.queries.DataQuery.{DataQuery}
-use Rattle.ps_queries.specs.Meaning.{Asker}
+use Rattle.ps_queries.specs.declared.askers.Asker.{Asker}
 use Rattle.ps_definitions.specs.RuleSets.{RuleSet}
 use Rattle.ps_granted.specs.Latest.{due}
 use Rattle.ps_store.specs.declared.events.Event.{Event}

@@ -4,7 +4,6 @@ ghost use Rattle.std.specs.Prelude.{◌≡◌, ◌+◌, ◌-◌, ◌≤◌, ◌<
 ghost use Rattle.ps_bucket_log.specs.declared.ops.Op.{Op as OpSeen};
 ghost use Rattle.ps_rows.specs.declared.changes.Change.{Change as ChangeSeen};
 ghost use Rattle.ps_rows.specs.Source.{Key};
-ghost use Rattle.ps_sql_eval.specs.Evaluated.{asker_of};
 ghost use Rattle.ps_store.specs.declared.events.Event.{Event as EventSeen};
 ghost use Rattle.ps_store.specs.declared.events.Event.TheVariants.{Close};
 ghost use Rattle.ps_store.specs.declared.fixed.Fixed.{Fixed as FixedSeen};
@@ -377,7 +376,7 @@ impl Store {
 
     // The greatest number of a write checkpoint of the asker's client that the checkpoint covers.
     fn covered(&self, asker: &Asker) -> Option<u64>
-        ensures { (fixed : FixedSeen) (history : List EventSeen) → StoreStandsFor fixed self.now history → result ≡ covered_of (ledger_of fixed.rules history) (asker_of asker.now) }
+        ensures { (fixed : FixedSeen) (history : List EventSeen) → StoreStandsFor fixed self.now history → result ≡ covered_of (ledger_of fixed.rules history) asker.now }
     {
         match &asker.client {
             Some(client) => {
@@ -400,9 +399,9 @@ impl Store {
         steps: &mut Steps<L>,
     ) -> Result<Taken, TakeFault>
         requires { (fixed : FixedSeen) × (history : List EventSeen) × StoreStandsFor fixed self.now history }
-        ensures takes { (fixed : FixedSeen) (history : List EventSeen) → StoreStandsFor fixed self.now history → Takes fixed history (asker_of asker.now) result }
+        ensures takes { (fixed : FixedSeen) (history : List EventSeen) → StoreStandsFor fixed self.now history → Takes fixed history asker.now result }
         ensures cost { (fixed : FixedSeen) (history : List EventSeen) → StoreStandsFor fixed self.now history
-            → TakesFew (ledger_of fixed.rules history) (asker_of asker.now) steps.old steps.new }
+            → TakesFew (ledger_of fixed.rules history) asker.now steps.old steps.new }
     {
         notes_of_changes_are_the_source();
         let names = self

@@ -1,7 +1,6 @@
 //! What is read of a store by who counts no steps: they are counted in a ledger of their own, which is let go.
 
 ghost use Rattle.std.specs.Prelude.{◌≡◌, ◌<◌, List, IfOk};
-ghost use Rattle.ps_sql_eval.specs.Evaluated.{asker_of};
 ghost use Rattle.ps_store.specs.declared.events.Event.{Event as EventSeen};
 ghost use Rattle.ps_store.specs.declared.fixed.Fixed.{Fixed as FixedSeen};
 ghost use Rattle.ps_store.specs.Ledgers.{ledger_of};
@@ -28,7 +27,7 @@ impl Store {
         requires parts { blank.parts ≡ L.parts }
         requires some { 0 < blank.parts }
         requires stands { (fixed : FixedSeen) × (history : List EventSeen) × StoreStandsFor fixed self.now history }
-        ensures { (fixed : FixedSeen) (history : List EventSeen) → StoreStandsFor fixed self.now history → Takes fixed history (asker_of asker.now) result }
+        ensures { (fixed : FixedSeen) (history : List EventSeen) → StoreStandsFor fixed self.now history → Takes fixed history asker.now result }
     {
         let mut steps = Steps::<L>::new(blank);
         self.take(alloc, asker, &mut steps)
@@ -55,7 +54,7 @@ impl Store {
     /// `Store::take`, with steps that nobody counts.
     pub fn take_uncounted(&self, alloc: Global, asker: &Asker) -> Result<Taken, TakeFault>
         requires { (fixed : FixedSeen) × (history : List EventSeen) × StoreStandsFor fixed self.now history }
-        ensures { (fixed : FixedSeen) (history : List EventSeen) → StoreStandsFor fixed self.now history → Takes fixed history (asker_of asker.now) result }
+        ensures { (fixed : FixedSeen) (history : List EventSeen) → StoreStandsFor fixed self.now history → Takes fixed history asker.now result }
     {
         self.take_in::<Brand>(alloc, asker, Blank::new(1))
     }

@@ -7,9 +7,7 @@ use Rattle.ps_bucket_log.specs.declared.batches.Batch.{Batch}
 use Rattle.ps_bucket_log.specs.declared.takes.Taken.{Taken}
 use Rattle.ps_lines.specs.declared.lines.Line.{Line}
 use Rattle.ps_lines.specs.Writing.{IsWritable}
-use Rattle.ps_queries.specs.Meaning.{Asker}
-use Rattle.ps_sql_eval.specs.declared.askers.Asker.{Asker as OwnAsker}
-use Rattle.ps_sql_eval.specs.Evaluated.{asker_of}
+use Rattle.ps_queries.specs.declared.askers.Asker.{Asker}
 use Rattle.ps_store.specs.declared.events.Event.{Event}
 use Rattle.ps_store.specs.declared.fixed.Fixed.{Fixed}
 use Rattle.ps_store.specs.declared.readings.TakeFault.{TakeFault}
@@ -188,5 +186,5 @@ module _ (fixed : Fixed) (history : List Event) (asker : Asker) (at : ℕ) (sess
       takes_none never taking = cc
 
 -- what was taken is the asker's
-pub takes_by : (fixed : Fixed) (history : List Event) (a b : OwnAsker) (result : _) → a ≡ b → Takes fixed history (asker_of a) result → Takes fixed history (asker_of b) result
-takes_by fixed history a b result same it = subst (λ (own : OwnAsker). Takes fixed history (asker_of own) result) same it
+pub takes_by : (fixed : Fixed) (history : List Event) (a b : Asker) (result : _) → a ≡ b → Takes fixed history a result → Takes fixed history b result
+takes_by fixed history a b result same it = subst (λ (own : Asker). Takes fixed history own result) same it

@@ -1,7 +1,6 @@
 //! The turns of a session over what it reads from.
 
 ghost use Rattle.std.specs.Prelude.{◌≡◌, ℕ, List, IfOk, length};
-ghost use Rattle.ps_sql_eval.specs.Evaluated.{asker_of};
 ghost use Rattle.ps_store.specs.declared.events.Event.{Event as EventSeen};
 ghost use Rattle.ps_store.specs.declared.fixed.Fixed.{Fixed as FixedSeen};
 ghost use Rattle.ps_store.specs.Courses.{course_of};
@@ -28,10 +27,10 @@ fn take<R: Readings>(
 ) -> Result<TurnOutcome, TakeFault>
     requires action { IsTaking (next_action (state_of session.old)) }
     requires here { (fixed : FixedSeen) × (history : List EventSeen) × (at : ℕ) × R.stands readings.old fixed history
-        × IsUnderWay (course_of fixed.rules history (asker_of session.old.asker)) (length history) at (state_of session.old) }
+        × IsUnderWay (course_of fixed.rules history session.old.asker) (length history) at (state_of session.old) }
     ensures turns { (fixed : FixedSeen) (history : List EventSeen) (at : ℕ) → R.stands readings.old fixed history
-        → IsUnderWay (course_of fixed.rules history (asker_of session.old.asker)) (length history) at (state_of session.old)
-        → HasTurned (R.may_come readings.old) (R.stands readings.new fixed) fixed history (asker_of session.old.asker) at (state_of session.old) (state_of session.new) result }
+        → IsUnderWay (course_of fixed.rules history session.old.asker) (length history) at (state_of session.old)
+        → HasTurned (R.may_come readings.old) (R.stands readings.new fixed) fixed history session.old.asker at (state_of session.old) (state_of session.new) result }
     ensures writable { IfOk result IsWritableOutcome }
     ensures asker { session.new.asker ≡ session.old.asker }
 {
@@ -54,10 +53,10 @@ fn read<R: Readings>(
 ) -> Result<TurnOutcome, TakeFault>
     requires action { next_action (state_of session.old) ≡ actions.Read place after upto }
     requires here { (fixed : FixedSeen) × (history : List EventSeen) × (at : ℕ) × R.stands readings.old fixed history
-        × IsUnderWay (course_of fixed.rules history (asker_of session.old.asker)) (length history) at (state_of session.old) }
+        × IsUnderWay (course_of fixed.rules history session.old.asker) (length history) at (state_of session.old) }
     ensures turns { (fixed : FixedSeen) (history : List EventSeen) (at : ℕ) → R.stands readings.old fixed history
-        → IsUnderWay (course_of fixed.rules history (asker_of session.old.asker)) (length history) at (state_of session.old)
-        → HasTurned (R.may_come readings.old) (R.stands readings.new fixed) fixed history (asker_of session.old.asker) at (state_of session.old) (state_of session.new) result }
+        → IsUnderWay (course_of fixed.rules history session.old.asker) (length history) at (state_of session.old)
+        → HasTurned (R.may_come readings.old) (R.stands readings.new fixed) fixed history session.old.asker at (state_of session.old) (state_of session.new) result }
     ensures writable { IfOk result IsWritableOutcome }
     ensures asker { session.new.asker ≡ session.old.asker }
 {
@@ -74,10 +73,10 @@ fn read<R: Readings>(
 fn finish(session: &mut Session) -> TurnOutcome
     requires action { next_action (state_of session.old) ≡ actions.Complete }
     requires here { (fixed : FixedSeen) × (history : List EventSeen) × (at : ℕ) × IsValid fixed history
-        × IsUnderWay (course_of fixed.rules history (asker_of session.old.asker)) (length history) at (state_of session.old) }
+        × IsUnderWay (course_of fixed.rules history session.old.asker) (length history) at (state_of session.old) }
     ensures turns { (fixed : FixedSeen) (history : List EventSeen) (at : ℕ) → IsValid fixed history
-        → IsUnderWay (course_of fixed.rules history (asker_of session.old.asker)) (length history) at (state_of session.old)
-        → IsTurn fixed history (asker_of session.old.asker) at (state_of session.old) (state_of session.new) result }
+        → IsUnderWay (course_of fixed.rules history session.old.asker) (length history) at (state_of session.old)
+        → IsTurn fixed history session.old.asker at (state_of session.old) (state_of session.new) result }
     ensures writable { IsWritableOutcome result }
     ensures asker { session.new.asker ≡ session.old.asker }
 {
@@ -96,10 +95,10 @@ pub fn take_turn<R: Readings>(
     session: &mut Session,
 ) -> Result<TurnOutcome, TakeFault>
     requires { (fixed : FixedSeen) × (history : List EventSeen) × (at : ℕ) × R.stands readings.old fixed history
-        × IsUnderWay (course_of fixed.rules history (asker_of session.old.asker)) (length history) at (state_of session.old) }
+        × IsUnderWay (course_of fixed.rules history session.old.asker) (length history) at (state_of session.old) }
     ensures turns { (fixed : FixedSeen) (history : List EventSeen) (at : ℕ) → R.stands readings.old fixed history
-        → IsUnderWay (course_of fixed.rules history (asker_of session.old.asker)) (length history) at (state_of session.old)
-        → HasTurned (R.may_come readings.old) (R.stands readings.new fixed) fixed history (asker_of session.old.asker) at (state_of session.old) (state_of session.new) result }
+        → IsUnderWay (course_of fixed.rules history session.old.asker) (length history) at (state_of session.old)
+        → HasTurned (R.may_come readings.old) (R.stands readings.new fixed) fixed history session.old.asker at (state_of session.old) (state_of session.new) result }
     ensures writable { IfOk result IsWritableOutcome }
     ensures asker { session.new.asker ≡ session.old.asker }
 {
@@ -117,10 +116,10 @@ pub fn take_turn_of(
     session: &mut Session,
 ) -> Result<TurnOutcome, TakeFault>
     requires { (fixed : FixedSeen) × (history : List EventSeen) × (at : ℕ) × StoreStandsFor fixed store.now history
-        × IsUnderWay (course_of fixed.rules history (asker_of session.old.asker)) (length history) at (state_of session.old) }
+        × IsUnderWay (course_of fixed.rules history session.old.asker) (length history) at (state_of session.old) }
     ensures turns { (fixed : FixedSeen) (history : List EventSeen) (at : ℕ) → StoreStandsFor fixed store.now history
-        → IsUnderWay (course_of fixed.rules history (asker_of session.old.asker)) (length history) at (state_of session.old)
-        → TurnsSo fixed history (asker_of session.old.asker) at (state_of session.old) (state_of session.new) result }
+        → IsUnderWay (course_of fixed.rules history session.old.asker) (length history) at (state_of session.old)
+        → TurnsSo fixed history session.old.asker at (state_of session.old) (state_of session.new) result }
     ensures writable { IfOk result IsWritableOutcome }
     ensures asker { session.new.asker ≡ session.old.asker }
 {

@@ -2,7 +2,6 @@
 
 ghost use Rattle.std.specs.Prelude.{◌≡◌, ◌↔◌, ◌+◌, ◌≤◌, ◌++◌, true, List, IfOk, OnErr, IsTrue, length, map, vec_len, vec_capacity};
 ghost use Rattle.ps_lock.specs.Words.{IsSeatOf};
-ghost use Rattle.ps_sql_eval.specs.Evaluated.{asker_of};
 ghost use Rattle.ps_store.specs.declared.events.Event.{Event as EventSeen};
 ghost use Rattle.ps_store.specs.declared.fixed.Fixed.{Fixed as FixedSeen};
 ghost use Rattle.ps_store.specs.Ledgers.{ledger_of};
@@ -75,7 +74,7 @@ pub fn take_in_turn<R: Wait>(
 ) -> (Seat<Store>, Look, Result<Taken, TakeFault>)
     requires { IsSeatOf lock.now seat }
     ensures lock { IsSeatOf lock.now result.0 }
-    ensures turn { (history : List EventSeen) × TakesIn (fixed_of lock.now) history (asker_of asker.now) seat result.0 result.1 result.2 }
+    ensures turn { (history : List EventSeen) × TakesIn (fixed_of lock.now) history asker.now seat result.0 result.1 result.2 }
 {
     let mut turn = lock.turn(rt, seat);
     let look = look_at(turn.value());

@@ -1,8 +1,6 @@
 -- The turns of a session at the end of a history.
 use Rattle.std.proofs.Common.{◌≡◌, ℕ, refl, sym, subst, length, arith}
-use Rattle.ps_queries.specs.Meaning.{Asker}
-use Rattle.ps_sql_eval.specs.declared.askers.Asker.{Asker as OwnAsker}
-use Rattle.ps_sql_eval.specs.Evaluated.{asker_of}
+use Rattle.ps_queries.specs.declared.askers.Asker.{Asker}
 use Rattle.ps_store.specs.declared.stores.Store.{Store}
 use Rattle.ps_store.specs.Courses.{course_of}
 use Rattle.ps_session.specs.declared.phases.Phase.{Phase}
@@ -36,5 +34,5 @@ module _ (store : Store) (asker : Asker) (session : SessionState) (over : IsOver
     taken = subst (λ (at : ℕ). HasTaken (course_of over.fixed.rules over.history asker) at now) (at_end session.phase n) turn.under_way.taken;
   }
 
-pub over_by : (store : Store) (a b : OwnAsker) (session : SessionState) → a ≡ b → IsOver store (asker_of b) session → IsOver store (asker_of a) session
-over_by store a b session same over = subst (λ (own : OwnAsker). IsOver store (asker_of own) session) (sym same) over
+pub over_by : (store : Store) (a b : Asker) (session : SessionState) → a ≡ b → IsOver store b session → IsOver store a session
+over_by store a b session same over = subst (λ (own : Asker). IsOver store own session) (sym same) over

@@ -1,7 +1,6 @@
 //! The lines of a stream's first checkpoint, as they are written.
 
 ghost use Rattle.std.specs.Prelude.{OnOk};
-ghost use Rattle.ps_sql_eval.specs.Evaluated.{asker_of as seen_of};
 ghost use Rattle.ps_session.specs.Kept.{state_of};
 ghost use Rattle.service_cases.specs.Serving.{IsServing, IsOver};
 
@@ -25,8 +24,8 @@ fn push_turn(
     session: &mut Session,
     lines: &mut String,
 ) -> Result<(), Stop>
-    requires { IsOver store.now (seen_of session.old.asker) (state_of session.old) }
-    ensures { OnOk result (IsOver store.now (seen_of session.new.asker) (state_of session.new)) }
+    requires { IsOver store.now session.old.asker (state_of session.old) }
+    ensures { OnOk result (IsOver store.now session.new.asker (state_of session.new)) }
 {
     match turn(alloc, store, session)? {
         Some(line) => {
@@ -44,7 +43,7 @@ fn push_lines(
     session: &mut Session,
     lines: &mut String,
 ) -> Result<(), Stop>
-    requires { IsOver store.now (seen_of session.old.asker) (state_of session.old) }
+    requires { IsOver store.now session.old.asker (state_of session.old) }
 {
     'turns: for _ in 0..1000000 {
         if session.next_action() == Action::Wait {

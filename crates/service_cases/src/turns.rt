@@ -2,7 +2,6 @@
 
 ghost use Rattle.std.specs.Prelude.{IfOk, IfSome, OnOk};
 ghost use Rattle.ps_lines.specs.Writing.{IsWritable};
-ghost use Rattle.ps_sql_eval.specs.Evaluated.{asker_of};
 ghost use Rattle.ps_store.specs.declared.stores.Store.{Store as StoreSeen};
 ghost use Rattle.ps_session.specs.Kept.{state_of};
 ghost use Rattle.service_cases.specs.Serving.{IsServing, IsOver};
@@ -18,7 +17,7 @@ use std::alloc::Global;
 
 /// The session of an asker who holds nothing.
 pub fn begin(alloc: Global, asker: Asker) -> Session
-    ensures { (store : StoreSeen) → IsServing store → IsOver store (asker_of result.asker) (state_of result) }
+    ensures { (store : StoreSeen) → IsServing store → IsOver store result.asker (state_of result) }
 {
     calls_make_turns();
     Session::begin(
@@ -32,8 +31,8 @@ pub fn begin(alloc: Global, asker: Asker) -> Session
 
 /// Asks the store what a session wants next, and hands it the answer. The line that it makes of that, if there is one.
 pub fn turn(alloc: Global, store: &Store, session: &mut Session) -> Result<Option<Line>, Stop>
-    requires { IsOver store.now (asker_of session.old.asker) (state_of session.old) }
-    ensures over { OnOk result (IsOver store.now (asker_of session.new.asker) (state_of session.new)) }
+    requires { IsOver store.now session.old.asker (state_of session.old) }
+    ensures over { OnOk result (IsOver store.now session.new.asker (state_of session.new)) }
     ensures writable { IfOk result (λ line. IfSome line IsWritable) }
 {
     let outcome = take_turn_of(alloc, store, session)?;

@@ -1,6 +1,7 @@
 use Rattle.std.proofs.Common.{ap, ◌∙◌, ℕ, List}
 use Rattle.ps_data.specs.declared.values.Value.TheVariants.{Null}
-use Rattle.ps_queries.specs.Meaning.{Asker, value_of}
+use Rattle.ps_queries.specs.declared.askers.Asker.{Asker}
+use Rattle.ps_queries.specs.Meaning.{value_of}
 use Rattle.ps_sql_eval.specs.Evaluated.{given_of}
 use Rattle.ps_bucket_eval.proofs.evaluating.value_on.Goals as goal
 

@@ -2,7 +2,6 @@ use Rattle.std.proofs.Common.{◌≤◌, ◌∙◌, ℕ, Option, Vec, Err, refl,
 use Rattle.std.specs.declared.alloc.Global.{Global}
 use Rattle.std.proofs.lemmas.Result.{err_from_is_err_and}
 use Rattle.ps_io.specs.Contents.{Contents}
-use Rattle.ps_sql_eval.specs.Evaluated.{asker_of}
 use Rattle.ps_audit.specs.declared.verdicts.Verdict.{Verdict}
 use Rattle.ps_commands.specs.Commands.{Recording, ReadsAuditor, ReadsSource, ReadsRecording, audit, reading}
 use Rattle.ps_commands.proofs.Verdicts.{cause_of_rising, cause_of_stream, judged, judged_unread, rising_read}
@@ -44,7 +43,7 @@ returns-in_err-transactions-clause-finds g c =
     let read_2 : ℕ = g.F.Files.faults c.load_asker.new.files in
     let rules = rules_read held c.args.rules.now start read_1 c.in_ok-rules.rules c.in_ok-rules.ensures.loads in
     let claims = asker_read held held_1 c.args.claims.now read_1 read_2 c.in_ok-asker.asker c.in_ok-rules.ensures.held c.in_ok-asker.ensures.loads in
-    let before : ReadsAuditor held names = record { rules = c.in_ok-rules.rules; asker = asker_of c.in_ok-asker.asker; rules_read = rules; claims_read = claims } in
+    let before : ReadsAuditor held names = record { rules = c.in_ok-rules.rules; asker = c.in_ok-asker.asker; rules_read = rules; claims_read = claims } in
     let first : start ≤ read_1 = c.in_ok-rules.ensures.faults in
     let second : read_1 ≤ read_2 = c.in_ok-asker.ensures.faults in
     cause_of_rising (reading held start (g.F.Files.faults c.load_rising.new.files) taken faults) words names is refl before held_2 read_2 c.in_err-transactions.field-0.0
@@ -65,7 +64,7 @@ returns-in_err-stream-clause-finds g c =
     let read_3 : ℕ = g.F.Files.faults c.load_rising.new.files in
     let rules = rules_read held c.args.rules.now start read_1 c.in_ok-rules.rules c.in_ok-rules.ensures.loads in
     let claims = asker_read held held_1 c.args.claims.now read_1 read_2 c.in_ok-asker.asker c.in_ok-rules.ensures.held c.in_ok-asker.ensures.loads in
-    let before : ReadsAuditor held names = record { rules = c.in_ok-rules.rules; asker = asker_of c.in_ok-asker.asker; rules_read = rules; claims_read = claims } in
+    let before : ReadsAuditor held names = record { rules = c.in_ok-rules.rules; asker = c.in_ok-asker.asker; rules_read = rules; claims_read = claims } in
     let changes = rising_read held held_2 c.args.changes.now read_2 read_3 c.in_ok-transactions.transactions (c.in_ok-asker.ensures.held ∙ c.in_ok-rules.ensures.held) c.in_ok-transactions.ensures.loads in
     let source : ReadsSource held names = record { before = before; transactions = c.in_ok-transactions.transactions.items; changes_read = changes } in
     let first : start ≤ read_1 = c.in_ok-rules.ensures.faults in
@@ -90,7 +89,7 @@ returns-clause-finds g c = λ words is.
     let read_3 : ℕ = g.F.Files.faults c.load_rising.new.files in
     let rules = rules_read held c.args.rules.now start read_1 c.in_ok-rules.rules c.in_ok-rules.ensures.loads in
     let claims = asker_read held held_1 c.args.claims.now read_1 read_2 c.in_ok-asker.asker c.in_ok-rules.ensures.held c.in_ok-asker.ensures.loads in
-    let before : ReadsAuditor held names = record { rules = c.in_ok-rules.rules; asker = asker_of c.in_ok-asker.asker; rules_read = rules; claims_read = claims } in
+    let before : ReadsAuditor held names = record { rules = c.in_ok-rules.rules; asker = c.in_ok-asker.asker; rules_read = rules; claims_read = claims } in
     let changes = rising_read held held_2 c.args.changes.now read_2 read_3 c.in_ok-transactions.transactions (c.in_ok-asker.ensures.held ∙ c.in_ok-rules.ensures.held) c.in_ok-transactions.ensures.loads in
     let source : ReadsSource held names = record { before = before; transactions = c.in_ok-transactions.transactions.items; changes_read = changes } in
     let stream = script_read held held_3 c.args.stream.now read_3 (g.F.Files.faults c.load.new.files) c.in_ok-stream.stream (c.in_ok-transactions.ensures.held ∙ c.in_ok-asker.ensures.held ∙ c.in_ok-rules.ensures.held) c.in_ok-stream.ensures.loads in
@@ -122,5 +121,5 @@ returns-in_err-stream-clause-missed g c =
 
 pub returns-clause-missed : goal.returns-clause-missed
 returns-clause-missed g c =
-    judged_unread c.in_ok-rules.rules c.in_ok-transactions.transactions.items (asker_of c.in_ok-asker.asker) c.in_ok-stream.stream.items (g.F.Files.missed c.args.files.now) (g.F.Files.missed c.load.new.files) c.judge.result
+    judged_unread c.in_ok-rules.rules c.in_ok-transactions.transactions.items c.in_ok-asker.asker c.in_ok-stream.stream.items (g.F.Files.missed c.args.files.now) (g.F.Files.missed c.load.new.files) c.judge.result
     (c.in_ok-stream.ensures.missed ∙ c.in_ok-transactions.ensures.missed ∙ c.in_ok-asker.ensures.missed ∙ c.in_ok-rules.ensures.missed) (rw (c.as_slice.ensures.value, c.as_slice-2.ensures.value) at c.judge.ensures)

@@ -1,5 +1,4 @@
 use Rattle.std.proofs.Common.{◌≡◌, Err, ap, ◌∙◌, subst}
-use Rattle.ps_sql_eval.specs.Evaluated.{asker_of}
 use Rattle.ps_audit.specs.Honest.{PassesHonest}
 use Rattle.ps_audit.specs.Judging.{texts, IsVerdict}
 use Rattle.ps_audit.specs.Meaning.{Means}
@@ -10,7 +9,7 @@ use Rattle.ps_commands.proofs.auditing.judge.Goals as goal
 
 pub returns-in-Ok : goal.returns-in-Ok
 returns-in-Ok c =
-    let case : Case = case_for c.args.rules.now c.args.transactions.now (asker_of c.args.asker.now) in
+    let case : Case = case_for c.args.rules.now c.args.transactions.now c.args.asker.now in
     let same : texts c.as_slice.result.now ≡ stream_lines c.args.stream.now = ap texts c.as_slice.ensures.value ∙ c.in_ok-lines.ensures in
     record {
       narrow = c.in-Ok.ensures.wide;

@@ -2,7 +2,6 @@ use Rattle.std.proofs.Common.{inr, ◌∙◌, ℕ, Option, Vec, Err, refl, ap}
 use Rattle.std.specs.declared.alloc.Global.{Global}
 use Rattle.std.proofs.lemmas.Result.{err_from_is_err_and}
 use Rattle.ps_io.specs.Contents.{Contents}
-use Rattle.ps_sql_eval.specs.Evaluated.{asker_of}
 use Rattle.ps_commands.specs.Commands.{Signing, token, reading}
 use Rattle.ps_commands.proofs.Causes.{keys_read, cause_of_keys, asker_read, cause_of_asker}
 use Rattle.ps_commands.proofs.Missed.{misses_later}
@@ -36,7 +35,7 @@ returns-in-Err-UnknownKey-clause-finds g c = λ words is taken faults.
     let read_1 : ℕ = g.F.Files.faults c.load_keys.new.files in
     let read = keys_read held c.args.keys.now (g.F.Files.faults c.args.files.now) read_1 c.in_ok-keys.keys c.in_ok-keys.ensures.loads in
     let claims = asker_read held held_1 c.args.claims.now read_1 (g.F.Files.faults c.load_asker.new.files) c.in_ok-asker.asker c.in_ok-keys.ensures.held c.in_ok-asker.ensures.loads in
-    (refl, inr (record { names = names; is = is; keys = c.in_ok-keys.keys; asker = asker_of c.in_ok-asker.asker; keys_read = read; claims_read = claims; unknown = rw c.in-Err-UnknownKey.field-0-is at c.in-Err-UnknownKey.ensures }))
+    (refl, inr (record { names = names; is = is; keys = c.in_ok-keys.keys; asker = c.in_ok-asker.asker; keys_read = read; claims_read = claims; unknown = rw c.in-Err-UnknownKey.field-0-is at c.in-Err-UnknownKey.ensures }))
 
 pub returns-in-Ok-clause-finds : goal.returns-in-Ok-clause-finds
 returns-in-Ok-clause-finds g c = λ words is.
@@ -47,7 +46,7 @@ returns-in-Ok-clause-finds g c = λ words is.
     let read = keys_read held c.args.keys.now (g.F.Files.faults c.args.files.now) read_1 c.in_ok-keys.keys c.in_ok-keys.ensures.loads in
     let claims = asker_read held held_1 c.args.claims.now read_1 (g.F.Files.faults c.load_asker.new.files) c.in_ok-asker.asker c.in_ok-keys.ensures.held c.in_ok-asker.ensures.loads in
     let signed = c.in-Ok.ensures in
-    (token names, is, record { keys = c.in_ok-keys.keys; asker = asker_of c.in_ok-asker.asker; key = signed.0; keys_read = read; claims_read = claims; found = signed.1; is = ap (λ (text : Vec ℕ Global). text.items) c.into_bytes.ensures.value ∙ c.in_ok-into_string-in-Ok.ensures ∙ signed.2 })
+    (token names, is, record { keys = c.in_ok-keys.keys; asker = c.in_ok-asker.asker; key = signed.0; keys_read = read; claims_read = claims; found = signed.1; is = ap (λ (text : Vec ℕ Global). text.items) c.into_bytes.ensures.value ∙ c.in_ok-into_string-in-Ok.ensures ∙ signed.2 })
 
 pub returns-in_err-keys-clause-missed : goal.returns-in_err-keys-clause-missed
 returns-in_err-keys-clause-missed g c =

@@ -1,6 +1,5 @@
 use Rattle.std.proofs.Common.{◌∙◌}
 use Rattle.std.proofs.lemmas.Result.{err_from_is_err_and}
-use Rattle.ps_sql_eval.specs.Evaluated.{asker_of}
 use Rattle.ps_client.specs.States.{state}
 use Rattle.ps_session.specs.Kept.{state_of}
 use Rattle.ps_due_rows.proofs.Leading.{due_by, due_is, led_by}
@@ -20,7 +19,7 @@ applied_rows-requires-clause-led c =
 pub returns-in_err-take : goal.returns-in_err-take
 returns-in_err-take c =
     let p = err_from_is_err_and c.from_residual.result c.from_residual.ensures.1 in
-    rw (p.1, p.2) (λ fixed history serves led. begun_so fixed history (asker_of c.args.session.now.asker) c.in_err-take.field-0.0 (state_of c.take.new.session) (state c.take.new.client) (rw c.in_err-take.was at (c.take.ensures.begins fixed history serves led)))
+    rw (p.1, p.2) (λ fixed history serves led. begun_so fixed history c.args.session.now.asker c.in_err-take.field-0.0 (state_of c.take.new.session) (state c.take.new.client) (rw c.in_err-take.was at (c.take.ensures.begins fixed history serves led)))
 
 pub returns : goal.returns
 returns c = λ fixed history serves led.
@@ -29,6 +28,6 @@ returns c = λ fixed history serves led.
     record {
       rows_are = c.in_ok-applied_rows.ensures fixed history serves own
           ∙ due_by fixed history c.take.new.session.asker c.args.session.now.asker c.take.ensures.asker
-          ∙ due_is c.places_are_fronts.ensures.whole fixed history (asker_of c.args.session.now.asker);
+          ∙ due_is c.places_are_fronts.ensures.whole fixed history c.args.session.now.asker;
       few = begun.1;
     }

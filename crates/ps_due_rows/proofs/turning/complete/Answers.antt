@@ -1,6 +1,5 @@
 use Rattle.std.proofs.Common.{length}
 use Rattle.ps_client.specs.States.{state}
-use Rattle.ps_sql_eval.specs.Evaluated.{asker_of}
 use Rattle.ps_session.specs.Kept.{state_of}
 use Rattle.ps_store.specs.Courses.{course_of}
 use Rattle.ps_due_rows.proofs.Leading.{lawful_of}
@@ -11,12 +10,12 @@ use Rattle.ps_due_rows.proofs.turning.complete.Goals as goal
 pub take_turn_of-requires : goal.take_turn_of-requires
 take_turn_of-requires c =
     let r = c.requires.led in
-    (r.0, r.1, length r.1, r.2, under_way (course_of r.0.rules r.1 (asker_of c.args.session.now.asker)) (length r.1) (state_of c.args.session.now) (state c.args.client.now) r.3)
+    (r.0, r.1, length r.1, r.2, under_way (course_of r.0.rules r.1 c.args.session.now.asker) (length r.1) (state_of c.args.session.now) (state c.args.client.now) r.3)
 
 pub hand-requires-clause-good : goal.hand-requires-clause-good
 hand-requires-clause-good c =
     let r = c.requires.led in
-    let asker = asker_of c.args.session.now.asker in
+    let asker = c.args.session.now.asker in
     let course = course_of r.0.rules r.1 asker in
     let before = state_of c.args.session.now in
     let client = state c.args.client.now in
@@ -30,7 +29,7 @@ hand-requires-clause-good c =
 
 pub returns : goal.returns
 returns c = λ fixed history rows serves led listed.
-    let asker = asker_of c.args.session.now.asker in
+    let asker = c.args.session.now.asker in
     let course = course_of fixed.rules history asker in
     let before = state_of c.args.session.now in
     let client = state c.args.client.now in

@@ -1,6 +1,5 @@
 use Rattle.std.proofs.Common.{◌≡◌, List}
 use Rattle.ps_client.specs.States.{state}
-use Rattle.ps_sql_eval.specs.Evaluated.{asker_of}
 use Rattle.ps_store.specs.declared.events.Event.{Event}
 use Rattle.ps_store.specs.declared.fixed.Fixed.{Fixed}
 use Rattle.ps_store.specs.Stores.{StoreStandsFor}
@@ -15,8 +14,8 @@ abbrev pub invariant-reads : goal.invariant-reads
 invariant-reads l = record {
   phase : (state_of l.session).phase ≡ Download;
   led : (fixed : Fixed) (history : List Event) → StoreStandsFor fixed l.store history
-      → IsLedIn fixed history (asker_of l.fn.session.asker) (state_of l.fn.session) (state l.fn.client)
-      → IsLedIn fixed history (asker_of l.fn.session.asker) (state_of l.session) (state l.client);
+      → IsLedIn fixed history l.fn.session.asker (state_of l.fn.session) (state l.fn.client)
+      → IsLedIn fixed history l.fn.session.asker (state_of l.session) (state l.client);
   asker : l.session.asker ≡ l.fn.session.asker;
   idle : IsIdle (state l.fn.client) → IsIdle (state l.client);
 }

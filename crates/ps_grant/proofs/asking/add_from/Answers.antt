@@ -3,7 +3,6 @@ use Rattle.std.specs.Prelude.{bytes_eq}
 use Rattle.ps_data.specs.declared.values.Value.{Value}
 use Rattle.ps_rows.specs.Source.{Key}
 use Rattle.ps_queries.specs.Vectors.{SourceRow, vector_on}
-use Rattle.ps_sql_eval.specs.Evaluated.{asker_of}
 use Rattle.ps_granted.specs.Sources.{row_of, rows_in}
 use Rattle.ps_grant.specs.declared.sourcing.Version.{Version}
 use Rattle.ps_grant.specs.Mapped.{version_of}
@@ -14,7 +13,7 @@ use Rattle.ps_grant.proofs.asking.add_from.Goals as goal
 
 pub rows-preserved : goal.rows-preserved
 rows-preserved c =
-    let f : SourceRow → List (List Value) = vector_on c.args.names.now (asker_of c.args.asker.now) c.args.query.now in
+    let f : SourceRow → List (List Value) = vector_on c.args.names.now c.args.asker.now c.args.query.now in
     let key : Key = c.in-Some.key.now in
     let version : Version = c.in-Some.version.now in
     let rest : List (Key × Version) = c.next.new.self in

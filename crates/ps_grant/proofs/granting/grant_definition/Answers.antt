@@ -2,8 +2,7 @@ use Rattle.std.proofs.Common.{◌≡◌, ℕ, List, ◌++◌, flat_map, sym, ap,
 use Rattle.std.specs.Prelude.{OnOk}
 use Rattle.std.specs.List.{AllByRecursion}
 use Rattle.ps_rows.specs.Source.{Source}
-use Rattle.ps_queries.specs.Meaning.{Asker}
-use Rattle.ps_sql_eval.specs.Evaluated.{asker_of}
+use Rattle.ps_queries.specs.declared.askers.Asker.{Asker}
 use Rattle.ps_definitions.specs.declared.queries.Planned.{Planned}
 use Rattle.ps_definitions.specs.Names.{has_repeated}
 use Rattle.ps_definitions.specs.RuleSets.{IsSoundQuery}
@@ -19,7 +18,7 @@ use Rattle.ps_grant.proofs.granting.grant_definition.Goals as goal
 pub grant_queries-requires-clause-long : goal.grant_queries-requires-clause-long
 grant_queries-requires-clause-long c =
     subst (λ (names : List (List ℕ)). AreAsLong names c.in_ok-vectors.vectors) (sym c.as_slice-2.ensures)
-    (long c.args.definition.now (asker_of c.args.asker.now) (rows_in (kept_rows c.args.rows.now)) c.in_ok-vectors.vectors c.requires c.in_ok-vectors.ensures)
+    (long c.args.definition.now c.args.asker.now (rows_in (kept_rows c.args.rows.now)) c.in_ok-vectors.vectors c.requires c.in_ok-vectors.ensures)
 
 pub grant_queries-requires-clause-differ : goal.grant_queries-requires-clause-differ
 grant_queries-requires-clause-differ c = ap has_repeated c.as_slice-2.ensures ∙ differing c.args.definition.now c.requires
@@ -31,7 +30,7 @@ grant_queries-requires-clause-sound c =
 
 pub returns : goal.returns
 returns c =
-    let asker : Asker = asker_of c.args.asker.now in
+    let asker : Asker = c.args.asker.now in
     let source : Source = kept_rows c.args.rows.now in
     subst (λ (more : List Granted). OnOk c.grant_queries.result (c.grant_queries.new.copies ≡ c.args.copies.now ++ more))
     (ap (λ (qs : List Planned). flat_map (granted_by_query asker c.as_slice-2.result.now c.in_ok-vectors.vectors source) qs) c.as_slice.ensures

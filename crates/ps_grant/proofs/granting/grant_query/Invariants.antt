@@ -1,5 +1,4 @@
 use Rattle.std.proofs.Common.{◌≡◌, ◌++◌, filter_map}
-use Rattle.ps_sql_eval.specs.Evaluated.{asker_of}
 use Rattle.ps_granted.specs.Grants.{grant_of}
 use Rattle.ps_grant.specs.Mapped.{kept_rows}
 use Rattle.ps_grant.proofs.KeptLaws.{held}
@@ -8,5 +7,5 @@ use Rattle.ps_grant.proofs.granting.grant_query.Given as goal
 -- the copies so far, and then those of the rows that are left
 abbrev pub invariant-rows : goal.invariant-rows
 invariant-rows l =
-    l.copies ++ filter_map (grant_of (asker_of l.asker) l.names l.vectors l.planned) (held l.key-iterator)
-    ≡ l.initial.copies ++ filter_map (grant_of (asker_of l.asker) l.names l.vectors l.planned) (kept_rows l.rows)
+    l.copies ++ filter_map (grant_of l.asker l.names l.vectors l.planned) (held l.key-iterator)
+    ≡ l.initial.copies ++ filter_map (grant_of l.asker l.names l.vectors l.planned) (kept_rows l.rows)

@@ -3,8 +3,7 @@ use Rattle.std.specs.Prelude.{Result, Vec}
 use Rattle.std.specs.declared.alloc.Global.{Global}
 use Rattle.ps_io.specs.Contents.{Gains, GainsFront}
 use Rattle.ps_lock.proofs.Prefixes.{prefix_length}
-use Rattle.ps_sql_eval.specs.declared.askers.Asker.{Asker}
-use Rattle.ps_sql_eval.specs.Evaluated.{asker_of}
+use Rattle.ps_queries.specs.declared.askers.Asker.{Asker}
 use Rattle.ps_session.specs.Kept.{state_of}
 use Rattle.ps_session.specs.Sessions.{SessionState, begin, requested_in}
 use Rattle.ps_workers.specs.Sharing.{fixed_of}
@@ -24,7 +23,7 @@ returns-in-Err-clause-streams g c = λ positions low later is.
     let lock = c.args.desk.now.lock.now in
     let before = c.args.reader in
     let after = c.take_first-reader.result.0 in
-    let asker = asker_of c.args.stream.now.session.asker in
+    let asker = c.args.stream.now.session.asker in
     let s = state_of c.args.stream.now.session in
     let s' = state_of c.take_first-reader.new.session in
     let begun : HasBegun lock before after asker s s' (Err c.in-Err.refusal) =
@@ -42,7 +41,7 @@ returns-in-Ok-write-clause-streams g c = λ positions low later is.
     let after = c.take_first-reader.result.0 in
     let last = c.stream_on-reader.result.0 in
     let own = c.args.stream.now.session.asker in
-    let asker = asker_of own in
+    let asker = own in
     let s = state_of c.args.stream.now.session in
     let s' = state_of c.take_first-reader.new.session in
     let bytes = c.in-Ok.bytes in
@@ -65,8 +64,8 @@ returns-in-Ok-write-clause-streams g c = λ positions low later is.
     let noted : served ≡ item ∷ [] = c.in-Ok-note_first.ensures.ok ∙ ap (λ (xs : List Served). xs ++ item ∷ []) c.requires.none in
     let streamed = first_streamed whole may_give exp fixed asker positions low (seen after) (omega (arith, later, longer)) s' bytes item here begins old between gains in
     let streamed_served = subst (λ (xs : List Served). HasStreamed may_give exp fixed asker positions low (seen after) (head_text 200 None) old between s' xs) (sym noted) streamed in
-    let streamed_own = subst (λ (a : Asker). HasStreamed may_give exp fixed (asker_of a) positions low (seen after) (head_text 200 None) old between s' served) (sym c.take_first-reader.ensures.asker) streamed_served in
-    let ends = subst (λ (a : Asker). EndsSo may_give exp fixed (asker_of a) positions low (seen last) c.args.terms.now.until_drained (head_text 200 None) old new served'
+    let streamed_own = subst (λ (a : Asker). HasStreamed may_give exp fixed a positions low (seen after) (head_text 200 None) old between s' served) (sym c.take_first-reader.ensures.asker) streamed_served in
+    let ends = subst (λ (a : Asker). EndsSo may_give exp fixed a positions low (seen last) c.args.terms.now.until_drained (head_text 200 None) old new served'
     (g.K.Sink.faults c.args.to.now) (g.K.Sink.faults c.stream_on-reader.new.to) c.stream_on-reader.result.1) c.take_first-reader.ensures.asker
     (c.stream_on-reader.ensures.ends positions low (head_text 200 None) old (g.K.Sink.faults c.args.to.now) c.write.ensures.faults streamed_own) in
     streams_so c.sessions_keep_clients_right.ensures.meets c.courses_are_lawful.ensures may_give exp fixed low (seen last) c.args.terms.now.until_drained asker positions old new
@@ -78,7 +77,7 @@ returns-clause-streams g c = λ positions low later is.
     let fixed = fixed_of lock in
     let before = c.args.reader in
     let after = c.take_first-reader.result.0 in
-    let asker = asker_of c.args.stream.now.session.asker in
+    let asker = c.args.stream.now.session.asker in
     let s = state_of c.args.stream.now.session in
     let s' = state_of c.take_first-reader.new.session in
     let bytes = c.in-Ok.bytes in

@@ -1,7 +1,6 @@
 use Rattle.std.proofs.Common.{◌≡◌, ◌≢◌, ◌≤◌, Ok, Err, refl, sym, subst, ◌∙◌, arith, length}
 use Rattle.std.specs.Prelude.{Result}
-use Rattle.ps_sql_eval.specs.declared.askers.Asker.{Asker}
-use Rattle.ps_sql_eval.specs.Evaluated.{asker_of}
+use Rattle.ps_queries.specs.declared.askers.Asker.{Asker}
 use Rattle.ps_store.specs.Courses.{course_of}
 use Rattle.ps_session.specs.declared.phases.Phase.TheVariants.{Start}
 use Rattle.ps_session.specs.Kept.{state_of}
@@ -35,7 +34,7 @@ step-next-requires g c =
       at_end = inv.goes_on.at_end;
       way = (
         inv.way.0,
-        subst (λ (a : Asker). IsUnderWay (course_of (fixed_of c.args.desk.now.lock.now).rules (seen c.turns.here) (asker_of a)) (length (seen c.turns.here)) inv.way.0 (state_of c.turns.stream.session))
+        subst (λ (a : Asker). IsUnderWay (course_of (fixed_of c.args.desk.now.lock.now).rules (seen c.turns.here) a) (length (seen c.turns.here)) inv.way.0 (state_of c.turns.stream.session))
             (sym inv.asker) inv.way.1,
       );
     }
@@ -68,16 +67,16 @@ turns-preserved g c =
     let new = g.K.Sink.taken c.step-next.new.to in
     let before = g.K.Sink.faults c.turns.to in
     let now = g.K.Sink.faults c.step-next.new.to in
-    let stepped : HasStepped may_give exp lock here next (asker_of own) s s' served served' between new before now (Ok tt) =
+    let stepped : HasStepped may_give exp lock here next own s s' served served' between new before now (Ok tt) =
     stepped_by may_give exp lock here next c.turns.stream.session.asker own s s' served served' between new before now c.step-next.result.1 (Ok tt) inv.asker c.in-Ok.is c.step-next.ensures.steps in
     let made = stepped.steps inv.way.0 inv.way.1 in
     record {
       goes_on = goes_far lock c.args.reader here next inv.goes_on stepped.goes_on;
-      begun = subst (λ (x : SessionState). x.phase ≢ Start) (sym made.session_is) (begun_on (course_of (fixed_of lock).rules (seen next) (asker_of own)) (length (seen next)) s inv.begun);
+      begun = subst (λ (x : SessionState). x.phase ≢ Start) (sym made.session_is) (begun_on (course_of (fixed_of lock).rules (seen next) own) (length (seen next)) s inv.begun);
       asker = c.step-next.ensures.asker ∙ inv.asker;
       way = (_, stepped.under_way inv.way.0 refl inv.way.1);
       streamed = λ positions low front first it.
-          step_on c.places_are_fronts.ensures.stay c.places_are_fronts.ensures.whole c.runs_go_on.ensures.agree c.runs_go_on.ensures.on c.runs_go_on.ensures.climb may_give exp (asker_of own) positions low
+          step_on c.places_are_fronts.ensures.stay c.places_are_fronts.ensures.whole c.runs_go_on.ensures.agree c.runs_go_on.ensures.on c.runs_go_on.ensures.climb may_give exp own positions low
           lock here next front first between new s s' served served' (inv.streamed positions low front first it) before now stepped;
       faults = omega (arith, c.step-next.ensures.faults, inv.faults);
       number = c.step-next.ensures.number ∙ inv.number;
@@ -100,13 +99,13 @@ returns-in-Err g c =
     let new = g.K.Sink.taken c.step-next.new.to in
     let before = g.K.Sink.faults c.turns.to in
     let now = g.K.Sink.faults c.step-next.new.to in
-    let stepped : HasStepped may_give exp lock here next (asker_of own) s s' served served' between new before now (Err c.in-Err.end) =
+    let stepped : HasStepped may_give exp lock here next own s s' served served' between new before now (Err c.in-Err.end) =
     stepped_by may_give exp lock here next c.turns.stream.session.asker own s s' served served' between new before now c.step-next.result.1 (Err c.in-Err.end) inv.asker c.in-Err.is
     c.step-next.ensures.steps in
     record {
       goes_on = goes_far lock c.args.reader here next inv.goes_on stepped.goes_on;
       ends = λ positions low front first start less it.
-          ends_on c.places_are_fronts.ensures.stay c.places_are_fronts.ensures.whole c.runs_go_on.ensures.agree c.runs_go_on.ensures.on c.runs_go_on.ensures.climb may_give exp (asker_of own) positions low
+          ends_on c.places_are_fronts.ensures.stay c.places_are_fronts.ensures.whole c.runs_go_on.ensures.agree c.runs_go_on.ensures.on c.runs_go_on.ensures.climb may_give exp own positions low
           lock here next front first between new s s' served served' (inv.streamed positions low front first it) c.args.terms.now.until_drained start before now c.in-Err.end
           (omega (arith, less, inv.faults)) stepped;
       faults = omega (arith, c.step-next.ensures.faults, inv.faults);

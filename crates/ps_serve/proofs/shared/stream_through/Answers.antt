@@ -1,8 +1,7 @@
 use Rattle.std.proofs.Common.{List, length, sym, subst}
 use Rattle.ps_lock.specs.Words.{seen_by}
 use Rattle.ps_lock.proofs.Prefixes.{prefix_length}
-use Rattle.ps_sql_eval.specs.declared.askers.Asker.{Asker}
-use Rattle.ps_sql_eval.specs.Evaluated.{asker_of}
+use Rattle.ps_queries.specs.declared.askers.Asker.{Asker}
 use Rattle.ps_workers.specs.Sharing.{fixed_of}
 use Rattle.ps_serve.specs.declared.outcomes.Outcome.{Outcome}
 use Rattle.ps_serve.specs.declared.outcomes.Served.{Served}
@@ -24,7 +23,7 @@ returns-clause-streams g c =
     let later = prefix_length (seen_by c.args.seat) (seen c.open_reader-reader.result) c.open_reader-reader.ensures.saw in
     let said = c.stream_from-reader.ensures.streams c.args.request.positions low later c.begin.ensures.state in
     let own =
-    subst (λ (a : Asker). StreamsAt fixed low history may_give c.args.terms.now.until_drained (asker_of a) c.args.request.positions c.args.terms.now.exp old new before now
+    subst (λ (a : Asker). StreamsAt fixed low history may_give c.args.terms.now.until_drained a c.args.request.positions c.args.terms.now.exp old new before now
     (outcome c.stream_from-reader.new.stream.served.items)) c.begin.ensures.asker said in
-    subst (λ (xs : List Served). StreamsAt fixed low history may_give c.args.terms.now.until_drained (asker_of c.args.request.asker) c.args.request.positions c.args.terms.now.exp old new before now
+    subst (λ (xs : List Served). StreamsAt fixed low history may_give c.args.terms.now.until_drained c.args.request.asker c.args.request.positions c.args.terms.now.exp old new before now
     (outcome xs)) (sym c.from_vec.ensures) own

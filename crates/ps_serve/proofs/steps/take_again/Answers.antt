@@ -1,6 +1,5 @@
 use Rattle.std.proofs.Common.{◌-◌, List, Ok, subst}
 use Rattle.std.specs.Prelude.{Result}
-use Rattle.ps_sql_eval.specs.Evaluated.{asker_of}
 use Rattle.ps_store.specs.declared.readings.TakeFault.{TakeFault}
 use Rattle.ps_session.specs.Kept.{state_of}
 use Rattle.ps_streams.specs.declared.outcomes.TurnOutcome.{TurnOutcome}
@@ -16,7 +15,7 @@ returns-in-Ok-clause-steps g c =
     let lock = c.args.desk.now.lock.now in
     let before = c.args.reader in
     let after = c.turn_through-reader.result.0 in
-    let asker = asker_of c.args.stream.now.session.asker in
+    let asker = c.args.stream.now.session.asker in
     let s = state_of c.args.stream.now.session in
     let s' = state_of c.turn_through-reader.new.session in
     let exp = c.args.terms.now.exp in

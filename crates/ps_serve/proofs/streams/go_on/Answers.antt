@@ -1,5 +1,4 @@
 use Rattle.std.proofs.Common.{◌≡◌, [], sym, refl, ◌∙◌, arith}
-use Rattle.ps_sql_eval.specs.Evaluated.{asker_of}
 use Rattle.ps_session.specs.declared.phases.Phase.TheVariants.{Download}
 use Rattle.ps_session.specs.Kept.{state_of}
 use Rattle.ps_serve.proofs.Falling.{downloading}
@@ -10,7 +9,7 @@ use Rattle.ps_serve.proofs.streams.go_on.Goals as goal
 
 pub returns-in-Wait-clause-streams : goal.returns-in-Wait-clause-streams
 returns-in-Wait-clause-streams g c = λ fixed history positions done serves streaming.
-    completes (g.C.Clock.may_give c.args.clock.now) c.args.exp fixed history (asker_of c.args.session.now.asker) positions [] done
+    completes (g.C.Clock.may_give c.args.clock.now) c.args.exp fixed history c.args.session.now.asker positions [] done
     (g.K.Sink.taken c.args.to.now) (g.K.Sink.taken c.turns.to) (g.K.Sink.faults c.args.to.now) (g.K.Sink.faults c.turns.to) (state_of c.turns.session) c.ending.result
     (c.in-Wait.ensures.wait.0 refl) (c.turns.invariant.streamed fixed history positions done serves streaming) c.ending.ensures.ends
 
@@ -67,7 +66,7 @@ returns-in-Err g c =
           ends_next fixed history c.turns.session own same c.runs_go_on.ensures.on c.runs_go_on.ensures.climb c.calls_make_turns.ensures.falls c.courses_are_lawful.ensures (g.C.Clock.may_give c.args.clock.now) c.args.exp positions done
           (g.K.Sink.taken c.args.to.now) (g.K.Sink.taken c.turns.to) (g.K.Sink.taken c.make_turn.new.to) (g.K.Sink.faults c.args.to.now) (g.K.Sink.faults c.turns.to) (g.K.Sink.faults c.make_turn.new.to) c.args.store.now c.next_action.result c.in-Err.end
           c.turns.invariant.faults serves taken phase (sym c.next_action.ensures.action) (c.turns.invariant.streamed fixed history positions done serves streaming) (c.in-Err.ensures.sends fixed history serves there);
-      once = takes_once (g.C.Clock.may_give c.args.clock.now) c.args.exp r.0 r.1 (asker_of c.turns.session.asker) (turn_for r.0 r.1 c.turns.session).line
+      once = takes_once (g.C.Clock.may_give c.args.clock.now) c.args.exp r.0 r.1 c.turns.session.asker (turn_for r.0 r.1 c.turns.session).line
           (g.K.Sink.taken c.turns.to) (g.K.Sink.taken c.make_turn.new.to) (g.K.Sink.faults c.turns.to) (g.K.Sink.faults c.make_turn.new.to)
           (state_of c.turns.session) c.next_action.result c.in-Err.end phase (sym c.next_action.ensures.action) (c.in-Err.ensures.sends r.0 r.1 r.2 here);
       faults = omega (arith, c.make_turn.ensures.faults, c.turns.invariant.faults);

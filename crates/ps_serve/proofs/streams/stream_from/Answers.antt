@@ -1,7 +1,6 @@
 use Rattle.std.proofs.Common.{◌≡◌, List, ℕ, [], ◌++◌, None, length, inr, refl, ap, subst, ◌∙◌}
 use Rattle.ps_io.specs.Contents.{Gains, GainsFront}
-use Rattle.ps_sql_eval.specs.declared.askers.Asker.{Asker}
-use Rattle.ps_sql_eval.specs.Evaluated.{asker_of}
+use Rattle.ps_queries.specs.declared.askers.Asker.{Asker}
 use Rattle.ps_session.specs.Kept.{state_of}
 use Rattle.ps_serve.specs.Answers.{head_text}
 use Rattle.ps_serve.specs.Runs.{StreamsOn, list_of, lines_text}
@@ -36,14 +35,14 @@ returns-in-Ok-write-clause-streams g c = λ fixed history positions serves begin
     let gains : Gains old between (head_text 200 None ++ lines_text done) = subst (λ (bytes : List ℕ). Gains old between bytes) bytes_is c.in-Ok-write.ensures.ok in
     let streaming = streams_first c.runs_go_on.ensures.on c.runs_go_on.ensures.climb c.places_are_fronts.ensures.whole fixed history positions session begins_is begun.2
     c.calls_make_turns.ensures.keeps c.first_line.new.session c.first_line.ensures.asker begun.0 in
-    let goes : StreamsOn (g.C.Clock.may_give c.args.clock.now) c.args.exp fixed history (asker_of session.asker) positions [] done between new (g.K.Sink.faults c.write.new.self) (g.K.Sink.faults c.go_on.new.to) c.go_on.result =
-    subst (λ (asker : Asker). StreamsOn (g.C.Clock.may_give c.args.clock.now) c.args.exp fixed history (asker_of asker) positions [] done between new (g.K.Sink.faults c.write.new.self) (g.K.Sink.faults c.go_on.new.to) c.go_on.result)
+    let goes : StreamsOn (g.C.Clock.may_give c.args.clock.now) c.args.exp fixed history session.asker positions [] done between new (g.K.Sink.faults c.write.new.self) (g.K.Sink.faults c.go_on.new.to) c.go_on.result =
+    subst (λ (asker : Asker). StreamsOn (g.C.Clock.may_give c.args.clock.now) c.args.exp fixed history asker positions [] done between new (g.K.Sink.faults c.write.new.self) (g.K.Sink.faults c.go_on.new.to) c.go_on.result)
     c.first_line.ensures.asker (c.go_on.ensures.streams fixed history positions done serves streaming) in
     inr (inr (
       refl,
       begun.3,
       c.go_on.ensures.once,
-      ends_behind (g.C.Clock.may_give c.args.clock.now) c.args.exp fixed history (asker_of session.asker) positions (head_text 200 None) done old between new
+      ends_behind (g.C.Clock.may_give c.args.clock.now) c.args.exp fixed history session.asker positions (head_text 200 None) done old between new
           (g.K.Sink.faults c.args.to.now) (g.K.Sink.faults c.write.new.self) (g.K.Sink.faults c.go_on.new.to) c.write.ensures.faults gains c.go_on.result goes,
     ))
 

@@ -1,5 +1,4 @@
 use Rattle.std.proofs.Common.{length}
-use Rattle.ps_sql_eval.specs.Evaluated.{asker_of}
 use Rattle.ps_session.specs.Kept.{state_of}
 use Rattle.ps_serve.specs.Turning.{course_for}
 use Rattle.ps_serve.proofs.Readings.{takes_first, untaken}
@@ -12,5 +11,5 @@ turn-requires c =
 
 pub returns-clause-takes : goal.returns-clause-takes
 returns-clause-takes c = λ fixed history serves.
-    takes_first fixed history (asker_of c.args.session.now.asker) (state_of c.args.session.now) (state_of c.turn.new.session) c.places_are_fronts.ensures.whole c.requires.start c.turn.result
+    takes_first fixed history c.args.session.now.asker (state_of c.args.session.now) (state_of c.turn.new.session) c.places_are_fronts.ensures.whole c.requires.start c.turn.result
     (c.turn.ensures.turns fixed history serves (untaken (course_for fixed history c.args.session.now) (length history) (state_of c.args.session.now) c.requires.start))

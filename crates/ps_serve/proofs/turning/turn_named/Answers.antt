@@ -1,6 +1,5 @@
 use Rattle.std.proofs.Common.{◌≡◌, List, Option, Some, refl, sym, subst, ◌++◌}
 use Rattle.std.specs.Option.{IsSome}
-use Rattle.ps_sql_eval.specs.Evaluated.{asker_of}
 use Rattle.ps_store.specs.declared.events.Event.{Event}
 use Rattle.ps_session.specs.Kept.{state_of}
 use Rattle.ps_streams.specs.Turning.{TurnsSo}
@@ -39,6 +38,6 @@ returns-clause-turns g c =
       goes_on = goes_on g.N.Named.lock g.N.Named.entries lock c.take_turn-turned.new.readings.desk.now.lock.now held c.args.reader c.unwrap.result turned.more c.requires.lock c.requires.entries is turned.there;
       turns = λ at way.
           let here = c.take_turn-turned.ensures.turns (fixed_of lock) (seen c.args.reader) at start way in
-          subst (λ (xs : List Event). TurnsSo (fixed_of lock) xs (asker_of c.args.session.now.asker) at (state_of c.args.session.now) (state_of c.take_turn-turned.new.session) c.take_turn-turned.result)
+          subst (λ (xs : List Event). TurnsSo (fixed_of lock) xs c.args.session.now.asker at (state_of c.args.session.now) (state_of c.take_turn-turned.new.session) c.take_turn-turned.result)
           (sym (seen_on g.N.Named.lock g.N.Named.entries lock c.take_turn-turned.new.readings.desk.now.lock.now held c.args.reader c.unwrap.result here.more c.requires.lock c.requires.entries is here.there)) here.turns;
     }

@@ -1,6 +1,5 @@
 use Rattle.std.proofs.Common.{◌++◌, refl, ap, ◌∙◌}
 use Rattle.std.proofs.lemmas.Result.{err_from_is_err_and}
-use Rattle.ps_sql_eval.specs.Evaluated.{asker_of}
 use Rattle.ps_session.specs.Kept.{state_of}
 use Rattle.ps_session.specs.Sessions.{next_action}
 use Rattle.ps_streams.proofs.Reading.{read_is_at, read_is_reading}
@@ -24,7 +23,7 @@ pub read-requires-clause-something : goal.read-requires-clause-something
 read-requires-clause-something g c =
     let r = c.requires.here in
     let e = c.in_ok-batch.ensures r.0 r.1 r.3 in
-    let asker = asker_of c.args.session.now.asker in
+    let asker = c.args.session.now.asker in
     let session = state_of c.args.session.now in
     read_something r.0 (r.1 ++ e.0) asker r.2 session (g.met.R.Readings.valid c.read_batch.new.self r.0 (r.1 ++ e.0) e.2)
     (under_way_later c.places_are_fronts.ensures.stay r.0 r.1 e.0 asker r.2 session r.4) c.args.place c.args.after c.args.upto c.bucket_at.result.now c.in_ok-batch.batch
@@ -40,7 +39,7 @@ returns-in_err-line-clause-turns g c =
 pub returns-clause-turns : goal.returns-clause-turns
 returns-clause-turns g c = λ fixed history at stands way.
     let e = c.in_ok-batch.ensures fixed history stands in
-    let asker = asker_of c.args.session.now.asker in
+    let asker = c.args.session.now.asker in
     let session = state_of c.args.session.now in
     record {
       more = e.0;
@@ -56,7 +55,7 @@ pub returns-clause-writable : goal.returns-clause-writable
 returns-clause-writable g c =
     let r = c.requires.here in
     let e = c.in_ok-batch.ensures r.0 r.1 r.3 in
-    let asker = asker_of c.args.session.now.asker in
+    let asker = c.args.session.now.asker in
     let session = state_of c.args.session.now in
     outcome_writable c.in_ok-line.line c.in_ok-batch.batch.passed c.outcome_of.result c.outcome_of.ensures
     (read_writes r.0 (r.1 ++ e.0) asker r.2 session (g.met.R.Readings.valid c.read_batch.new.self r.0 (r.1 ++ e.0) e.2)

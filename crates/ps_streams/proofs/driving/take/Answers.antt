@@ -1,6 +1,5 @@
 use Rattle.std.proofs.Common.{Ok, Err, None, ◌++◌, refl, ap, ◌∙◌}
 use Rattle.std.proofs.lemmas.Result.{err_from_is_err_and}
-use Rattle.ps_sql_eval.specs.Evaluated.{asker_of}
 use Rattle.ps_session.specs.Kept.{state_of}
 use Rattle.ps_streams.proofs.Turned.{not_taken, outcome_writable, take_turned, take_writes, takes_by, under_way_later}
 use Rattle.ps_streams.proofs.driving.take.Goals as goal
@@ -10,7 +9,7 @@ returns-in_err-taken-clause-turns g c =
     let p = err_from_is_err_and c.from_residual.result c.from_residual.ensures.1 in
     rw (p.1, p.2) (λ fixed history at stands way.
     let e = c.in_err-taken.ensures fixed history stands in
-    let asker = asker_of c.args.session.now.asker in
+    let asker = c.args.session.now.asker in
     let session = state_of c.args.session.now in
     record {
       more = e.0;
@@ -36,7 +35,7 @@ returns-in_err-line-clause-turns g c =
 pub returns-clause-turns : goal.returns-clause-turns
 returns-clause-turns g c = λ fixed history at stands way.
     let e = c.in_ok-taken.ensures fixed history stands in
-    let asker = asker_of c.args.session.now.asker in
+    let asker = c.args.session.now.asker in
     let session = state_of c.args.session.now in
     let it = takes_by fixed (history ++ e.0) c.asker.result.now c.args.session.now.asker (Ok c.in_ok-taken.taken) c.asker.ensures e.3 in
     record {
@@ -53,7 +52,7 @@ pub returns-clause-writable : goal.returns-clause-writable
 returns-clause-writable g c =
     let r = c.requires.here in
     let e = c.in_ok-taken.ensures r.0 r.1 r.3 in
-    let asker = asker_of c.args.session.now.asker in
+    let asker = c.args.session.now.asker in
     let session = state_of c.args.session.now in
     let it = takes_by r.0 (r.1 ++ e.0) c.asker.result.now c.args.session.now.asker (Ok c.in_ok-taken.taken) c.asker.ensures e.3 in
     outcome_writable c.in_ok-line.line None c.outcome_of.result c.outcome_of.ensures

@@ -3,7 +3,6 @@ use Rattle.std.specs.Prelude.{◌||◌}
 use Rattle.std.specs.List.{list_any}
 use Rattle.ps_definitions.specs.declared.definitions.Definition.{Definition}
 use Rattle.ps_definitions.specs.RuleSets.{RuleSet}
-use Rattle.ps_sql_eval.specs.Evaluated.{asker_of}
 use Rattle.ps_params.specs.Notes.{Note}
 use Rattle.ps_params.specs.Indexes.{Index, StandsAt}
 use Rattle.ps_params.specs.Names.{definition_names}
@@ -18,8 +17,8 @@ returns-clause-names c = λ source stands.
     let here : StandsAt c.args.rules.now.definitions c.self.inside.kept.notes c.args.upto.0 source =
     subst (λ (ds : List Definition). StandsAt ds c.self.inside.kept.notes c.args.upto.0 source) definitions
     (subst (λ (ns : List Note). StandsAt c.args.self.now.rules.definitions ns c.args.upto.0 source) notes stands) in
-    c.in_ok-names.ensures.names (flat_map (definition_names (asker_of c.args.asker.now) source) c.args.rules.now.definitions)
+    c.in_ok-names.ensures.names (flat_map (definition_names c.args.asker.now source) c.args.rules.now.definitions)
     (λ test. c.in_ok-add_definitions.ensures test
-    ∙ ap (λ (none : List (List ℕ)). list_any test none || list_any test (flat_map (names_in (asker_of c.args.asker.now) (rows_of c.self.inside.kept.notes c.args.upto.0 c.self.inside.kept.notes)) c.definitions.result.now)) c.new-names.ensures
-    ∙ ap (λ (ds : List Definition). list_any test (flat_map (names_in (asker_of c.args.asker.now) (rows_of c.self.inside.kept.notes c.args.upto.0 c.self.inside.kept.notes)) ds)) c.definitions.ensures.value
-    ∙ same_names c.args.rules.now.definitions (asker_of c.args.asker.now) c.self.inside.kept.notes c.args.upto.0 source here test)
+    ∙ ap (λ (none : List (List ℕ)). list_any test none || list_any test (flat_map (names_in c.args.asker.now (rows_of c.self.inside.kept.notes c.args.upto.0 c.self.inside.kept.notes)) c.definitions.result.now)) c.new-names.ensures
+    ∙ ap (λ (ds : List Definition). list_any test (flat_map (names_in c.args.asker.now (rows_of c.self.inside.kept.notes c.args.upto.0 c.self.inside.kept.notes)) ds)) c.definitions.ensures.value
+    ∙ same_names c.args.rules.now.definitions c.args.asker.now c.self.inside.kept.notes c.args.upto.0 source here test)

@@ -1,5 +1,4 @@
 use Rattle.std.proofs.Common.{◌≡◌, List, Some, refl}
-use Rattle.ps_sql_eval.specs.Evaluated.{asker_of}
 use Rattle.ps_store.specs.declared.events.Event.{Event}
 use Rattle.ps_store.specs.declared.fixed.Fixed.{Fixed}
 use Rattle.ps_store.specs.Readings.{Takes}
@@ -22,5 +21,5 @@ returns g c = λ fixed history stands.
       tt,
       stands_on g.N.Named.lock g.N.Named.entries lock held fixed history c.unwrap-seat.result after look turn.0 is turn.1.looks c.take_in_turn-seat.ensures.lock refl stands,
       read_on g.N.Named.lock g.N.Named.entries lock held fixed history c.unwrap-seat.result after look turn.0 is turn.1.looks c.take_in_turn-seat.ensures.lock refl stands
-          (λ (f : Fixed) (xs : List Event). Takes f xs (asker_of c.args.asker.now) c.take_in_turn-seat.result.2) turn.1.takes,
+          (λ (f : Fixed) (xs : List Event). Takes f xs c.args.asker.now c.take_in_turn-seat.result.2) turn.1.takes,
     )

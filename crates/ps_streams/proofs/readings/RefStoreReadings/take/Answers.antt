@@ -1,5 +1,4 @@
 use Rattle.std.proofs.Common.{[], refl}
-use Rattle.ps_sql_eval.specs.Evaluated.{asker_of}
 use Rattle.ps_streams.proofs.Stores.{serves_still, takes_still}
 use Rattle.ps_streams.proofs.readings.RefStoreReadings.take.Goals as goal
 
@@ -8,5 +7,5 @@ returns c = λ fixed history serves. (
   [],
   refl,
   serves_still fixed c.args.self.now.now history serves,
-  takes_still fixed history (asker_of c.args.asker.now) c.take_uncounted.result (c.take_uncounted.ensures fixed history serves),
+  takes_still fixed history c.args.asker.now c.take_uncounted.result (c.take_uncounted.ensures fixed history serves),
 )
