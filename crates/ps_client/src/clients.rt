@@ -23,7 +23,7 @@ use crate::showing::rows_in_order;
 use crate::streams::Stream;
 use crate::taking::{self, Step};
 use crate::{ClientFault, Event};
-use ps_client_log::{ClientLog, KeepFault, Keeper, Shown, Target, VolatileKeeper};
+use ps_client_log::{ClientLog, Hashing, KeepFault, Keeper, Shown, Target, VolatileKeeper};
 use ps_data::{Items, Memory, Text};
 use ps_lines::{Line, LineFault, StreamBody, read_line};
 use ps_rows::Change;
@@ -79,8 +79,8 @@ impl Client<VolatileKeeper> {
 }
 
 impl<K: Keeper> Client<K> {
-    /// A client that keeps what its keeper keeps, which is loaded once, with no stream begun, and has an id. Fails with `Failed`
-    /// where the keeper failed, which its count of faults shows, and with `Memory`. After a refusal the keeper is given back.
+    /// A client that keeps what its keeper keeps, which is loaded once, with no stream begun, and has an id. Its maps hash by a seed that everyone knows:
+    /// for keys that nobody chose for it. Fails as `open_hashed` does, and gives the keeper back then.
     pub fn open(alloc: Global, keeper: K, client: Text) -> Result<Client<K>, (K, KeepFault)>
         ensures opened { IfOk result (λ opened. IsOpened (state opened)) }
         ensures kept { IfOk result (λ opened. Tells (K.held keeper) (state opened).kept) }
@@ -93,7 +93,30 @@ impl<K: Keeper> Client<K> {
         ensures loaded { IfOk result (λ opened. K.calls (keeper_of opened) ≡ one_more (K.calls keeper)) }
         ensures refused_loaded { IfErr result (λ refused. K.calls refused.0 ≡ one_more (K.calls keeper)) }
     {
-        match ClientLog::open(alloc, keeper) {
+        Client::open_hashed(alloc, keeper, client, Hashing::Fixed)
+    }
+
+    /// A client that keeps what its keeper keeps, which is loaded once, with no stream begun, and has an id. Its maps hash as given: where a peer chooses
+    /// the names of buckets and the ids of rows, by a seed that it does not know. Fails with `Failed` where the keeper failed, which its count of faults
+    /// shows, and with `Memory`. After a refusal the keeper is given back.
+    pub fn open_hashed(
+        alloc: Global,
+        keeper: K,
+        client: Text,
+        hashing: Hashing,
+    ) -> Result<Client<K>, (K, KeepFault)>
+        ensures opened { IfOk result (λ opened. IsOpened (state opened)) }
+        ensures kept { IfOk result (λ opened. Tells (K.held keeper) (state opened).kept) }
+        ensures name { IfOk result (λ opened. name_of opened ≡ client) }
+        ensures held { IfOk result (λ opened. K.held (keeper_of opened) ≡ K.held keeper) }
+        ensures faults { IfOk result (λ opened. K.faults (keeper_of opened) ≡ K.faults keeper) }
+        ensures refused_held { IfErr result (λ refused. K.held refused.0 ≡ K.held keeper) }
+        ensures refused_faults { IfErr result (λ refused. K.faults keeper ≤ K.faults refused.0) }
+        ensures failed { IfErr result (λ refused. RoseAt refused.1 (K.faults keeper) (K.faults refused.0)) }
+        ensures loaded { IfOk result (λ opened. K.calls (keeper_of opened) ≡ one_more (K.calls keeper)) }
+        ensures refused_loaded { IfErr result (λ refused. K.calls refused.0 ≡ one_more (K.calls keeper)) }
+    {
+        match ClientLog::open_hashed(alloc, keeper, hashing) {
             Ok(log) => Ok(Client {
                 log,
                 name: client,
