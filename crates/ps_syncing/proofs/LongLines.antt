@@ -15,7 +15,8 @@ use Rattle.ps_answers.specs.Lines.{FitsLine, HoldsLongLine, line_limit, lines_te
 use Rattle.ps_answers.specs.Requests.{first_lines, number_text, post_text, stream_text, upload_text}
 use Rattle.ps_answers.specs.declared.heads.AnswerHead.{AnswerHead}
 use Rattle.ps_client_log.specs.Kept.{Kept}
-use Rattle.ps_client.specs.Clients.{PlainClient, asked}
+use Rattle.ps_client.specs.Clients.{PlainClient, asked, is_pending}
+use Rattle.ps_client.specs.LocalWrites.{keeping}
 use Rattle.ps_client.specs.declared.events.Event.{Event}
 use Rattle.ps_files.specs.Saying.{Told}
 use Rattle.ps_files.specs.declared.faults.Fault.TheVariants.{Usage, Rules, Change as ChangeLine, PastLimit, TooManyBuckets, Claims, Keys, TooLong, CannotRead, CannotWrite, Script, Memory}
@@ -26,9 +27,9 @@ use Rattle.ps_syncing.specs.declared.words.Named.{Named}
 use Rattle.ps_syncing.specs.Exchanges.{Closes, Exchange, HasHead, HasNoHead, IsRefused, exchange_of}
 use Rattle.ps_syncing.specs.Laws.{EndsAtFive, FiveForALongLine, HasLongStream}
 use Rattle.ps_syncing.specs.Numbers.{IsNumber, IsUpload}
-use Rattle.ps_syncing.specs.Runs.{AimsWhere, AreRefused, AreShort, AreStreams, AreUploads, ClosesLast, ClosesRefused, IsLongStream, IsLost, IsLostStream, IsShort, IsStreamWith, next, none}
+use Rattle.ps_syncing.specs.Runs.{AimsWhere, AreRefused, AreShort, AreStreams, AreUploads, ClosesLast, ClosesRefused, IsLongStream, IsLost, IsLostStream, IsShort, IsStreamWith, emptied, next, none, written_all}
 use Rattle.ps_syncing.specs.Saying.{status_of}
-use Rattle.ps_syncing.specs.Steps.{IsSynced}
+use Rattle.ps_syncing.specs.Steps.{AimsAt, IsSynced, UploadsAll}
 use Rattle.ps_syncing.specs.Streams.{EndsApplied, EndsBy, EndsOpen, EndsRefused, Flows, IsAltered, Passes, next_line, no_lines}
 use Rattle.ps_syncing.specs.Syncing.{Causes, EndsSo, IsDone, Outside, StopsBy}
 use Rattle.ps_syncing.proofs.Failing.{Closes-none}
@@ -171,10 +172,16 @@ short_uploads service (change ∷ changes) [] each = absurd each
 short_uploads service (change ∷ changes) (one ∷ exchanges) each =
     All-cons IsShort one exchanges (short_upload one _ _ _ each.0.asks) (short_uploads service changes exchanges each.1)
 
-pub short_aims : (pending : Bool) (service : Service) (old new : Kept) (exchanges : List Exchange) → AimsWhere pending service old new exchanges → AreShort exchanges
+short_aims : (pending : Bool) (service : Service) (old new : Kept) (exchanges : List Exchange) → AimsWhere pending service old new exchanges → AreShort exchanges
 short_aims true service old new exchanges aims =
     All-same IsShort exchanges (aims.one ∷ []) aims.alone (All-cons IsShort aims.one [] (short_number aims.one _ _ _ aims.is.asks) (All-nil IsShort))
 short_aims false service old new exchanges aims = All-same IsShort exchanges [] aims.0 (All-nil IsShort)
+
+pub short_uploaded : (service : Service) (old new : PlainClient) (before now : Option (List Connection)) → (uploads : UploadsAll service old new before now) → AreShort uploads.exchanges
+short_uploaded service old new before now uploads = short_uploads service old.kept.queue uploads.exchanges uploads.each
+
+pub short_aimed : (service : Service) (old new : PlainClient) (before now : Option (List Connection)) → (aims : AimsAt service old new before now) → AreShort aims.exchanges
+short_aimed service old new before now aims = short_aims (is_pending old.kept.target) service old.kept aims.kept aims.exchanges aims.aims
 
 pub short_refused : {service : Service} {old now : PlainClient} {exchanges : List Exchange} → AreRefused service old exchanges now → AreShort exchanges
 short_refused none = All-nil IsShort
@@ -203,8 +210,9 @@ closes_synced service changes old new before now synced =
       synced.closed,
       All-same IsShort synced.exchanges (syncs.uploads ++ syncs.numbers ++ syncs.streams) syncs.are
           (All-append IsShort (syncs.uploads ++ syncs.numbers) syncs.streams
-          (All-append IsShort syncs.uploads syncs.numbers (short_uploads service _ syncs.uploads syncs.uploaded) (short_aims _ service _ _ syncs.numbers syncs.aims))
-          (short_streams service _ new syncs.streams syncs.streamed)),
+          (All-append IsShort syncs.uploads syncs.numbers (short_uploads service (written_all changes old.kept).queue syncs.uploads syncs.uploaded)
+          (short_aims (is_pending (written_all changes old.kept).target) service (emptied (written_all changes old.kept)) syncs.aimed_at syncs.numbers syncs.aims))
+          (short_streams service (keeping syncs.aimed_at old) new syncs.streams syncs.streamed)),
     )
 
 closes_last : (old new : Option (List Connection)) (Holds : Exchange → Type 0) → ((one : Exchange) → Holds one → IsShort one) → ClosesLast old new Holds → ClosesShort old new
