@@ -3,7 +3,7 @@ use Rattle.std.proofs.Common.{◌≡◌, ℕ, ◌+◌, ◌<◌, ◌≤◌, List,
 use Rattle.std.proofs.lemmas.List.{length-take, length-take-le, take-append-drop, take-take}
 use Rattle.ps_io.specs.Sources.{Input}
 use Rattle.ps_answers.specs.Givings.{HasGiven, HasEnded}
-use Rattle.ps_answers.specs.Lines.{with_feed, HasNoFeed}
+use Rattle.ps_answers.specs.Lines.{FitsLine, with_feed, HasNoFeed}
 use Rattle.ps_answers.specs.Readers.{IsFound, TakesLine, TakesBody}
 use Rattle.ps_answers.specs.Heads.{IsAnswerHead, TakesHead, front_of}
 use Rattle.ps_http.specs.Heads.{head_limit}
@@ -23,7 +23,7 @@ HasGiven-split input before all piece left is given =
 pub TakesLine-found : (input : Option Input) (before all part left : List ℕ) (result : Result Part LineFault)
     → HasGiven input (before ++ all) → IsFound all part left result → TakesLine input before part left result
 TakesLine-found input before all part left (Ok Whole) given found =
-    (HasGiven-split input before all (with_feed part) left found.0 given, found.1, found.2)
+    (HasGiven-split input before all (with_feed part) left found.0 given, found.1)
 TakesLine-found input before all part left (Ok Cut) given found = absurd found
 TakesLine-found input before all part left (Err (TooLong seen)) given found = (all, given, found)
 TakesLine-found input before all part left (Err Failed) given found = absurd found
@@ -38,10 +38,14 @@ same_bytes : (old new : List ℕ) (count : ℕ) → take (length old) new ≡ ol
 same_bytes old new count front long none = sym (take_all (length old) new (omega (arith, long, none))) ∙ front
 
 -- no line comes any more
-pub TakesLine-end : (input : Option Input) (before old part new : List ℕ) (count : ℕ) → HasGiven input (before ++ new) → HasNoFeed old
+pub TakesLine-end : (input : Option Input) (before old part new : List ℕ) (count : ℕ) → HasGiven input (before ++ new) → FitsLine old
     → take (length old) new ≡ old → length new ≡ length old + count → count ≡ 0 → HasEnded input → TakesLine input before part new (Ok Cut)
-TakesLine-end input before old part new count given clean front long none ended =
-    (given, subst HasNoFeed (sym (same_bytes old new count front long none)) clean, ended)
+TakesLine-end input before old part new count given fits front long none ended =
+    (given, subst FitsLine (sym (same_bytes old new count front long none)) fits, ended)
+
+-- a fault leaves what was looked at
+pub fits_still : (old new : List ℕ) → new ≡ old → HasNoFeed old → length old ≤ 268435456 → FitsLine new
+fits_still old new same clean few = subst FitsLine (sym same) (clean, few)
 
 -- no body comes any more
 pub TakesBody-end : (input : Option Input) (before old part new : List ℕ) (count wanted : ℕ) → HasGiven input (before ++ new) → length old < wanted

@@ -1,11 +1,15 @@
 -- The first line feed of bytes.
-use Rattle.std.proofs.Common.{◌≡◌, ◌≢◌, ℕ, suc, ◌+◌, ◌-◌, ◌<◌, ◌≤◌, List, [], ◌∷◌, ◌++◌, Some, None, length, take, drop, get_or, slice_index, sym, ap, subst, ◌∙◌, arith, inl, inr, append_assoc}
+use Rattle.std.proofs.Common.{◌≡◌, ◌≢◌, ℕ, suc, ◌+◌, ◌-◌, ◌<◌, ◌≤◌, List, [], ◌∷◌, ◌++◌, Some, None, length, take, drop, get_or, slice_index, sym, ap, subst, ◌∙◌, arith, inl, inr, append_assoc, length-append, Result, Ok, Err}
 use Rattle.std.proofs.lemmas.Bool.{cases_lt, eq-eqb, eqb-true}
 use Rattle.std.proofs.lemmas.List.{get_or-take, get_or-drop, length-take-le, length-drop, take-append-drop, take_rest}
-use Rattle.std.proofs.Math.Seq.{drop-cons}
+use Rattle.std.proofs.Math.Seq.{drop-cons, get_or-append_seam}
 use Rattle.memchr.specs.Find.{Nowhere, Passes, is_byte, IsFirstByte}
-use Rattle.ps_answers.specs.Lines.{HasNoFeed, with_feed}
-use Rattle.ps_answers.specs.Readers.{FeedsIn, BeginsTooLong}
+use Rattle.ps_answers.specs.Lines.{FitsLine, HasNoFeed, with_feed}
+use Rattle.ps_answers.specs.Readers.{FeedsIn, BeginsTooLong, IsFound, LeavesFew}
+use Rattle.ps_answers.specs.declared.readers.Part.{Part}
+use Rattle.ps_answers.specs.declared.readers.Part.TheVariants.{Whole, Cut}
+use Rattle.ps_answers.specs.declared.readers.LineFault.{LineFault}
+use Rattle.ps_answers.specs.declared.readers.LineFault.TheVariants.{TooLong, Failed, Memory}
 
 -- none stands in the first bytes, and none in so many behind them
 pub none_on : (bytes : List ℕ) (looked n : ℕ) → looked ≤ length bytes → HasNoFeed (take looked bytes)
@@ -59,13 +63,13 @@ no_feed_before bytes place found k below is =
 
 -- the line that was found
 pub found_line : (all part left : List ℕ) (place : ℕ) → FeedsIn all (Some place) → part ≡ take place all → left ≡ drop (place + 1) all
-    → place ≤ 268435456 → (all ≡ with_feed part ++ left) × HasNoFeed part × (length part ≤ 268435456)
+    → place ≤ 268435456 → (all ≡ with_feed part ++ left) × FitsLine part
 found_line all part left place found is_part is_left small =
     let within : place ≤ length all = omega (arith, found.0) in
-    let base : (all ≡ with_feed (take place all) ++ drop (place + 1) all) × HasNoFeed (take place all) × (length (take place all) ≤ 268435456) =
-    (line_split all place found.0 found.1, no_feed_before all place found, omega (arith, length-take-le place all within, small)) in
-    subst (λ x. (all ≡ with_feed x ++ left) × HasNoFeed x × (length x ≤ 268435456)) (sym is_part)
-    (subst (λ y. (all ≡ with_feed (take place all) ++ y) × HasNoFeed (take place all) × (length (take place all) ≤ 268435456)) (sym is_left) base)
+    let base : (all ≡ with_feed (take place all) ++ drop (place + 1) all) × FitsLine (take place all) =
+    (line_split all place found.0 found.1, (no_feed_before all place found, omega (arith, length-take-le place all within, small))) in
+    subst (λ x. (all ≡ with_feed x ++ left) × FitsLine x) (sym is_part)
+    (subst (λ y. (all ≡ with_feed (take place all) ++ y) × FitsLine (take place all)) (sym is_left) base)
 
 -- a line that is too long
 pub too_long : (all : List ℕ) (place : ℕ) → FeedsIn all (Some place) → 268435456 < place → BeginsTooLong all place
@@ -77,3 +81,31 @@ too_long all place found more = record {
   seen_is = sym (length-take-le place all (omega (arith, found.0)));
   more = more;
 }
+
+-- the line reaches past the first bytes, which have no feed
+reaches : (all part left : List ℕ) (looked : ℕ) → all ≡ with_feed part ++ left → HasNoFeed (take looked all) → looked ≤ length all → looked ≤ length part
+reaches all part left looked split clean within =
+    elim (cases_lt (length part) looked) [
+      | inl lt ↦
+          let here : slice_index all (length part) ≡ 10 =
+          ap (λ v. slice_index v (length part)) (split ∙ append_assoc part (10 ∷ []) left) ∙ get_or-append_seam part 10 left 0 in
+          absurd (clean (length part) (omega (arith, lt, length-take-le looked all within)) (get_or-take looked all (length part) 0 lt ∙ here))
+      | inr ge ↦ ge
+    ]
+
+-- few bytes are left behind it, where few came behind the first
+pub LeavesFew-found : (all part left : List ℕ) (looked : ℕ) (result : Result Part LineFault) → looked ≤ length all → HasNoFeed (take looked all)
+    → length all ≤ looked + 268435456 → IsFound all part left result → LeavesFew left result
+LeavesFew-found all part left looked (Ok Whole) within clean few found =
+    omega (
+      arith,
+      few,
+      reaches all part left looked found.0 clean within,
+      ap length found.0,
+      length-append (with_feed part) left,
+      length-append part (10 ∷ []),
+    )
+LeavesFew-found all part left looked (Ok Cut) within clean few found = absurd found
+LeavesFew-found all part left looked (Err (TooLong seen)) within clean few found = tt
+LeavesFew-found all part left looked (Err Failed) within clean few found = absurd found
+LeavesFew-found all part left looked (Err Memory) within clean few found = absurd found

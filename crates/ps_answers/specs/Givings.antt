@@ -11,6 +11,10 @@ HasGiven input bytes = IfSome input (λ one. one.given ≡ bytes)
 abbrev pub HasEnded : Option Input → Type 0
 HasEnded input = IfSome input (λ one. one.ended ≡ true)
 
+-- how many bytes are read at once
+abbrev pub read_size : ℕ
+read_size = 65536
+
 -- so many bytes more stand behind those that were there, or a fault left these alone
 abbrev pub Grows : List ℕ → List ℕ → Result ℕ ReadFault → Type 0
 Grows old new (Ok count) = (take (length old) new ≡ old) × (length new ≡ length old + count)

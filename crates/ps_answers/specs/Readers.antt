@@ -2,7 +2,7 @@
 use Rattle.std.specs.Prelude.{◌≡◌, ◌≢◌, ℕ, ◌<◌, ◌≤◌, List, ◌++◌, drop, length, Option, Some, None, Result, Ok, Err, slice_range, slice_index}
 use Rattle.ps_io.specs.Sources.{Input}
 use Rattle.ps_answers.specs.Givings.{HasGiven, HasEnded}
-use Rattle.ps_answers.specs.Lines.{HasNoFeed, with_feed, line_limit}
+use Rattle.ps_answers.specs.Lines.{FitsLine, HasNoFeed, with_feed, line_limit}
 use Rattle.ps_answers.specs.declared.reads.ReadFault.{ReadFault}
 use Rattle.ps_answers.specs.declared.buffers.Reader.{Reader}
 use Rattle.ps_answers.specs.declared.readers.Part.{Part}
@@ -39,20 +39,27 @@ GivesTooLong input before seen = (bytes : List ℕ) × HasGiven input (before ++
 
 -- the line up to the first line feed was taken, or it is too long
 abbrev pub IsFound : List ℕ → List ℕ → List ℕ → Result Part LineFault → Type 0
-IsFound bytes part left (Ok Whole) = (bytes ≡ with_feed part ++ left) × HasNoFeed part × (length part ≤ line_limit)
+IsFound bytes part left (Ok Whole) = (bytes ≡ with_feed part ++ left) × FitsLine part
 IsFound bytes part left (Ok Cut) = ⊥
 IsFound bytes part left (Err (TooLong seen)) = BeginsTooLong bytes seen
 IsFound bytes part left (Err Failed) = ⊥
 IsFound bytes part left (Err Memory) = ⊥
 
--- the next line was taken, or none comes any more, or it is too long; the source handed out what stands before it, which was taken earlier, and what is left
+-- the next line was taken, or none comes any more, or it is too long; the source handed out what stands before it, which was taken earlier, and what is left.
+-- Where none was taken and it is not too long, what is left is no more of it than a line may have
 abbrev pub TakesLine : Option Input → List ℕ → List ℕ → List ℕ → Result Part LineFault → Type 0
-TakesLine input before part left (Ok Whole) =
-    HasGiven input (before ++ with_feed part ++ left) × HasNoFeed part × (length part ≤ line_limit)
-TakesLine input before part left (Ok Cut) = HasGiven input (before ++ left) × HasNoFeed left × HasEnded input
+TakesLine input before part left (Ok Whole) = HasGiven input (before ++ with_feed part ++ left) × FitsLine part
+TakesLine input before part left (Ok Cut) = HasGiven input (before ++ left) × FitsLine left × HasEnded input
 TakesLine input before part left (Err (TooLong seen)) = GivesTooLong input before seen
-TakesLine input before part left (Err Failed) = HasGiven input (before ++ left)
-TakesLine input before part left (Err Memory) = HasGiven input (before ++ left)
+TakesLine input before part left (Err Failed) = HasGiven input (before ++ left) × FitsLine left
+TakesLine input before part left (Err Memory) = HasGiven input (before ++ left) × FitsLine left
+
+-- no more is left than a line may have, unless one is too long
+abbrev pub LeavesFew : List ℕ → Result Part LineFault → Type 0
+LeavesFew left (Ok part) = length left ≤ line_limit
+LeavesFew left (Err (TooLong seen)) = Unit {0}
+LeavesFew left (Err Failed) = length left ≤ line_limit
+LeavesFew left (Err Memory) = length left ≤ line_limit
 
 -- a body of that length was taken, or the input ended before it was whole
 abbrev pub TakesBody : Option Input → ℕ → List ℕ → List ℕ → List ℕ → Result Part ReadFault → Type 0

@@ -5,6 +5,7 @@ ghost use Rattle.ps_io.specs.Counts.{Rose};
 ghost use Rattle.ps_http.specs.Heads.{head_limit};
 ghost use Rattle.ps_answers.specs.Givings.{HasGiven};
 ghost use Rattle.ps_answers.specs.Heads.{IsJudged, TakesHead, front_of};
+ghost use Rattle.ps_answers.specs.Lines.{line_limit};
 ghost use Rattle.ps_answers.specs.Readers.{left_of, part_of};
 
 use crate::{ReadFault, Reader};
@@ -90,10 +91,11 @@ fn judge(bytes: &[u8]) -> Judged
 
 impl Reader {
     /// Takes the head of an answer, whose bytes are then the part that was taken last. Empty lines before the first line are skipped. After a fault
-    /// what was read is left.
+    /// what was read is left. Where no more was left than a line may have, no more is left then.
     pub fn next_head<S: Source>(&mut self, from: &mut S) -> Result<AnswerHead, AnswerFault>
         ensures head { (before : List ℕ) → HasGiven (S.input from.old) (before ++ left_of self.old)
             → TakesHead (S.input from.new) before (part_of self.new) (left_of self.new) result }
+        ensures ahead { length (left_of self.old) ≤ line_limit → length (left_of self.new) ≤ line_limit }
         ensures told { is_some (S.input from.new) ≡ is_some (S.input from.old) }
         ensures failed { result ≡ Err AnswerFault.ReadFault → Rose (S.faults from.old) (S.faults from.new) }
         ensures faults { S.faults from.old ≤ S.faults from.new }

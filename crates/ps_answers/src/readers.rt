@@ -2,9 +2,9 @@
 
 ghost use Rattle.std.specs.Prelude.{◌≡◌, ◌≢◌, ◌<◌, ◌≤◌, ◌+◌, ◌++◌, ◌∷◌, [], ℕ, List, true, false, Some, None, Ok, Err, IfOk, IfNone, IfSome, OnErr, is_some, length, drop, take, vec_len};
 ghost use Rattle.ps_io.specs.Counts.{Rose};
-ghost use Rattle.ps_answers.specs.Givings.{HasGiven, HasEnded, Grows};
-ghost use Rattle.ps_answers.specs.Lines.{HasNoFeed};
-ghost use Rattle.ps_answers.specs.Readers.{part_of, left_of, TakesLine, TakesBody, FeedsIn, IsFound};
+ghost use Rattle.ps_answers.specs.Givings.{HasGiven, HasEnded, Grows, read_size};
+ghost use Rattle.ps_answers.specs.Lines.{HasNoFeed, line_limit};
+ghost use Rattle.ps_answers.specs.Readers.{part_of, left_of, TakesLine, LeavesFew, TakesBody, FeedsIn, IsFound};
 
 use crate::reads::read_more;
 use crate::{ReadFault, Reader};
@@ -111,6 +111,7 @@ impl Reader {
         ensures given { (before : List ℕ) → HasGiven (S.input from.old) (before ++ left_of self.old)
             → HasGiven (S.input from.new) (before ++ left_of self.new) }
         ensures grows { Grows (left_of self.old) (left_of self.new) result }
+        ensures few { IfOk result (λ count. count ≤ read_size) }
         ensures told { is_some (S.input from.new) ≡ is_some (S.input from.old) }
         ensures end { result ≡ Ok 0 → HasEnded (S.input from.new) }
         ensures failed { result ≡ Err ReadFault.Failed → Rose (S.faults from.old) (S.faults from.new) }
@@ -146,10 +147,11 @@ impl Reader {
     }
 
     /// Takes the next line of a stream; bytes behind the last line feed are no line. Fails with `TooLong` exactly where the line, or what was seen
-    /// of it, has more than 268,435,456 bytes. After a fault what was read is left.
+    /// of it, has more than 268,435,456 bytes. After a fault what was read is left. Where no more was left than a line may have, no more is left then.
     pub fn next_line<S: Source>(&mut self, from: &mut S) -> Result<Part, LineFault>
         ensures line { (before : List ℕ) → HasGiven (S.input from.old) (before ++ left_of self.old)
             → TakesLine (S.input from.new) before (part_of self.new) (left_of self.new) result }
+        ensures ahead { length (left_of self.old) ≤ line_limit → LeavesFew (left_of self.new) result }
         ensures told { is_some (S.input from.new) ≡ is_some (S.input from.old) }
         ensures failed { result ≡ Err LineFault.Failed → Rose (S.faults from.old) (S.faults from.new) }
         ensures faults { S.faults from.old ≤ S.faults from.new }

@@ -2,7 +2,7 @@
 
 ghost use Rattle.std.specs.Prelude.{◌≡◌, ◌≢◌, ◌<◌, ◌≤◌, ◌+◌, ◌++◌, ℕ, List, Ok, Err, IfOk, OnErr, is_some, length, take};
 ghost use Rattle.ps_io.specs.Counts.{Rose};
-ghost use Rattle.ps_answers.specs.Givings.{HasGiven, HasEnded, Grows};
+ghost use Rattle.ps_answers.specs.Givings.{HasGiven, HasEnded, Grows, read_size};
 
 use ps_data::Memory;
 use ps_io::{Failed, Source};
@@ -57,6 +57,7 @@ pub(crate) fn read_more<S: Source>(bytes: &mut Vec<u8>, from: &mut S) -> Result<
     ensures given { (before : List ℕ) → HasGiven (S.input from.old) (before ++ bytes.old.items)
         → HasGiven (S.input from.new) (before ++ bytes.new.items) }
     ensures grows { Grows bytes.old.items bytes.new.items result }
+    ensures few { IfOk result (λ count. count ≤ read_size) }
     ensures told { is_some (S.input from.new) ≡ is_some (S.input from.old) }
     ensures end { result ≡ Ok 0 → HasEnded (S.input from.new) }
     ensures failed { result ≡ Err ReadFault.Failed → Rose (S.faults from.old) (S.faults from.new) }

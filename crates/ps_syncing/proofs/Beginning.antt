@@ -1,9 +1,10 @@
 -- The first part of an answer.
-use Rattle.std.proofs.Common.{◌≡◌, ℕ, true, List, [], ◌++◌, Option, Some, None, Err, refl, sym, ap, subst, ◌∙◌, inl, inr, append_assoc}
+use Rattle.std.proofs.Common.{◌≡◌, ℕ, ◌≤◌, length, true, List, [], ◌++◌, Option, Some, None, Err, refl, sym, ap, subst, ◌∙◌, inl, inr, append_assoc}
 use Rattle.std.proofs.lemmas.List.{append-nil}
 use Rattle.ps_io.specs.Sources.{Input}
 use Rattle.ps_answers.specs.Givings.{HasGiven, HasEnded}
 use Rattle.ps_answers.specs.Heads.{BeginsNoHead}
+use Rattle.ps_answers.specs.Lines.{line_limit}
 use Rattle.ps_syncing.specs.declared.faults.SyncFault.{SyncFault}
 use Rattle.ps_syncing.specs.declared.faults.SyncFault.TheVariants.{ConnectionFailed, NoCheckpoint, Answered, Altered, LineTooLong, Memory}
 use Rattle.ps_syncing.specs.Beginnings.{Begins}
@@ -23,11 +24,11 @@ ended_of-has None ended = refl
 ended_of-has (Some input) ended = ended
 
 -- no head begins there
-pub HasNoHead-begins : (input : Option Input) (taken left : List ℕ) → BeginsNoHead input left
+pub HasNoHead-begins : (input : Option Input) (taken left : List ℕ) → length left ≤ line_limit → BeginsNoHead input left
     → HasNoHead (record { taken = taken; given = left; ended = ended_of input })
-HasNoHead-begins input taken left (inl bad) = inl bad
-HasNoHead-begins input taken left (inr (none, inl long)) = inr (none, inl long)
-HasNoHead-begins input taken left (inr (none, inr ended)) = inr (none, inr (ended_of-has input ended))
+HasNoHead-begins input taken left few (inl bad) = record { begins = inl bad; few = few }
+HasNoHead-begins input taken left few (inr (none, inl long)) = record { begins = inr (none, inl long); few = few }
+HasNoHead-begins input taken left few (inr (none, inr ended)) = record { begins = inr (none, inr (ended_of-has input ended)); few = few }
 
 -- the fault of a first part is the answer's
 pub Answers-begun : (old new : Option Input) (request : List ℕ) (fault : SyncFault) → Begins old new request (Err fault) → Answers (Sees old new request) (Err fault)

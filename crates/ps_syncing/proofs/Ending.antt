@@ -18,7 +18,7 @@ use Rattle.ps_syncing.specs.declared.words.Named.{Named}
 use Rattle.ps_syncing.specs.Runs.{FailsSo}
 use Rattle.ps_syncing.specs.Steps.{IsSynced, Prints}
 use Rattle.ps_syncing.specs.Stops.{stop_of}
-use Rattle.ps_syncing.specs.Syncing.{Causes, HasDone, IsDone, IsFailed, Outside, Prepares, PrintsSo, RefusesFiles, RunsSo, Unprinted}
+use Rattle.ps_syncing.specs.Syncing.{Causes, HasDone, IsDone, IsFailed, Outside, Prepares, PrintsSo, RefusesFiles, RunsSo, Unasked, Unprinted}
 use Rattle.ps_syncing.specs.Words.{sync_of}
 
 -- what was brought up to date is shown
@@ -28,12 +28,12 @@ pub RunsSo-made : (service : Service) (changes : List Change) (kept : Option Kep
 RunsSo-made service changes kept before now loaded new (Ok text) told synced prints fails = (loaded, new, told, synced, prints)
 RunsSo-made service changes kept before now loaded new (Err fault) told synced prints fails = fails
 
--- files that are refused end the command so, with nothing printed
-pub Causes-files : (o : Outside) (named : Named) (stop : Stop) → Unprinted o → RefusesFiles o.held o.read_before o.read_now named stop → Causes o named stop
+-- files that are refused end the command so, with nothing printed and no connection closed
+pub Causes-files : (o : Outside) (named : Named) (stop : Stop) → Unasked o → RefusesFiles o.held o.read_before o.read_now named stop → Causes o named stop
 Causes-files o named (Shared Usage) same said = said
 Causes-files o named (Shared (Rules line column why)) same said = said
 Causes-files o named (Shared (ChangeLine line why)) same said = (same, said)
-Causes-files o named (Shared (PastLimit limit)) same said = (same, inl said)
+Causes-files o named (Shared (PastLimit limit)) same said = (same.0, inl (same.1, said))
 Causes-files o named (Shared (TooManyBuckets count)) same said = said
 Causes-files o named (Shared Claims) same said = said
 Causes-files o named (Shared Keys) same said = said
@@ -41,7 +41,7 @@ Causes-files o named (Shared (TooLong seen)) same said = (same, said)
 Causes-files o named (Shared (CannotRead name)) same said = (same, said.0, said.1)
 Causes-files o named (Shared CannotWrite) same said = absurd said
 Causes-files o named (Shared (Script line why)) same said = said
-Causes-files o named (Shared Memory) same said = same
+Causes-files o named (Shared Memory) same said = same.0
 Causes-files o named Token same said = (same, said)
 Causes-files o named ConnectionFailed same said = absurd said
 Causes-files o named NoCheckpoint same said = absurd said

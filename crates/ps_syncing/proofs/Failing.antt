@@ -1,6 +1,7 @@
 -- Connections that are closed one after another, and why what closes them fails.
 use Rattle.std.proofs.Common.{◌≡◌, ℕ, List, [], ◌∷◌, ◌++◌, Option, Some, None, Err, option_map, refl, sym, ap, subst, ◌∙◌, inl, inr, ◌⊎◌, append_assoc}
 use Rattle.std.proofs.lemmas.List.{append-nil}
+use Rattle.std.proofs.lemmas.List.Elements.{All-append, All-nil}
 use Rattle.ps_rows.specs.declared.changes.Change.{Change}
 use Rattle.ps_doors.specs.Connections.{Connection}
 use Rattle.ps_answers.specs.Numbers.{checkpoint_in, position_in}
@@ -10,7 +11,7 @@ use Rattle.ps_syncing.specs.declared.faults.SyncFault.TheVariants.{ConnectionFai
 use Rattle.ps_syncing.specs.declared.services.Service.{Service}
 use Rattle.ps_syncing.specs.Exchanges.{Answers, Exchange, Closes, ClosesOne, HasNoHead, exchanges_in}
 use Rattle.ps_syncing.specs.Numbers.{IsUnformed, Numbers, upload_of, number_of}
-use Rattle.ps_syncing.specs.Runs.{ClosesLast, ClosesRefused, FailsSo, IsLost, IsStreamWith}
+use Rattle.ps_syncing.specs.Runs.{AreShort, IsShort, ClosesLast, ClosesRefused, FailsSo, IsLost, IsStreamWith}
 use Rattle.ps_syncing.specs.Streams.{ClosesStream, EndsOpen, ExceedsLine, IsAltered, IsStreamRequest, Streams}
 
 -- ---- connections one after another
@@ -35,41 +36,43 @@ Closes-more a b c xs ys first next =
 
 -- ---- the last one
 
-last_later : (Holds : Exchange → Type 0) (a b c : Option (List Connection)) (xs : List Exchange) → Closes a b xs → ClosesLast b c Holds → ClosesLast a c Holds
-last_later Holds a b c xs first last = record {
+last_later : (Holds : Exchange → Type 0) (a b c : Option (List Connection)) (xs : List Exchange) → Closes a b xs → AreShort xs → ClosesLast b c Holds → ClosesLast a c Holds
+last_later Holds a b c xs first short last = record {
   exchanges = xs ++ last.exchanges;
   last = last.last;
   closed = subst (Closes a c) (sym (append_assoc xs last.exchanges (last.last ∷ []))) (Closes-more a b c xs (last.exchanges ++ last.last ∷ []) first last.closed);
+  earlier = All-append IsShort xs last.exchanges short last.earlier;
   holds = last.holds;
 }
 
-refused_later : (service : Service) (a b c : Option (List Connection)) (xs : List Exchange) → Closes a b xs → ClosesRefused service b c → ClosesRefused service a c
-refused_later service a b c xs first refused = record {
+refused_later : (service : Service) (a b c : Option (List Connection)) (xs : List Exchange) → Closes a b xs → AreShort xs → ClosesRefused service b c → ClosesRefused service a c
+refused_later service a b c xs first short refused = record {
   exchanges = xs ++ refused.exchanges;
   streams = refused.streams;
   was = refused.was;
   is = refused.is;
   closed = subst (Closes a c) (sym (append_assoc xs refused.exchanges refused.streams)) (Closes-more a b c xs (refused.exchanges ++ refused.streams) first refused.closed);
+  earlier = All-append IsShort xs refused.exchanges short refused.earlier;
   eight = refused.eight;
   each = refused.each;
 }
 
--- a fault keeps its cause where connections were closed before
-pub FailsSo-later : (service : Service) (a b c : Option (List Connection)) (xs : List Exchange) (fault : SyncFault) → Closes a b xs
+-- a fault keeps its cause where connections were closed before, none of them a stream with too long a line
+pub FailsSo-later : (service : Service) (a b c : Option (List Connection)) (xs : List Exchange) (fault : SyncFault) → Closes a b xs → AreShort xs
     → FailsSo service b c fault → FailsSo service a c fault
-FailsSo-later service a b c xs ConnectionFailed first fails = tt
-FailsSo-later service a b c xs NoCheckpoint first fails = last_later _ a b c xs first fails
-FailsSo-later service a b c xs (Answered status) first fails = last_later _ a b c xs first fails
-FailsSo-later service a b c xs Altered first (inl fails) = inl (last_later _ a b c xs first fails)
-FailsSo-later service a b c xs Altered first (inr fails) = inr (refused_later service a b c xs first fails)
-FailsSo-later service a b c xs (LineTooLong seen) first fails = last_later _ a b c xs first fails
-FailsSo-later service a b c xs Memory first fails = tt
+FailsSo-later service a b c xs ConnectionFailed first short fails = tt
+FailsSo-later service a b c xs NoCheckpoint first short fails = last_later _ a b c xs first short fails
+FailsSo-later service a b c xs (Answered status) first short fails = last_later _ a b c xs first short fails
+FailsSo-later service a b c xs Altered first short (inl fails) = inl (last_later _ a b c xs first short fails)
+FailsSo-later service a b c xs Altered first short (inr fails) = inr (refused_later service a b c xs first short fails)
+FailsSo-later service a b c xs (LineTooLong seen) first short fails = last_later _ a b c xs first short fails
+FailsSo-later service a b c xs Memory first short fails = tt
 
 -- ---- one exchange
 
 only : (Holds Last : Exchange → Type 0) (old new : Option (List Connection)) (request : List ℕ) → ((one : Exchange) → one.taken ≡ request → Holds one → Last one)
     → ClosesOne old new request Holds → ClosesLast old new Last
-only Holds Last old new request so (one, closed, asks, holds) = record { exchanges = []; last = one; closed = closed; holds = so one asks holds }
+only Holds Last old new request so (one, closed, asks, holds) = record { exchanges = []; last = one; closed = closed; earlier = All-nil IsShort; holds = so one asks holds }
 
 -- of an upload
 pub FailsSo-upload : (service : Service) (change : Change) (old new : Option (List Connection)) (fault : SyncFault)
@@ -107,7 +110,7 @@ pub FailsSo-stream : (service : Service) (client after : PlainClient) (old new :
 FailsSo-stream service client after old new ConnectionFailed said = tt
 FailsSo-stream service client after old new NoCheckpoint said =
     let lost = stream_only service client (λ was one. HasNoHead one ⊎ EndsOpen one was) old new said in
-    record { exchanges = lost.exchanges; last = lost.last; closed = lost.closed; holds = inr (inr lost.holds) }
+    record { exchanges = lost.exchanges; last = lost.last; closed = lost.closed; earlier = lost.earlier; holds = inr (inr lost.holds) }
 FailsSo-stream service client after old new (Answered status) said = only _ _ old new said.request (λ one asks holds. holds) said.closed
 FailsSo-stream service client after old new Altered said = inl (stream_only service client (λ was one. IsAltered one was) old new said)
 FailsSo-stream service client after old new (LineTooLong seen) said = stream_only service client (λ was one. ExceedsLine one was seen) old new said

@@ -1,9 +1,9 @@
 -- A stream that is under way, and each of its ends.
-use Rattle.std.proofs.Common.{◌≡◌, ◌≢◌, ℕ, List, [], ◌∷◌, ◌++◌, Option, Some, Result, Ok, Err, refl, sym, ap, subst, inl, inr, append_assoc}
+use Rattle.std.proofs.Common.{◌≡◌, ◌≢◌, ℕ, ◌≤◌, length, List, [], ◌∷◌, ◌++◌, Option, Some, Result, Ok, Err, refl, sym, ap, subst, inl, inr, append_assoc}
 use Rattle.std.proofs.lemmas.List.{append-nil, flat_map_more}
 use Rattle.ps_io.specs.Sources.{Input}
 use Rattle.ps_answers.specs.Givings.{HasGiven}
-use Rattle.ps_answers.specs.Lines.{lines_text, with_feed}
+use Rattle.ps_answers.specs.Lines.{line_limit, lines_text, with_feed}
 use Rattle.ps_answers.specs.Readers.{left_of}
 use Rattle.ps_client.specs.Clients.{PlainClient}
 use Rattle.ps_client.specs.declared.events.Event.{Event}
@@ -14,7 +14,7 @@ use Rattle.ps_syncing.specs.declared.streams.Ended.{Ended}
 use Rattle.ps_syncing.specs.declared.streams.Ended.TheVariants as ended
 use Rattle.ps_syncing.specs.Beginnings.{Begins, HasBegun}
 use Rattle.ps_syncing.specs.Exchanges.{Exchange, Sees, given_of, ended_of}
-use Rattle.ps_syncing.specs.Lines.{Comes, Flowing, TakesNext, Tells}
+use Rattle.ps_syncing.specs.Lines.{Comes, Flowing, LeavesFew, TakesNext, Tells}
 use Rattle.ps_syncing.proofs.Beginning.{ended_of-has}
 use Rattle.ps_syncing.specs.Streams.{no_lines, next_line, Flows, GoesOn, Streams}
 
@@ -30,6 +30,17 @@ more_lines : (a : List ℕ) (lines : List (List ℕ)) (line left : List ℕ)
     → ((a ++ lines_text lines) ++ with_feed line) ++ left ≡ (a ++ lines_text (lines ++ line ∷ [])) ++ left
 more_lines a lines line left = ap (λ v. v ++ left) (flat_map_more with_feed a lines line)
 
+-- ---- what is left
+
+pub LeavesFew-any : (left : List ℕ) (result : Result (Option Ended) SyncFault) → length left ≤ line_limit → LeavesFew left result
+LeavesFew-any left (Ok ended) few = few
+LeavesFew-any left (Err ConnectionFailed) few = few
+LeavesFew-any left (Err NoCheckpoint) few = few
+LeavesFew-any left (Err (Answered status)) few = few
+LeavesFew-any left (Err Altered) few = few
+LeavesFew-any left (Err (LineTooLong seen)) few = tt
+LeavesFew-any left (Err Memory) few = few
+
 -- ---- how it begins, and goes on
 
 pub Flowing-begun : (old now : Option Input) (begun : Begun) (client : PlainClient) → HasBegun old now begun → Flowing old now client client (left_of begun.reader)
@@ -41,6 +52,7 @@ Flowing-begun old now begun client has = record {
   is_head = has.is_head;
   status_is = has.status_is;
   passed = no_lines;
+  few = has.few;
 }
 
 -- the bytes before what is left
@@ -49,8 +61,8 @@ before_left {old} flows = given_of old ++ flows.front ++ lines_text flows.lines
 
 pub Flowing-next : (old mid new : Option Input) (was before after : PlainClient) (left left' line : List ℕ) (event : Event)
     → (flows : Flowing old mid was before left) → Comes new (given_of old ++ flows.front ++ lines_text flows.lines) left' line
-    → Tells before after line event → GoesOn event → Flowing old new was after left'
-Flowing-next old mid new was before after left left' line event flows comes tells goes = record {
+    → Tells before after line event → GoesOn event → length left' ≤ line_limit → Flowing old new was after left'
+Flowing-next old mid new was before after left left' line event flows comes tells goes few = record {
   head = flows.head;
   front = flows.front;
   lines = flows.lines ++ line ∷ [];
@@ -58,6 +70,7 @@ Flowing-next old mid new was before after left left' line event flows comes tell
   is_head = flows.is_head;
   status_is = flows.status_is;
   passed = next_line flows.lines line before after event flows.passed comes.whole tells goes;
+  few = few;
 }
 
 -- ---- how it ends
@@ -78,9 +91,9 @@ at_end old mid was before left flows input request behind = record {
 -- by a line that was taken
 pub Streams-ended : (old mid new : Option Input) (request : List ℕ) (was before after : PlainClient) (left left' : List ℕ)
     → (flows : Flowing old mid was before left) → (end : Ended)
-    → TakesNext new (given_of old ++ flows.front ++ lines_text flows.lines) left' before after (Ok (Some end))
+    → TakesNext new (given_of old ++ flows.front ++ lines_text flows.lines) left' before after (Ok (Some end)) → length left' ≤ line_limit
     → Streams (Sees old new request) was after (Ok end)
-Streams-ended old mid new request was before after left left' flows ended.Applied (line, comes, op, tells) = (
+Streams-ended old mid new request was before after left left' flows ended.Applied (line, comes, op, tells) few = (
   flows.front ++ (lines_text flows.lines ++ (with_feed line ++ left')),
   subst (HasGiven new) (ordered_line (given_of old) flows.front (lines_text flows.lines) (with_feed line) left') comes.given,
   (
@@ -91,11 +104,12 @@ Streams-ended old mid new request was before after left left' flows ended.Applie
       rest = left';
       flows = at_end old mid was before left flows new request (with_feed line ++ left');
       whole = comes.whole;
+      few = few;
       taken = tells;
     },
   ),
 )
-Streams-ended old mid new request was before after left left' flows ended.Refused (line, comes, buckets, tells) = (
+Streams-ended old mid new request was before after left left' flows ended.Refused (line, comes, buckets, tells) few = (
   flows.front ++ (lines_text flows.lines ++ (with_feed line ++ left')),
   subst (HasGiven new) (ordered_line (given_of old) flows.front (lines_text flows.lines) (with_feed line) left') comes.given,
   (
@@ -106,6 +120,7 @@ Streams-ended old mid new request was before after left left' flows ended.Refuse
       rest = left';
       flows = at_end old mid was before left flows new request (with_feed line ++ left');
       whole = comes.whole;
+      few = few;
       taken = tells;
     },
   ),
@@ -114,10 +129,10 @@ Streams-ended old mid new request was before after left left' flows ended.Refuse
 -- by a fault
 pub Streams-failed : (old mid new : Option Input) (request : List ℕ) (was before after : PlainClient) (left left' : List ℕ)
     → (flows : Flowing old mid was before left) → (fault : SyncFault)
-    → TakesNext new (given_of old ++ flows.front ++ lines_text flows.lines) left' before after (Err fault)
+    → TakesNext new (given_of old ++ flows.front ++ lines_text flows.lines) left' before after (Err fault) → LeavesFew left' (Err fault)
     → Streams (Sees old new request) was after (Err fault)
-Streams-failed old mid new request was before after left left' flows ConnectionFailed taken = tt
-Streams-failed old mid new request was before after left left' flows NoCheckpoint taken = (
+Streams-failed old mid new request was before after left left' flows ConnectionFailed taken few = tt
+Streams-failed old mid new request was before after left left' flows NoCheckpoint taken few = (
   flows.front ++ (lines_text flows.lines ++ left'),
   subst (HasGiven new) (ordered (given_of old) flows.front (lines_text flows.lines) left') taken.given,
   inr (record {
@@ -128,8 +143,8 @@ Streams-failed old mid new request was before after left left' flows NoCheckpoin
     ended = ended_of-has new taken.ended;
   }),
 )
-Streams-failed old mid new request was before after left left' flows (Answered status) taken = absurd taken
-Streams-failed old mid new request was before after left left' flows Altered (line, comes, fault, refused) = (
+Streams-failed old mid new request was before after left left' flows (Answered status) taken few = absurd taken
+Streams-failed old mid new request was before after left left' flows Altered (line, comes, fault, refused) few = (
   flows.front ++ (lines_text flows.lines ++ (with_feed line ++ left')),
   subst (HasGiven new) (ordered_line (given_of old) flows.front (lines_text flows.lines) (with_feed line) left') comes.given,
   record {
@@ -138,16 +153,17 @@ Streams-failed old mid new request was before after left left' flows Altered (li
     rest = left';
     flows = at_end old mid was before left flows new request (with_feed line ++ left');
     whole = comes.whole;
+    few = few;
     fault = fault;
     refused = refused;
   },
 )
-Streams-failed old mid new request was before after left left' flows (LineTooLong seen) (bytes, given, long) = (
+Streams-failed old mid new request was before after left left' flows (LineTooLong seen) (bytes, given, long) few = (
   flows.front ++ (lines_text flows.lines ++ bytes),
   subst (HasGiven new) (ordered (given_of old) flows.front (lines_text flows.lines) bytes) given,
   record { now = before; behind = bytes; flows = at_end old mid was before left flows new request bytes; long = long },
 )
-Streams-failed old mid new request was before after left left' flows Memory taken = tt
+Streams-failed old mid new request was before after left left' flows Memory taken few = tt
 
 -- ---- where only more is known of the exchange
 

@@ -7,6 +7,7 @@ pub mod Failing
 pub mod Flows
 pub mod Hearing
 pub mod LoadedFiles
+pub mod LongLines
 pub mod ReadingLines
 pub mod ReadingWords
 pub mod Settling

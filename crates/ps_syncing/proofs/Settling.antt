@@ -130,7 +130,7 @@ of_files : (o : Outside) (named : Named) (stop : Stop) â†’ NotPrepared o named â
 of_files o named (Shared Usage) none causes = causes
 of_files o named (Shared (Rules line column why)) none causes = causes
 of_files o named (Shared (ChangeLine line why)) none causes = causes.1
-of_files o named (Shared (PastLimit limit)) none (unprinted, inl refuses) = refuses
+of_files o named (Shared (PastLimit limit)) none (unprinted, inl (unasked, refuses)) = refuses
 of_files o named (Shared (PastLimit limit)) none (unprinted, inr (seen, is, failed)) = absurd (not_failed o named _ none failed)
 of_files o named (Shared (TooManyBuckets count)) none causes = causes
 of_files o named (Shared Claims) none causes = causes

@@ -1,8 +1,9 @@
 -- An answer whose head was taken.
-use Rattle.std.specs.Prelude.{◌≡◌, ℕ, List, ◌++◌, Option, Result, Ok, Err}
+use Rattle.std.specs.Prelude.{◌≡◌, ℕ, ◌≤◌, List, ◌++◌, length, Option, Result, Ok, Err}
 use Rattle.ps_io.specs.Sources.{Input}
 use Rattle.ps_answers.specs.Givings.{HasGiven}
 use Rattle.ps_answers.specs.Heads.{IsAnswerHead}
+use Rattle.ps_answers.specs.Lines.{line_limit}
 use Rattle.ps_answers.specs.Readers.{left_of}
 use Rattle.ps_answers.specs.declared.heads.AnswerHead.{AnswerHead}
 use Rattle.ps_syncing.specs.declared.faults.SyncFault.{SyncFault}
@@ -10,7 +11,7 @@ use Rattle.ps_syncing.specs.declared.faults.SyncFault.TheVariants.{ConnectionFai
 use Rattle.ps_syncing.specs.declared.exchanges.Begun.{Begun}
 use Rattle.ps_syncing.specs.Exchanges.{given_of, Sees, HasNoHead, IsRefused}
 
--- since it was so, the source handed out a head of status 200, and what is left
+-- since it was so, the source handed out a head of status 200, and what is left, which is no more than a line may have
 pub record HasBegun (old new : Option Input) (begun : Begun) : Type 0 where
   pub head : AnswerHead
   pub front : List ℕ
@@ -18,6 +19,7 @@ pub record HasBegun (old new : Option Input) (begun : Begun) : Type 0 where
   pub is_head : IsAnswerHead front head
   pub status_is : head.status ≡ 200
   pub states : head.length ≡ begun.length
+  pub few : length (left_of begun.reader) ≤ line_limit
 
 -- what a request's answer begins with
 abbrev pub Begins : Option Input → Option Input → List ℕ → Result Begun SyncFault → Type 0

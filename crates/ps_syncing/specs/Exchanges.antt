@@ -6,6 +6,7 @@ use Rattle.ps_doors.specs.Connections.{Connection}
 use Rattle.ps_http.specs.Heads.{head_limit}
 use Rattle.ps_answers.specs.Givings.{HasGiven}
 use Rattle.ps_answers.specs.Heads.{IsAnswerHead, IsBadHead, front_of}
+use Rattle.ps_answers.specs.Lines.{line_limit}
 use Rattle.ps_answers.specs.Readers.{part_of}
 use Rattle.ps_answers.specs.declared.buffers.Reader.{Reader}
 use Rattle.ps_answers.specs.declared.heads.AnswerHead.{AnswerHead}
@@ -66,17 +67,19 @@ pub record IsAnswered (one : Exchange) (body : List ℕ) : Type 0 where
   pub rest : List ℕ
   pub headed : HasHead one.given 200 (Some (length body)) (body ++ rest)
 
--- the answer's status is this one, another than 200
+-- the answer's status is this one, another than 200, and no more came behind its head than a line may have
 pub record IsRefused (one : Exchange) (status : ℕ) : Type 0 where
   pub states : Option ℕ
   pub behind : List ℕ
   pub headed : HasHead one.given status states behind
   pub other : status ≢ 200
+  pub few : length behind ≤ line_limit
 
--- what came begins with no head of an answer
-abbrev pub HasNoHead : Exchange → Type 0
-HasNoHead one = IsBadHead (front_of one.given)
-    ⊎ (HasNoResponse (front_of one.given) × ((head_limit ≤ length one.given) ⊎ (one.ended ≡ true)))
+-- what came begins with no head of an answer, and is no more than a line may have
+pub record HasNoHead (one : Exchange) : Type 0 where
+  pub begins : IsBadHead (front_of one.given)
+      ⊎ (HasNoResponse (front_of one.given) × ((head_limit ≤ length one.given) ⊎ (one.ended ≡ true)))
+  pub few : length one.given ≤ line_limit
 
 -- no length is stated, or the input ended before there were so many bytes
 abbrev pub LacksBody : Option ℕ → List ℕ → Bool → Type 0

@@ -1,7 +1,9 @@
 -- Each status of `sync`, with its cause.
 use Rattle.std.specs.Prelude.{◌≡◌, ◌≢◌, ◌⊎◌, ℕ, List, Some, None}
+use Rattle.std.specs.List.{Contains}
 use Rattle.ps_io.specs.Contents.{Contents}
 use Rattle.ps_io.specs.Counts.{Rose}
+use Rattle.ps_doors.specs.Connections.{Connection}
 use Rattle.ps_files.specs.FaultTexts.{Tells, fault_line}
 use Rattle.ps_files.specs.Saying.{Told}
 use Rattle.ps_files.specs.declared.faults.Fault.{Fault}
@@ -12,6 +14,8 @@ use Rattle.ps_syncing.specs.declared.faults.SyncFault.TheVariants.{NoCheckpoint,
 use Rattle.ps_syncing.specs.declared.stops.Stop.{Stop}
 use Rattle.ps_syncing.specs.declared.stops.Stop.TheVariants.{Shared}
 use Rattle.ps_syncing.specs.declared.words.Named.{Named}
+use Rattle.ps_syncing.specs.Exchanges.{Closes, Exchange}
+use Rattle.ps_syncing.specs.Runs.{IsLongStream}
 use Rattle.ps_syncing.specs.Saying.{answered_line}
 use Rattle.ps_syncing.specs.Syncing.{Causes, EndsSo, ExceedsFile, ExceedsLimit, FailsToPrint, HasDone, IsFailed, IsNext, Outside, RefusesToken, RefusesUpload}
 use Rattle.ps_syncing.specs.Words.{sync_of}
@@ -102,6 +106,24 @@ FourForNoToken = EndsWhere 4 (λ o named. RefusesToken o.held named)
 -- 5: where a file that comes next is longer than a file may be, or the first line that is refused is longer than a line may be
 abbrev pub FiveForALength : Type 0
 FiveForALength = EndsWhere 5 (λ o named. ((seen : ℕ) × ExceedsFile o.held named seen) ⊎ ((limit : Limit) × RefusesUpload o.held named (PastLimit limit)))
+
+-- the link tells which connections were closed, and among those that were closed besides is a stream with too long a line
+pub record HasLongStream (o : Outside) : Type 0 where
+  pub before : List Connection
+  pub told : o.closed_before ≡ Some before
+  pub exchanges : List Exchange
+  pub closed : Closes o.closed_before o.closed_now exchanges
+  pub one : Exchange
+  pub among : Contains exchanges one
+  pub long : IsLongStream one
+
+-- it ends with 5; or the faults of the link, which count those of its connections, or of the keeper rose, or it was out of memory
+abbrev pub EndsAtFive : Outside → ℕ → Type 0
+EndsAtFive o status = (status ≡ 5) ⊎ (((status ≡ 10) × (Rose o.link_before o.link_now ⊎ Rose o.keep_before o.keep_now)) ⊎ (status ≡ 8))
+
+-- 5: where a line of a stream is longer than a line may be
+abbrev pub FiveForALongLine : Type 0
+FiveForALongLine = (o : Outside) (words : List (List ℕ)) (e : Told) (status : ℕ) → HasLongStream o → EndsSo o words e status → EndsAtFive o status
 
 -- nothing but out of memory could have ended it before all was done
 abbrev pub HasNoCause : Outside → Named → Type 0

@@ -1,10 +1,10 @@
 -- One line of a stream that is under way.
-use Rattle.std.specs.Prelude.{◌≡◌, ℕ, List, ◌++◌, Option, Some, None, Result, Ok, Err}
+use Rattle.std.specs.Prelude.{◌≡◌, ℕ, ◌≤◌, length, List, ◌++◌, Option, Some, None, Result, Ok, Err}
 use Rattle.ps_data.specs.declared.ids.OpId.{OpId}
 use Rattle.ps_io.specs.Sources.{Input}
 use Rattle.ps_answers.specs.Givings.{HasGiven, HasEnded}
 use Rattle.ps_answers.specs.Heads.{IsAnswerHead}
-use Rattle.ps_answers.specs.Lines.{HasNoFeed, lines_text, with_feed}
+use Rattle.ps_answers.specs.Lines.{FitsLine, line_limit, lines_text, with_feed}
 use Rattle.ps_answers.specs.Readers.{GivesTooLong}
 use Rattle.ps_answers.specs.declared.heads.AnswerHead.{AnswerHead}
 use Rattle.ps_client.specs.Clients.{PlainClient, line_taken}
@@ -43,15 +43,15 @@ HearsPart old new line (Ok None) = Heeds old new line
 HearsPart old new line (Ok (Some ended)) = new ≡ old
 HearsPart old new line (Err fault) = new ≡ old
 
--- a line came behind what came before, and these bytes are left behind it
+-- a line within its limit came behind what came before, and these bytes are left behind it
 pub record Comes (input : Option Input) (before left line : List ℕ) : Type 0 where
   pub given : HasGiven input (before ++ with_feed line ++ left)
-  pub whole : HasNoFeed line
+  pub whole : FitsLine line
 
--- no line came any more
+-- no line came any more, and what is left is less than one
 pub record ComesNone (input : Option Input) (before left : List ℕ) : Type 0 where
   pub given : HasGiven input (before ++ left)
-  pub whole : HasNoFeed left
+  pub whole : FitsLine left
   pub ended : HasEnded input
 
 -- the next line came and was taken, or none came, or it is too long
@@ -70,7 +70,17 @@ TakesNext input before left old new (Err Altered) =
 TakesNext input before left old new (Err (LineTooLong seen)) = GivesTooLong input before seen
 TakesNext input before left old new (Err Memory) = Unit {0}
 
--- since it was so, a source handed out a head of status 200 and lines that the client took, and these bytes are left behind them
+-- no more is left than a line may have, unless one is too long
+abbrev pub LeavesFew : List ℕ → Result (Option Ended) SyncFault → Type 0
+LeavesFew left (Ok ended) = length left ≤ line_limit
+LeavesFew left (Err ConnectionFailed) = length left ≤ line_limit
+LeavesFew left (Err NoCheckpoint) = length left ≤ line_limit
+LeavesFew left (Err (Answered status)) = length left ≤ line_limit
+LeavesFew left (Err Altered) = length left ≤ line_limit
+LeavesFew left (Err (LineTooLong seen)) = Unit {0}
+LeavesFew left (Err Memory) = length left ≤ line_limit
+
+-- since it was so, a source handed out a head of status 200 and lines that the client took, and these bytes are left behind them, no more than a line may have
 pub record Flowing (old now : Option Input) (was is : PlainClient) (left : List ℕ) : Type 0 where
   pub head : AnswerHead
   pub front : List ℕ
@@ -79,3 +89,4 @@ pub record Flowing (old now : Option Input) (was is : PlainClient) (left : List 
   pub is_head : IsAnswerHead front head
   pub status_is : head.status ≡ 200
   pub passed : Passes was lines is
+  pub few : length left ≤ line_limit

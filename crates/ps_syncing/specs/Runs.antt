@@ -1,10 +1,13 @@
 -- What `sync` does over the connections that it closes, and why it fails.
 use Rattle.std.specs.Prelude.{◌≡◌, ◌⊎◌, ℕ, ◌<◌, Bool, true, false, List, [], ◌∷◌, ◌++◌, length, Option}
+use Rattle.std.specs.List.{All}
 use Rattle.ps_rows.specs.Source.{Key as Object}
 use Rattle.ps_rows.specs.declared.changes.Change.{Change}
 use Rattle.ps_rows.specs.declared.shown.Shown.{Shown}
 use Rattle.ps_doors.specs.Connections.{Connection}
+use Rattle.ps_answers.specs.Lines.{HoldsLongLine}
 use Rattle.ps_answers.specs.Numbers.{checkpoint_in, position_in}
+use Rattle.ps_answers.specs.Requests.{stream_text}
 use Rattle.ps_client_log.specs.Kept.{Kept}
 use Rattle.ps_client_log.specs.Rows.{AreInOrder, row_at}
 use Rattle.ps_client.specs.Clients.{PlainClient, asked, is_pending}
@@ -89,13 +92,31 @@ pub record AreShown (client : PlainClient) (rows : List Shown) : Type 0 where
   pub in_order : AreInOrder rows
   pub same : (object : Object) → row_at object rows ≡ client.kept.shown object.0 object.1
 
+-- ---- lines that are too long
+
+-- the request is that of a stream, and in what came stands a line, or some of one, that is longer than a line may be
+pub record IsLongStream (one : Exchange) : Type 0 where
+  pub address : List ℕ
+  pub token : List ℕ
+  pub body : List ℕ
+  pub asks : one.taken ≡ stream_text address token body
+  pub long : HoldsLongLine one.given
+
+-- it is no such stream; none of them is
+abbrev pub IsShort : Exchange → Type 0
+IsShort one = IsLongStream one → ⊥
+
+abbrev pub AreShort : List Exchange → Type 0
+AreShort exchanges = All IsShort exchanges
+
 -- ---- why it fails
 
--- the last connection that was closed has this
+-- the last connection that was closed has this, and of those before it none is a stream with too long a line
 pub record ClosesLast (old new : Option (List Connection)) (Holds : Exchange → Type 0) : Type 0 where
   pub exchanges : List Exchange
   pub last : Exchange
   pub closed : Closes old new (exchanges ++ last ∷ [])
+  pub earlier : AreShort exchanges
   pub holds : Holds last
 
 -- an upload, or the request for a write checkpoint, was answered in another form
@@ -121,13 +142,14 @@ IsLostStream service one = IsStreamWith service (λ client exchange. HasNoHead e
 abbrev pub IsLost : Service → Exchange → Type 0
 IsLost service one = IsLostUpload service one ⊎ (IsLostNumber service one ⊎ IsLostStream service one)
 
--- the last eight connections that were closed are streams that were refused
+-- the last eight connections that were closed are streams that were refused, and of those before them none is a stream with too long a line
 pub record ClosesRefused (service : Service) (old new : Option (List Connection)) : Type 0 where
   pub exchanges : List Exchange
   pub streams : List Exchange
   pub was : PlainClient
   pub is : PlainClient
   pub closed : Closes old new (exchanges ++ streams)
+  pub earlier : AreShort exchanges
   pub eight : length streams ≡ most_streams
   pub each : AreRefused service was streams is
 

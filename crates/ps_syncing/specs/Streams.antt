@@ -1,8 +1,8 @@
 -- A stream's exchange: the lines that came, and what the client made of each.
-use Rattle.std.specs.Prelude.{◌≡◌, ◌⊎◌, ℕ, true, List, [], ◌∷◌, ◌++◌, Option, Result, Ok, Err}
+use Rattle.std.specs.Prelude.{◌≡◌, ◌⊎◌, ℕ, ◌≤◌, length, true, List, [], ◌∷◌, ◌++◌, Option, Result, Ok, Err}
 use Rattle.ps_data.specs.declared.ids.OpId.{OpId}
 use Rattle.ps_answers.specs.Heads.{IsAnswerHead}
-use Rattle.ps_answers.specs.Lines.{HasNoFeed, lines_text, with_feed}
+use Rattle.ps_answers.specs.Lines.{FitsLine, line_limit, lines_text, with_feed}
 use Rattle.ps_answers.specs.Readers.{BeginsTooLong}
 use Rattle.ps_answers.specs.Requests.{stream_text}
 use Rattle.ps_answers.specs.declared.heads.AnswerHead.{AnswerHead}
@@ -33,10 +33,10 @@ GoesOn (Held why) = Unit {0}
 GoesOn (Refused buckets) = ⊥
 GoesOn (Expiring seconds) = Unit {0}
 
--- the client took these lines, one after another, and after each the stream went on
+-- the client took these lines, each within its limit, one after another, and after each the stream went on
 pub data Passes (old : PlainClient) : List (List ℕ) → PlainClient → Type 0 where
   no_lines : Passes old [] old
-  next_line : (lines : List (List ℕ)) (line : List ℕ) (before after : PlainClient) (event : Event) → Passes old lines before → HasNoFeed line
+  next_line : (lines : List (List ℕ)) (line : List ℕ) (before after : PlainClient) (event : Event) → Passes old lines before → FitsLine line
       → IsTaken (line_taken before line) before.kept event after → GoesOn event → Passes old (lines ++ line ∷ []) after
 
 -- the answer's status is 200, the client took the lines behind its head, and these bytes stand behind them
@@ -49,13 +49,14 @@ pub record Flows (one : Exchange) (old now : PlainClient) (behind : List ℕ) : 
   pub status_is : head.status ≡ 200
   pub passed : Passes old lines now
 
--- the line that came then led to this event
+-- the line that came then led to this event; no more came behind it than a line may have
 pub record EndsBy (one : Exchange) (old : PlainClient) (event : Event) (new : PlainClient) : Type 0 where
   pub before : PlainClient
   pub line : List ℕ
   pub rest : List ℕ
   pub flows : Flows one old before (with_feed line ++ rest)
-  pub whole : HasNoFeed line
+  pub whole : FitsLine line
+  pub few : length rest ≤ line_limit
   pub taken : IsTaken (line_taken before line) before.kept event new
 
 -- a checkpoint was applied; one was refused
@@ -65,21 +66,22 @@ EndsApplied one old new = (op : OpId) × EndsBy one old (Applied op) new
 abbrev pub EndsRefused : Exchange → PlainClient → PlainClient → Type 0
 EndsRefused one old new = (buckets : List Differing) × EndsBy one old (Refused buckets) new
 
--- the input ended, and none was
+-- the input ended, and none was; what came behind the lines is less than one
 pub record EndsOpen (one : Exchange) (old : PlainClient) : Type 0 where
   pub now : PlainClient
   pub behind : List ℕ
   pub flows : Flows one old now behind
-  pub no_line : HasNoFeed behind
+  pub no_line : FitsLine behind
   pub ended : one.ended ≡ true
 
--- the line that came then is none, or it does not come next
+-- the line that came then is none, or it does not come next; no more came behind it than a line may have
 pub record IsAltered (one : Exchange) (old : PlainClient) : Type 0 where
   pub before : PlainClient
   pub line : List ℕ
   pub rest : List ℕ
   pub flows : Flows one old before (with_feed line ++ rest)
-  pub whole : HasNoFeed line
+  pub whole : FitsLine line
+  pub few : length rest ≤ line_limit
   pub fault : ClientFault
   pub refused : (line_taken before line).answer ≡ Err fault
 

@@ -153,10 +153,14 @@ pub record IsFailed (o : Outside) (named : Named) (fault : SyncFault) : Type 0 w
 abbrev pub Unprinted : Outside → Type 0
 Unprinted o = o.taken_now ≡ o.taken_before
 
--- a line is longer than a line may be: one of the file to upload, or one of a stream
+-- nothing was printed, and no connection was closed
+abbrev pub Unasked : Outside → Type 0
+Unasked o = Unprinted o × (o.closed_now ≡ o.closed_before)
+
+-- a line is longer than a line may be: one of the file to upload, before any connection was closed, or one of a stream
 abbrev pub ExceedsLimit : Outside → Named → Limit → Type 0
 ExceedsLimit o named limit =
-    RefusesUpload o.held named (PastLimit limit) ⊎ ((seen : ℕ) × (limit ≡ LineBytes seen) × IsFailed o named (sync.LineTooLong seen))
+    ((o.closed_now ≡ o.closed_before) × RefusesUpload o.held named (PastLimit limit)) ⊎ ((seen : ℕ) × (limit ≡ LineBytes seen) × IsFailed o named (sync.LineTooLong seen))
 
 -- the output took a front of the rows, and its count of faults rose
 abbrev pub FailsToPrint : Outside → Named → Type 0
@@ -166,20 +170,20 @@ FailsToPrint o named = (text : List ℕ) × IsDone o named text × GainsFront o.
 abbrev pub CausesShared : Outside → Named → Fault → Type 0
 CausesShared o named Usage = ⊥
 CausesShared o named (Rules line column why) = ⊥
-CausesShared o named (ChangeLine line why) = Unprinted o × RefusesUpload o.held named (ChangeLine line why)
+CausesShared o named (ChangeLine line why) = Unasked o × RefusesUpload o.held named (ChangeLine line why)
 CausesShared o named (PastLimit limit) = Unprinted o × ExceedsLimit o named limit
 CausesShared o named (TooManyBuckets count) = ⊥
 CausesShared o named Claims = ⊥
 CausesShared o named Keys = ⊥
-CausesShared o named (TooLong seen) = Unprinted o × ExceedsFile o.held named seen
-CausesShared o named (CannotRead name) = Unprinted o × IsNext o.held named name.now × Rose o.read_before o.read_now
+CausesShared o named (TooLong seen) = Unasked o × ExceedsFile o.held named seen
+CausesShared o named (CannotRead name) = Unasked o × IsNext o.held named name.now × Rose o.read_before o.read_now
 CausesShared o named CannotWrite = FailsToPrint o named
 CausesShared o named (Script line why) = ⊥
 CausesShared o named Memory = Unprinted o
 
 abbrev pub Causes : Outside → Named → Stop → Type 0
 Causes o named (Shared fault) = CausesShared o named fault
-Causes o named Token = Unprinted o × RefusesToken o.held named
+Causes o named Token = Unasked o × RefusesToken o.held named
 Causes o named ConnectionFailed =
     Unprinted o × IsFailed o named sync.ConnectionFailed × (Rose o.link_before o.link_now ⊎ Rose o.keep_before o.keep_now)
 Causes o named NoCheckpoint = Unprinted o × IsFailed o named sync.NoCheckpoint
@@ -198,7 +202,7 @@ IsCaused o words stop = (named : Named) × (sync_of words ≡ Some named) × Cau
 
 -- why `sync` did not do what it was asked: its words, what they name, or it was out of memory
 abbrev pub StopsBy : Outside → List (List ℕ) → Stop → Type 0
-StopsBy o words stop = (Unprinted o × RefusesWords words stop) ⊎ (IsCaused o words stop ⊎ (Unprinted o × (stop ≡ Shared Memory)))
+StopsBy o words stop = (Unasked o × RefusesWords words stop) ⊎ (IsCaused o words stop ⊎ (Unprinted o × (stop ≡ Shared Memory)))
 
 -- all was done, and the output took the rows
 pub record HasDone (o : Outside) (words : List (List ℕ)) : Type 0 where

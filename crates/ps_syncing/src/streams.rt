@@ -1,17 +1,18 @@
 //! Streams: one, whose lines a client takes until a checkpoint is applied or refused.
 
-ghost use Rattle.std.specs.Prelude.{◌≡◌, ◌≢◌, ◌⊎◌, ◌<◌, ◌≤◌, ◌+◌, ◌++◌, ℕ, List, Option, Err, IfOk, OnOk, is_some};
+ghost use Rattle.std.specs.Prelude.{◌≡◌, ◌≢◌, ◌⊎◌, ◌<◌, ◌≤◌, ◌+◌, ◌++◌, ℕ, List, Option, Err, IfOk, OnOk, is_some, length};
 ghost use Rattle.ps_io.specs.Contents.{Gains};
 ghost use Rattle.ps_io.specs.Counts.{Rose};
 ghost use Rattle.ps_io.specs.Sources.{Input};
 ghost use Rattle.ps_answers.specs.Givings.{HasGiven};
+ghost use Rattle.ps_answers.specs.Lines.{line_limit};
 ghost use Rattle.ps_answers.specs.Readers.{left_of};
 ghost use Rattle.ps_client.specs.Clients.{asked};
 ghost use Rattle.ps_client.specs.States.{keeper_of, name_of, state};
 ghost use Rattle.ps_syncing.specs.Beginnings.{HasBegun};
 ghost use Rattle.ps_syncing.specs.Exchanges.{ClosesOne, Sees};
 ghost use Rattle.ps_progress.specs.Meters.{Hears};
-ghost use Rattle.ps_syncing.specs.Lines.{HearsPart, TakesNext, TakesPart};
+ghost use Rattle.ps_syncing.specs.Lines.{HearsPart, LeavesFew, TakesNext, TakesPart};
 ghost use Rattle.ps_syncing.specs.Streams.{ClosesStream, IsStreamRequest, Streams};
 
 use crate::client_faults::of_line;
@@ -74,6 +75,7 @@ fn take_next<S: Source, P: Keeper, G: Sink>(
 ) -> Result<Option<Ended>, SyncFault>
     ensures taken { (before : List ℕ) → HasGiven (S.input from.old) (before ++ left_of reader.old)
         → TakesNext (S.input from.new) before (left_of reader.new) (state client.old) (state client.new) result }
+    ensures ahead { length (left_of reader.old) ≤ line_limit → LeavesFew (left_of reader.new) result }
     ensures told { is_some (S.input from.new) ≡ is_some (S.input from.old) }
     ensures heard { Hears meter.old meter.new }
     ensures name { name_of client.new ≡ name_of client.old }

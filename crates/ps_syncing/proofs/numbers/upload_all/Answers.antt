@@ -1,6 +1,7 @@
 use Rattle.std.proofs.Common.{◌∙◌, refl, arith}
 use Rattle.ps_client.specs.States.{state}
 use Rattle.ps_syncing.proofs.Failing.{FailsSo-later}
+use Rattle.ps_syncing.proofs.LongLines.{short_uploads}
 use Rattle.ps_syncing.proofs.Stepping.{UploadsSome-none, UploadsSome-more}
 use Rattle.ps_syncing.proofs.numbers.upload_all.Goals as goal
 
@@ -28,4 +29,5 @@ uploads-preserved g c =
 pub returns-in-Err-clause-fails : goal.returns-in-Err-clause-fails
 returns-in-Err-clause-fails g c =
     FailsSo-later c.args.service.now (g.L.Link.closed c.args.link.now) (g.L.Link.closed c.uploads.link) (g.L.Link.closed c.upload_one.new.link)
-    c.uploads.invariant.some.exchanges c.in-Err.fault c.uploads.invariant.some.closed c.in-Err.ensures.fails
+    c.uploads.invariant.some.exchanges c.in-Err.fault c.uploads.invariant.some.closed
+    (short_uploads c.args.service.now c.uploads.invariant.some.sent c.uploads.invariant.some.exchanges c.uploads.invariant.some.each) c.in-Err.ensures.fails

@@ -2,8 +2,10 @@ use Rattle.std.proofs.Common.{◌≡◌, ◌∙◌, ◌+◌, ◌<◌, ◌++◌, 
 use Rattle.ps_client.specs.Clients.{asked}
 use Rattle.ps_client.specs.States.{state}
 use Rattle.ps_progress.specs.Meters.{nothing}
-use Rattle.ps_syncing.specs.Runs.{most_streams, next, none}
+use Rattle.std.proofs.lemmas.List.Elements.{All-nil}
+use Rattle.ps_syncing.specs.Runs.{IsShort, most_streams, next, none}
 use Rattle.ps_syncing.specs.Streams.{EndsApplied, EndsRefused}
+use Rattle.ps_syncing.proofs.LongLines.{short_refused}
 use Rattle.ps_syncing.proofs.Failing.{Closes-none, Closes-more, FailsSo-later, FailsSo-stream}
 use Rattle.ps_syncing.proofs.Hearing.{hears_more}
 use Rattle.ps_syncing.proofs.Stepping.{stream_one}
@@ -66,7 +68,7 @@ pub returns-in-Err-clause-fails : goal.returns-in-Err-clause-fails
 returns-in-Err-clause-fails g c =
     let service = c.args.service.now in
     let so_far = c.streams.invariant.refused in
-    FailsSo-later service (g.L.Link.closed c.args.link.now) (g.L.Link.closed c.streams.link) (g.L.Link.closed c.stream.new.link) so_far.0 c.in-Err.fault so_far.1
+    FailsSo-later service (g.L.Link.closed c.args.link.now) (g.L.Link.closed c.streams.link) (g.L.Link.closed c.stream.new.link) so_far.0 c.in-Err.fault so_far.1 (short_refused so_far.3)
     (FailsSo-stream service (state c.streams.client) (state c.stream.new.client) (g.L.Link.closed c.streams.link) (g.L.Link.closed c.stream.new.link) c.in-Err.fault c.in-Err.ensures.streams)
 
 pub returns-clause-fails : goal.returns-clause-fails
@@ -79,6 +81,7 @@ returns-clause-fails g c =
       was = state c.args.client.now;
       is = state c.streams.client;
       closed = so_far.1;
+      earlier = All-nil IsShort;
       eight = eight;
       each = so_far.3;
     })

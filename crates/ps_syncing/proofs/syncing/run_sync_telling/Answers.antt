@@ -23,7 +23,7 @@ returns-in-Err-prepare-clause-ends g c =
       write_now = g.K.Sink.faults c.args.out.now;
     } in
     let is : sync_of c.args.words.now ≡ Some c.in-Ok-Some.named = sym c.in-Ok-Some.ensures ∙ c.in-Ok-Some.field-0-is in
-    inr (c.in-Err-prepare.stop, inr (inl (c.in-Ok-Some.named, is, Causes-files o c.in-Ok-Some.named c.in-Err-prepare.stop refl c.in-Err-prepare.ensures.refuses)), c.say_stop.ensures)
+    inr (c.in-Err-prepare.stop, inr (inl (c.in-Ok-Some.named, is, Causes-files o c.in-Ok-Some.named c.in-Err-prepare.stop (refl, refl) c.in-Err-prepare.ensures.refuses)), c.say_stop.ensures)
 
 pub returns-in-Ok-print-clause-ends : goal.returns-in-Ok-print-clause-ends
 returns-in-Ok-print-clause-ends g c =

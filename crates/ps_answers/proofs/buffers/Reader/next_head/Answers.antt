@@ -6,7 +6,7 @@ use Rattle.ps_answers.proofs.Answering.{TakesHead-whole, front_fits}
 use Rattle.ps_answers.proofs.buffers.Reader.next_head.Goals as goal
 
 pub parts-init : goal.parts-init
-parts-init g c = record { given = λ before given. given; told = refl; faults = refl; number = refl }
+parts-init g c = record { given = λ before given. given; told = refl; faults = refl; number = refl; ahead = λ few. few }
 
 pub parts-preserved : goal.parts-preserved
 parts-preserved g c = record {
@@ -14,6 +14,7 @@ parts-preserved g c = record {
   told = c.in-Ok.ensures.told ∙ c.parts.invariant.told;
   faults = c.in-Ok.ensures.quiet (λ is. cc) ∙ c.parts.invariant.faults;
   number = c.in-Ok.ensures.number ∙ c.parts.invariant.number;
+  ahead = λ few. omega (arith, c.in-Ok.ensures.grows.1, c.in-Ok.ensures.few, c.left.ensures, c.if-left-ge-HEAD_LIMIT.false);
 }
 
 pub cut-requires : goal.cut-requires

@@ -1,5 +1,5 @@
 -- The bytes that were looked at have no feed.
-use Rattle.std.proofs.Common.{◌≡◌, ◌≤◌, ◌-◌, ◌++◌, ℕ, List, length, take, is_some}
+use Rattle.std.proofs.Common.{◌≡◌, ◌≤◌, ◌+◌, ◌-◌, ◌++◌, ℕ, List, length, take, is_some}
 use Rattle.ps_answers.specs.Givings.{HasGiven}
 use Rattle.ps_answers.specs.Lines.{HasNoFeed}
 use Rattle.ps_answers.specs.Readers.{left_of}
@@ -13,6 +13,7 @@ invariant-parts g l = record {
   number : g.S.Source.number l.from ≡ g.S.Source.number l.initial.from;
   within : l.looked ≤ length (left_of l.self);
   clean : HasNoFeed (take l.looked (left_of l.self));
+  ahead : length (left_of l.initial.self) ≤ 268435456 → length (left_of l.self) ≤ l.looked + 268435456;
 }
 
 -- how many bytes more a line may have
