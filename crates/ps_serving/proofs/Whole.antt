@@ -62,7 +62,7 @@ module _ (tells : LedgersTellHistories) (generation : LedgersTellOneGeneration) 
   Run = HasRun (fixed_by inputs) start doors doors'
 
   abbrev Alone : Type 0
-  Alone = IsFedAlone may_give said files files' doors doors' out out'
+  Alone = IsFedAlone said doors doors'
 
   fed_first : fed_in start ≡ inputs.transactions.items
   fed_first = fed_opening said.until_drained inputs.transactions.items

@@ -151,11 +151,11 @@ opening_by words inputs = opening words.until_drained inputs.transactions.items
 abbrev pub limit_passed_by : Inputs → Option Limit
 limit_passed_by inputs = first_passed inputs.rules.definitions [] (timed inputs.transactions.items)
 
-module _ (may_give : ℕ → Type 0) (said : ServeWords) (files files' : FilesAt) (doors doors' : DoorsAt) (out out' : SinkAt) where
-  -- the change file alone is fed: the feed was closed behind it, or there was no connection that could feed more
-  abbrev pub IsFedAlone : Type 0
-  IsFedAlone = (said.until_drained ≡ true) ⊎ (doors'.opened ≡ doors.opened)
+-- the change file alone is fed: the feed was closed behind it, or there was no connection that could feed more
+abbrev pub IsFedAlone : ServeWords → DoorsAt → DoorsAt → Type 0
+IsFedAlone said doors doors' = (said.until_drained ≡ true) ⊎ (doors'.opened ≡ doors.opened)
 
+module _ (may_give : ℕ → Type 0) (said : ServeWords) (files files' : FilesAt) (doors doors' : DoorsAt) (out out' : SinkAt) where
   -- there is one history, of the rules of the rules file under the usual limits, which the store stood for at the end. It begins with the Feeds of the change
   -- file, and with a Close behind them in drained mode. As many connections were closed as were handed out, each answered over this history from there on, under
   -- the keys of the key file, and none ended for out of memory; no further one is to come, or as many as were wanted were handed out. No change of the change file passes
@@ -174,7 +174,7 @@ module _ (may_give : ℕ → Type 0) (said : ServeWords) (files files' : FilesAt
     pub room : ended.out_of_memory ≡ false
     pub answers : HaveAnswers (fixed_by inputs) (site_by said inputs) may_give (length (opening_by said inputs)) history doors.opened doors.closed doors'.closed ended
     pub printed : Gains out.taken out'.taken (listening_line said.listen ++ totals_line (totals_of (ledger_of inputs.rules history)))
-    pub whole : IsFedAlone → totals_of (ledger_of inputs.rules history) ≡ whole_totals inputs.rules inputs.transactions.items
+    pub whole : IsFedAlone said doors doors' → totals_of (ledger_of inputs.rules history) ≡ whole_totals inputs.rules inputs.transactions.items
     pub fits : limit_passed_by inputs ≡ None
 
   -- a change of the change file, or of an upload, was refused so; in drained mode, and where no connection was handed out, it is the first one of the change file
@@ -183,7 +183,7 @@ module _ (may_give : ℕ → Type 0) (said : ServeWords) (files files' : FilesAt
     pub inputs : Inputs
     pub read : AreInputs files.held said inputs
     pub refuses : RefusesChange (fixed_by inputs) (opening_by said inputs) doors doors' limit
-    pub passes : IsFedAlone → limit_passed_by inputs ≡ Some limit
+    pub passes : IsFedAlone said doors doors' → limit_passed_by inputs ≡ Some limit
 
   -- it failed before the threads ran: no connection was handed out, and of the line with the address a front was printed
   pub record FailsFirst : Type 0 where

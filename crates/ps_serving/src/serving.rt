@@ -189,7 +189,7 @@ fn words_fault<'a>(fault: WordsFault) -> ServeFault<'a>
 /// then all transactions of the change file are fed into a new store, and with `--until-drained` its feed is closed. `listening ADDRESS` is printed once the doors
 /// listen. A writer, a compactor and a thread for each connection share the store, each with a seat of its own at its lock. After the last connection has ended the feed is closed
 /// where it was not, and once the writer and the compactor have ended too the totals are printed.
-/// Where no thread can be had for the writer, no connection is taken, and the status is 8, or 5 where a change is refused.
+/// Where no thread can be had for the writer, no connection is taken, and the status is 8, or 5 or 7 where these come first.
 ///
 /// A fault before the threads run ends it. Of several later ones the writer's decides, then the compactor's, then that of the doors, of the output, and that a connection ended for
 /// out of memory. The runtime hears how each connection ended. So in drained mode, once the address was printed, status 5 comes exactly where writing the change file is refused, but for 8.
