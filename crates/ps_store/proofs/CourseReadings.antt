@@ -17,7 +17,7 @@ use Rattle.ps_bucket_log.specs.declared.ops.Op.{Op}
 use Rattle.ps_compact.specs.Laws.{CompactedStands}
 use Rattle.ps_bucket_log.specs.Laws.{GrowsLater, StandsLater, StandsForItself}
 use Rattle.ps_rows.specs.declared.changes.Transaction.{Transaction}
-use Rattle.ps_write_cp.specs.Kept.{Rises}
+use Rattle.ps_write_cp.specs.Kept.{Rises as HeadsRise}
 use Rattle.ps_write_cp.specs.Laws.{HasHead, IsGreatestReached, CoveredIsGreatest, CoversAllBefore}
 use Rattle.ps_write_cp.specs.Numbers.{Made, is_of, covered}
 use Rattle.ps_queries.specs.declared.askers.Asker.{Asker}
@@ -236,7 +236,7 @@ within_heads [] k head is = absurd (let n : None ≡ Some head = is in cc)
 within_heads (x ∷ heads) zero head is = omega arith
 within_heads (x ∷ heads) (suc k) head is = let r = within_heads heads k head is in omega (arith, r)
 
-covers_heads : CoveredIsGreatest → CoversAllBefore → (heads more : List Position) (fed : List Transaction) (position : ℕ) (upload : Upload) → Rises heads
+covers_heads : CoveredIsGreatest → CoversAllBefore → (heads more : List Position) (fed : List Transaction) (position : ℕ) (upload : Upload) → HeadsRise heads
     → Has (uploads_from 1 (heads ++ more) fed) upload → IfSome (covered position heads) (λ number. upload.number ≤ number → upload.position ≤ position)
 covers_heads is_greatest before heads more fed position upload rise has = by (covered position heads) refl
   where
