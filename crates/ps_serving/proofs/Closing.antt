@@ -1,5 +1,6 @@
 -- Once a feed is closed nothing is fed, and what is written stays written.
-use Rattle.std.proofs.Common.{◌≡◌, ℕ, ◌+◌, ◌≤◌, true, false, List, [], ◌∷◌, ◌++◌, Option, Some, None, length, take, drop, refl, sym, ap, ◌∙◌, arith, subst, fold, append_assoc, append-nil, length-drop}
+use Rattle.std.proofs.Common.{◌≡◌, ℕ, ◌+◌, ◌≤◌, Bool, true, false, List, [], ◌∷◌, ◌++◌, Option, Some, None, length, take, drop, refl, sym, ap, ◌∙◌, arith, subst, fold, append_assoc, append-nil, length-append, length-drop}
+use Rattle.std.proofs.lemmas.Grind.{flat_map-append}
 use mathlib.Core.List.{IsPrefix}
 use Rattle.ps_rows.specs.declared.changes.Transaction.{Transaction}
 use Rattle.ps_definitions.specs.RuleSets.{RuleSet}
@@ -9,7 +10,7 @@ use Rattle.ps_store.specs.Generations.{Coming, queue_in}
 use Rattle.ps_store.specs.Histories.{LedgersTellHistories, written_in}
 use Rattle.ps_store.specs.LedgerLaws.{LedgersTellFeeds, fed_in}
 use Rattle.ps_store.specs.Ledgers.{Ledger, fresh, ledger_after, ledger_of, IsLegal, IsLegalFrom, unwritten, write_next, build_next, build_with, switch_to, drop_coming}
-use Rattle.ps_store.specs.Originals.{Timed, timed}
+use Rattle.ps_store.specs.Originals.{Timed, timed, timed_from}
 use Rattle.ps_serving.specs.Openings.{feeds_of, opening}
 
 -- ---- what is closed stays so
@@ -87,6 +88,40 @@ written_both (Abandon ∷ front) back = written_both front back
 fed_feeds : (ts : List Transaction) (back : List Event) → fed_in (feeds_of ts ++ back) ≡ ts ++ fed_in back
 fed_feeds [] back = refl
 fed_feeds (t ∷ ts) back = ap (λ us. t ∷ us) (fed_feeds ts back)
+
+-- what is fed before the threads run is the transactions
+pub fed_opening : (closed : Bool) (ts : List Transaction) → fed_in (opening closed ts) ≡ ts
+fed_opening true ts = fed_feeds ts (Close ∷ []) ∙ append-nil ts
+fed_opening false ts = fed_feeds ts [] ∙ append-nil ts
+
+length_none : (ts : List Transaction) → length ts ≡ 0 → ts ≡ []
+length_none [] none = refl
+length_none (t ∷ ts) none = absurd (omega arith)
+
+-- a history that feeds as many as its beginning feeds the same
+pub fed_same : (start history : List Event) → IsPrefix start history → length (fed_in history) ≡ length (fed_in start) → fed_in history ≡ fed_in start
+fed_same start history (more, is) same =
+    let own : fed_in history ≡ fed_in start ++ fed_in more = ap fed_in (sym is) ∙ fed_both start more in
+    let none : fed_in more ≡ [] = length_none (fed_in more) (omega (arith, ap length own, length-append (fed_in start) (fed_in more), same)) in
+    own ∙ (ap (λ us. fed_in start ++ us) none ∙ append-nil (fed_in start))
+
+-- and so does what lies between
+pub fed_between : (start seen history : List Event) → IsPrefix start seen → IsPrefix seen history → fed_in history ≡ fed_in start → fed_in seen ≡ fed_in start
+fed_between start seen history (more, is) (back, so) same =
+    let first : fed_in seen ≡ fed_in start ++ fed_in more = ap fed_in (sym is) ∙ fed_both start more in
+    let last : fed_in history ≡ fed_in seen ++ fed_in back = ap fed_in (sym so) ∙ fed_both seen back in
+    fed_same start seen (more, is)
+    (omega (arith, ap length same, ap length first, ap length last, length-append (fed_in start) (fed_in more), length-append (fed_in seen) (fed_in back)))
+
+-- what is closed feeds no more
+pub fed_closed : (rules : RuleSet) (front history : List Event) → IsPrefix front history → IsLegal rules history → (ledger_of rules front).closed ≡ true → fed_in history ≡ fed_in front
+fed_closed rules front history (back, is) legal closed =
+    let both : IsLegal rules (front ++ back) = subst (IsLegal rules) (sym is) legal in
+    let nothing : fed_in back ≡ [] = no_feeds (ledger_of rules front) back closed (legal_back (fresh rules) front back both) in
+    ap fed_in (sym is) ∙ (fed_both front back ∙ (ap (λ us. fed_in front ++ us) nothing ∙ append-nil (fed_in front)))
+
+pub timed_both : (ts us : List Transaction) → timed (ts ++ us) ≡ timed ts ++ timed us
+timed_both ts us = flat_map-append (λ (t : Transaction). timed_from t.position.0 0 t.changes) ts us
 
 -- ---- all is fed and written
 

@@ -1,9 +1,8 @@
 -- Which limit a change file passes, by the change that the writer could not write.
-use Rattle.std.proofs.Common.{◌≡◌, ℕ, zero, suc, ◌+◌, ◌-◌, ◌≤◌, true, false, List, [], ◌∷◌, ◌++◌, Some, None, refl, sym, ap, ◌∙◌, subst, length, take, drop, arith, append_assoc, append-nil, length-append}
+use Rattle.std.proofs.Common.{◌≡◌, ℕ, zero, suc, ◌+◌, ◌-◌, ◌≤◌, true, false, List, [], ◌∷◌, ◌++◌, Option, Some, None, refl, sym, ap, ◌∙◌, subst, length, take, drop, arith, append_assoc, append-nil, length-append}
 use Rattle.std.specs.Prelude.{nat_lt}
 use Rattle.std.specs.List.{AllByRecursion}
 use Rattle.std.proofs.lemmas.Bool.Decides.{nat_tests}
-use mathlib.Core.List.{IsPrefix}
 use Rattle.ps_rows.specs.declared.changes.Transaction.{Transaction}
 use Rattle.ps_rows.specs.Source.{Source}
 use Rattle.ps_definitions.specs.RuleSets.{RuleSet}
@@ -13,7 +12,7 @@ use Rattle.ps_store.specs.declared.fixed.Fixed.{Fixed}
 use Rattle.ps_store.specs.declared.events.Event.TheVariants.{Feed, Close, Write, Commit, Compact, WriteCheckpoint, Deploy, Build, Switch, Abandon}
 use Rattle.ps_store.specs.Histories.{LedgersTellHistories, LedgersTellOneGeneration, has_deploy, written_in}
 use Rattle.ps_store.specs.Keeping.{IsNarrow}
-use Rattle.ps_store.specs.LedgerLaws.{LedgersTellFeeds}
+use Rattle.ps_store.specs.LedgerLaws.{LedgersTellFeeds, fed_in}
 use Rattle.ps_store.specs.Ledgers.{Ledger, fresh, ledger_of, IsLegal, unwritten}
 use Rattle.ps_store.specs.Limits.{usual_limits}
 use Rattle.ps_store.specs.Originals.{Timed, timed, after, key_of, entries_at, change_ops, ops_from}
@@ -22,9 +21,8 @@ use Rattle.ps_files.specs.declared.faults.Limit.TheVariants.{LineBytes, Entries,
 use Rattle.ps_files.specs.ChangeFiles.{operations_of, passed_by, first_passed, first_of}
 use Rattle.ps_files.specs.ReadingChanges.{usual}
 use Rattle.ps_files.proofs.Pending.{take_on, known, passes_entries, passes_ops}
-use Rattle.ps_serving.specs.Openings.{opening}
-use Rattle.ps_serving.specs.Serving.{HasRun, IsPast}
-use Rattle.ps_serving.proofs.Closing.{fed_whole, legal_front, written_both}
+use Rattle.ps_serving.specs.Serving.{DoorsAt, HasRun, IsPast}
+use Rattle.ps_serving.proofs.Closing.{legal_front, written_both}
 
 -- ---- lists
 
@@ -48,6 +46,18 @@ plain_front (Switch ∷ front) back h = plain_front front back h
 plain_front (Abandon ∷ front) back h = plain_front front back h
 
 -- ---- changes that pass no limit
+
+-- the first of two limits is none where both are, and then so it is with another second one
+first_none : (p q r : Option Limit) → (q ≡ None → r ≡ None) → first_of p q ≡ None → first_of p r ≡ None
+first_none None q r f h = f h
+first_none (Some limit) q r f h = absurd (cc)
+
+-- where no change passes one, none of the first does
+pub none_front : (definitions : List Definition) (before us vs : List Timed) → first_passed definitions before (us ++ vs) ≡ None → first_passed definitions before us ≡ None
+none_front definitions before [] vs none = refl
+none_front definitions before (u ∷ us) vs none =
+    first_none (passed_by definitions before u) (first_passed definitions (before ++ u ∷ []) (us ++ vs)) (first_passed definitions (before ++ u ∷ []) us)
+    (none_front definitions (before ++ u ∷ []) us vs) none
 
 ops_grow : (definitions : List Definition) (source : Source) (next : ℕ) (xs ys : List Timed) → length (ops_from definitions source next xs) ≤ length (ops_from definitions source next (xs ++ ys))
 ops_grow definitions source next [] ys = omega arith
@@ -83,8 +93,8 @@ module _ (rules : RuleSet) where
 
 -- ---- the writer's end
 
-module _ (tells : LedgersTellHistories) (one : LedgersTellOneGeneration) (feeds : LedgersTellFeeds) (rules : RuleSet) (ts : List Transaction) (start : List Event) (run : HasRun (usual rules) start)
-    (begins : IsPrefix (opening true ts) run.history) (later : IsPrefix (opening true ts) run.seen) where
+module _ (tells : LedgersTellHistories) (one : LedgersTellOneGeneration) (feeds : LedgersTellFeeds) (rules : RuleSet) (ts : List Transaction) (start : List Event) (doors doors' : DoorsAt)
+    (run : HasRun (usual rules) start doors doors') (fed_seen : fed_in run.seen ≡ ts) (fed_history : fed_in run.history ≡ ts) where
   abbrev l : Ledger
   l = ledger_of rules run.seen
 
@@ -104,10 +114,10 @@ module _ (tells : LedgersTellHistories) (one : LedgersTellOneGeneration) (feeds 
   plain = plain_front run.seen back (ap has_deploy run.earlier.1 ∙ run.stood.1.1.1)
 
   fed : l.fed ≡ ts
-  fed = (feeds rules run.seen).fed ∙ fed_whole tells feeds rules ts run.seen later legal
+  fed = (feeds rules run.seen).fed ∙ fed_seen
 
   fed_last : last.fed ≡ ts
-  fed_last = (feeds rules run.history).fed ∙ fed_whole tells feeds rules ts run.history begins run.stood.1.0.legal
+  fed_last = (feeds rules run.history).fed ∙ fed_history
 
   no_less : l.written ≤ last.written
   no_less =

@@ -1,5 +1,5 @@
 -- What the ends of the threads make of a store that was fed and served.
-use Rattle.std.proofs.Common.{◌≡◌, ℕ, Bool, true, false, ◌||◌, List, [], Option, Some, None, Result, Ok, Err, option_map, refl, length}
+use Rattle.std.proofs.Common.{◌≡◌, ◌∙◌, ◌+◌, ℕ, Bool, true, false, ◌||◌, List, [], Option, Some, None, Result, Ok, Err, option_map, inl, inr, ap, refl, length}
 use Rattle.std.specs.Prelude.{if◌then◌else◌}
 use Rattle.ps_connections.specs.declared.ended.Ended.{Ended}
 use Rattle.ps_connections.specs.declared.ended.Stop.{Stop}
@@ -20,14 +20,18 @@ use Rattle.ps_workers.specs.Work.{EndsWriting, IsStoreDrained}
 use Rattle.ps_serving.specs.Ends.{writer_fault, compactor_fault, doors_fault, output_fault, room_fault, is_no_room, first_of, unless_fault}
 use Rattle.ps_serving.specs.Printing.{PrintsLine, totals_line}
 use Rattle.ps_serving.specs.Running.{HaveAnswers}
-use Rattle.ps_serving.specs.Serving.{DoorsAt, SinkAt, HasRun, ServesFed}
+use Rattle.ps_serving.specs.Serving.{DoorsAt, SinkAt, HasRun, HaveAllCome, ServesFed}
+
+no_first : (a b : Bool) → (a || b) ≡ false → a ≡ false
+no_first true b h = cc
+no_first false b h = refl
 
 no_short : (a b : Bool) → (a || b) ≡ false → b ≡ false
 no_short true b h = cc
 no_short false b h = h
 
 module _ (fixed : Fixed) (site : Site) (may_give : ℕ → Type 0) (start : List Event) (most : ℕ) (doors doors' : DoorsAt) (out out' : SinkAt)
-    (run : HasRun fixed start) (stop : Stop) (count : ℕ) (short : Bool)
+    (run : HasRun fixed start doors doors') (stop : Stop) (count : ℕ) (short : Bool) (came : is_no_room stop ≡ false → HaveAllCome most doors doors')
     (taken : HasTaken most doors.opened doors'.opened doors.coming doors'.coming doors.faults doors'.faults stop count)
     (answers : HaveAnswers fixed site may_give (length start) run.history doors.opened doors.closed doors'.closed (record { stop = stop; connections = count; out_of_memory = short })) where
   abbrev ended : Ended
@@ -47,6 +51,7 @@ module _ (fixed : Fixed) (site : Site) (may_give : ℕ → Type 0) (start : List
       drained = drained;
       ended = ended;
       taken = taken;
+      all = came (no_first (is_no_room stop) short is);
       quiet = quiet;
       room = no_short (is_no_room stop) short is;
       answers = answers;
@@ -70,7 +75,7 @@ module _ (fixed : Fixed) (site : Site) (may_give : ℕ → Type 0) (start : List
     by_output quiet (Err Memory) p = tt
 
 module _ (fixed : Fixed) (site : Site) (may_give : ℕ → Type 0) (start : List Event) (most : ℕ) (doors doors' : DoorsAt) (out out' : SinkAt)
-    (run : HasRun fixed start) (printed : Result (Unit {0}) Fault)
+    (run : HasRun fixed start doors doors') (printed : Result (Unit {0}) Fault)
     (prints : PrintsLine (totals_line (totals_of (ledger_of fixed.rules run.history))) out.taken out'.taken out.faults out'.faults printed) where
   abbrev After : Ended → Type 0
   After ended =
@@ -81,11 +86,11 @@ module _ (fixed : Fixed) (site : Site) (may_give : ℕ → Type 0) (start : List
       → ServesFed fixed site may_give start most doors doors' out out' (unless_fault (first_of (doors_fault stop) (first_of (option_map Plain (output_fault printed))
       (option_map Plain (room_fault (record { stop = stop; connections = count; out_of_memory = short }))))))
   by_doors drained NoneToCome count short (taken, answers) =
-      by_output fixed site may_give start most doors doors' out out' run NoneToCome count short taken answers drained taken.stop_is.1 printed prints
+      by_output fixed site may_give start most doors doors' out out' run NoneToCome count short (λ e. inl taken.stop_is.0) taken answers drained taken.stop_is.1 printed prints
   by_doors drained Most count short (taken, answers) =
-      by_output fixed site may_give start most doors doors' out out' run Most count short taken answers drained taken.stop_is.1 printed prints
+      by_output fixed site may_give start most doors doors' out out' run Most count short (λ e. inr (taken.opened_is ∙ ap (λ n. doors.opened + n) taken.stop_is.0)) taken answers drained taken.stop_is.1 printed prints
   by_doors drained NoRoom count short (taken, answers) =
-      by_output fixed site may_give start most doors doors' out out' run NoRoom count short taken answers drained taken.stop_is printed prints
+      by_output fixed site may_give start most doors doors' out out' run NoRoom count short (λ e. absurd (cc)) taken answers drained taken.stop_is printed prints
   by_doors drained Failed count short (taken, answers) = (taken.stop_is, record { run = run; drained = drained })
 
   module _ (ended : Ended) (after : After ended) where

@@ -3,13 +3,16 @@ use Rattle.std.proofs.Common.{◌≡◌, ◌∙◌, ℕ, ◌≤◌, Bool, true, 
 use mathlib.Core.List.{IsPrefix}
 use Rattle.ps_io.specs.Contents.{Gains}
 use Rattle.ps_doors.specs.Connections.{Connection}
+use Rattle.ps_rows.specs.declared.changes.Transaction.{Transaction}
 use Rattle.ps_serve.specs.declared.sites.Site.{Site}
 use Rattle.ps_store.specs.declared.fixed.Fixed.{Fixed}
 use Rattle.ps_store.specs.declared.events.Event.{Event}
 use Rattle.ps_store.specs.Histories.{LedgersTellHistories, LedgersTellOneGeneration}
-use Rattle.ps_store.specs.LedgerLaws.{LedgersTellFeeds}
+use Rattle.ps_store.specs.LedgerLaws.{LedgersTellFeeds, fed_in}
 use Rattle.ps_store.specs.Ledgers.{ledger_of}
+use Rattle.ps_store.specs.Originals.{Timed, timed}
 use Rattle.ps_workers.specs.Work.{IsStoreDrained}
+use Rattle.ps_files.specs.ChangeFiles.{first_passed}
 use Rattle.ps_files.specs.declared.faults.Limit.{Limit}
 use Rattle.ps_files.specs.declared.faults.Fault.TheVariants.{Usage, Rules, Change, PastLimit, TooManyBuckets, Claims, Keys, TooLong, CannotRead, CannotWrite, Script, Memory}
 use Rattle.ps_serve_words.specs.declared.words.ServeWords.{ServeWords}
@@ -19,10 +22,10 @@ use Rattle.ps_serve_inputs.specs.declared.inputs.Inputs.{Inputs}
 use Rattle.ps_serve_inputs.specs.Inputs.{AreInputs}
 use Rattle.ps_serving.specs.Openings.{opening}
 use Rattle.ps_serving.specs.Printing.{listening_line}
-use Rattle.ps_serving.specs.Serving.{FilesAt, DoorsAt, SinkAt, HasRun, HasDrained, IsPast, Fails, Listens, ServesFed, ServesSo, fixed_by, site_by, opening_by, most_of, limit_passed_by}
+use Rattle.ps_serving.specs.Serving.{FilesAt, DoorsAt, SinkAt, HasRun, HasDrained, IsFedAlone, IsPast, Fails, Listens, ServesFed, ServesSo, fixed_by, site_by, opening_by, most_of, limit_passed_by}
 use Rattle.ps_serving.specs.Totals.{TotalsAreOne}
-use Rattle.ps_serving.proofs.Closing.{fed_whole, written_whole}
-use Rattle.ps_serving.proofs.Passing.{none_passed, limit_passed}
+use Rattle.ps_serving.proofs.Closing.{fed_between, fed_both, fed_closed, fed_opening, fed_whole, timed_both, written_whole}
+use Rattle.ps_serving.proofs.Passing.{none_front, none_passed, limit_passed}
 
 gains_both : (old mid new : Option (List ℕ)) (one two : List ℕ) → Gains old mid one → Gains mid new two → Gains old new (one ++ two)
 gains_both None mid new one two first second = let e = first in rw first at second
@@ -52,22 +55,44 @@ module _ (may_give : ℕ → Type 0) (said : ServeWords) (files files' : FilesAt
 
 module _ (tells : LedgersTellHistories) (generation : LedgersTellOneGeneration) (feeds : LedgersTellFeeds) (one : TotalsAreOne) (may_give : ℕ → Type 0) (said : ServeWords) (files files' : FilesAt) (doors doors' : DoorsAt)
     (out mid out' : SinkAt) (inputs : Inputs) (read : AreInputs files.held said inputs) (listened : Gains out.taken mid.taken (listening_line said.listen)) (up : out.faults ≤ mid.faults) where
-  -- in drained mode what was seen begins with the Feeds of the change file and a Close
-  begins_closed : (seen : List Event) → IsPrefix (opening_by said inputs) seen → said.until_drained ≡ true → IsPrefix (opening true inputs.transactions.items) seen
-  begins_closed seen begins drained = subst (λ (b : Bool). IsPrefix (opening b inputs.transactions.items) seen) drained begins
+  abbrev start : List Event
+  start = opening_by said inputs
 
-  fits : (run : HasRun (fixed_by inputs) (opening_by said inputs)) → IsStoreDrained (ledger_of inputs.rules run.seen) → said.until_drained ≡ true → limit_passed_by inputs ≡ None
-  fits run drained closed =
-      none_passed tells generation feeds inputs.rules inputs.transactions.items (opening_by said inputs) run (begins_closed run.history run.begins closed)
-      (begins_closed run.seen run.later closed) drained.written
+  abbrev Run : Type 0
+  Run = HasRun (fixed_by inputs) start doors doors'
 
-  passes : (limit : Limit) (run : HasRun (fixed_by inputs) (opening_by said inputs)) → IsPast (fixed_by inputs) (ledger_of inputs.rules run.seen) limit → said.until_drained ≡ true
-      → limit_passed_by inputs ≡ Some limit
-  passes limit run past closed =
-      limit_passed tells generation feeds inputs.rules inputs.transactions.items (opening_by said inputs) run (begins_closed run.history run.begins closed)
-      (begins_closed run.seen run.later closed) limit past
+  abbrev Alone : Type 0
+  Alone = IsFedAlone said doors doors'
 
-  fails_later : HasDrained (fixed_by inputs) (opening_by said inputs) → Fails may_give said files files' doors doors' out out'
+  fed_first : fed_in start ≡ inputs.transactions.items
+  fed_first = fed_opening said.until_drained inputs.transactions.items
+
+  -- where the change file alone is fed, all that was fed is the change file
+  fed_alone : (run : Run) → Alone → fed_in run.history ≡ fed_in start
+  fed_alone run (inl drained) =
+      let begins : IsPrefix (opening true inputs.transactions.items) run.history = subst (λ (b : Bool). IsPrefix (opening b inputs.transactions.items) run.history) drained run.begins in
+      fed_whole tells feeds inputs.rules inputs.transactions.items run.history begins run.stood.1.0.legal ∙ sym fed_first
+  fed_alone run (inr none) = run.alone none
+
+  -- a drained store has written the change file, and what was fed behind it
+  fits : (run : Run) → IsStoreDrained (ledger_of inputs.rules run.seen) → limit_passed_by inputs ≡ None
+  fits run drained =
+      let more = fed_in run.later.0 in
+      let all : fed_in run.seen ≡ inputs.transactions.items ++ more =
+      ap fed_in (sym run.later.1) ∙ (fed_both start run.later.0 ∙ ap (λ (ts : List Transaction). ts ++ more) fed_first) in
+      let last = fed_closed inputs.rules run.seen run.history run.earlier run.stood.1.0.legal drained.closed in
+      let none : first_passed inputs.rules.definitions [] (timed (fed_in run.seen)) ≡ None =
+      none_passed tells generation feeds inputs.rules (fed_in run.seen) start doors doors' run refl last drained.written in
+      none_front inputs.rules.definitions [] (timed inputs.transactions.items) (timed more)
+      (subst (λ (us : List Timed). first_passed inputs.rules.definitions [] us ≡ None) (ap timed all ∙ timed_both inputs.transactions.items more) none)
+
+  passes : (limit : Limit) (run : Run) → IsPast (fixed_by inputs) (ledger_of inputs.rules run.seen) limit → Alone → limit_passed_by inputs ≡ Some limit
+  passes limit run past alone =
+      let last = fed_alone run alone in
+      let seen = fed_between start run.seen run.history run.later run.earlier last in
+      limit_passed tells generation feeds inputs.rules inputs.transactions.items start doors doors' run (seen ∙ fed_first) (last ∙ fed_first) limit past
+
+  fails_later : HasDrained (fixed_by inputs) start doors doors' → Fails may_give said files files' doors doors' out out'
   fails_later drained = inr (record { inputs = inputs; read = read; fits = fits drained.run drained.drained })
 
   -- what came of the store that was fed came of the command
@@ -85,14 +110,13 @@ module _ (tells : LedgersTellHistories) (generation : LedgersTellOneGeneration) 
         begins = s.run.begins;
         ended = s.ended;
         taken = s.taken;
+        all = s.all;
         quiet = s.quiet;
         room = s.room;
         answers = s.answers;
         printed = gains_both out.taken mid.taken out'.taken (listening_line said.listen) _ listened s.printed;
-        whole = λ drained.
-            let begins : IsPrefix (opening true inputs.transactions.items) s.run.history =
-            subst (λ (b : Bool). IsPrefix (opening b inputs.transactions.items) s.run.history) drained s.run.begins in
-            let fed = fed_whole tells feeds inputs.rules inputs.transactions.items s.run.history begins stands.legal in
+        whole = λ alone.
+            let fed : fed_in s.run.history ≡ inputs.transactions.items = fed_alone s.run alone ∙ fed_first in
             one inputs.rules inputs.transactions.items s.run.history (record {
               legal = stands.legal;
               plain = kept.1.1;

@@ -1,6 +1,6 @@
 //! The writer, the compactor and the connections of a service, side by side.
 
-ghost use Rattle.std.specs.Prelude.{◌≡◌};
+ghost use Rattle.std.specs.Prelude.{◌≡◌, false};
 ghost use mathlib.Core.List.{IsPrefix};
 ghost use Rattle.ps_lock.specs.Words.{IsSeatOf, seen_by};
 ghost use Rattle.ps_connections.specs.Taken.{HasTaken};
@@ -184,8 +184,47 @@ fn take_beside<
     (finish(rt, begun), taken)
 }
 
-// The writer in a thread of a scope, beside the compactor and the loop that takes connections. Where no thread can be made for it no connection is taken: it waits
+// The connections and the compactor beside a writer, where it has a thread. Where none can be made for it no connection is taken, and nothing is compacted: it waits
 // until the feed is closed, and connections wait for what it writes.
+fn take_if_written<
+    's,
+    E,
+    R: Wait + time::Clock + Threads + Sync + Hears,
+    S: Source + Send + Drop,
+    K: Sink + Send + Drop,
+    C: Clock + Sync,
+    D: Doors<In = S, Out = K> + Drop,
+>(
+    scope: &'s Scope<'s, E>,
+    service: &'s Service<'s, R, C>,
+    rings: &'s Rings,
+    has_writer: bool,
+    seats: (Seat<Store>, Seat<Store>),
+    doors: D,
+    pace: Pace,
+) -> ((Seat<Store>, WorkEnd), (Seat<Store>, D, Ended))
+    requires connections { IsSeatOf service.now.lock.now seats.0 }
+    requires compactor { IsSeatOf service.now.lock.now seats.1 }
+    ensures compactor { IsSeatOf service.now.lock.now result.0.0 }
+    ensures connections { IsSeatOf service.now.lock.now result.1.0 }
+    ensures saw { IsPrefix (seen_by seats.0) (seen_by result.1.0) }
+    ensures place { D.place result.1.1 ≡ D.place doors }
+    ensures none { has_writer ≡ false → D.opened result.1.1 ≡ D.opened doors }
+    ensures taken { HasTaken pace.most (D.opened doors) (D.opened result.1.1) (D.coming doors) (D.coming result.1.1)
+        (D.faults doors) (D.faults result.1.1) result.1.2.stop result.1.2.connections }
+    ensures served { ServesUpTo (fixed_of service.now.lock.now) service.now.site.now (C.may_give service.now.clock.now)
+        (seen_by seats.0) (seen_by result.1.0) (D.opened doors) (D.closed doors) (D.closed result.1.1) result.1.2 }
+{
+    if has_writer {
+        return take_beside(scope, service, rings, seats, doors, pace);
+    }
+    let (connections, compactor) = seats;
+    let (seat, ended) = take_none(service, connections);
+    ((compactor, WorkEnd::Stopped), (seat, doors, ended))
+}
+
+// The writer in a thread of a scope, beside the compactor and the loop that takes connections; and whether it has one. Where no thread can be made for it it writes
+// behind the loop, which has taken no connection then.
 fn run_beside<
     's,
     E,
@@ -202,6 +241,7 @@ fn run_beside<
     doors: D,
     pace: Pace,
 ) -> (
+    bool,
     (Seat<Store>, WorkEnd),
     ((Seat<Store>, WorkEnd), (Seat<Store>, D, Ended)),
 )
@@ -209,16 +249,17 @@ fn run_beside<
     requires writer { IsSeatOf service.now.lock.now seats.writer }
     requires compactor { IsSeatOf service.now.lock.now seats.compactor }
     requires batch { IsInMillion pace.batch }
-    ensures writer { IsSeatOf service.now.lock.now result.0.0 }
-    ensures wrote { WroteTo (fixed_of service.now.lock.now) (seen_by seats.writer) (seen_by result.0.0) result.0.1 }
-    ensures compactor { IsSeatOf service.now.lock.now result.1.0.0 }
-    ensures connections { IsSeatOf service.now.lock.now result.1.1.0 }
-    ensures saw { IsPrefix (seen_by seats.connections) (seen_by result.1.1.0) }
-    ensures place { D.place result.1.1.1 ≡ D.place doors }
-    ensures taken { HasTaken pace.most (D.opened doors) (D.opened result.1.1.1) (D.coming doors) (D.coming result.1.1.1)
-        (D.faults doors) (D.faults result.1.1.1) result.1.1.2.stop result.1.1.2.connections }
+    ensures writer { IsSeatOf service.now.lock.now result.1.0 }
+    ensures wrote { WroteTo (fixed_of service.now.lock.now) (seen_by seats.writer) (seen_by result.1.0) result.1.1 }
+    ensures compactor { IsSeatOf service.now.lock.now result.2.0.0 }
+    ensures connections { IsSeatOf service.now.lock.now result.2.1.0 }
+    ensures saw { IsPrefix (seen_by seats.connections) (seen_by result.2.1.0) }
+    ensures place { D.place result.2.1.1 ≡ D.place doors }
+    ensures none { result.0 ≡ false → D.opened result.2.1.1 ≡ D.opened doors }
+    ensures taken { HasTaken pace.most (D.opened doors) (D.opened result.2.1.1) (D.coming doors) (D.coming result.2.1.1)
+        (D.faults doors) (D.faults result.2.1.1) result.2.1.2.stop result.2.1.2.connections }
     ensures served { ServesUpTo (fixed_of service.now.lock.now) service.now.site.now (C.may_give service.now.clock.now)
-        (seen_by seats.connections) (seen_by result.1.1.0) (D.opened doors) (D.closed doors) (D.closed result.1.1.1) result.1.1.2 }
+        (seen_by seats.connections) (seen_by result.2.1.0) (D.opened doors) (D.closed doors) (D.closed result.2.1.1) result.2.1.2 }
 {
     let Seats {
         connections,
@@ -242,19 +283,10 @@ fn run_beside<
     let begun = Stack::new()
         .stack_size(service.stack)
         .spawn_scoped_with(scope, to_write, writing);
-    match begun {
-        Ok(child) => {
-            let seats = (connections, compactor);
-            let (compacted, taken) = take_beside(scope, service, rings, seats, doors, pace);
-            (child.join(rt), (compacted, taken))
-        }
-        Err(refused) => {
-            let (seat, ended) = take_none(service, connections);
-            let written = (refused.value)();
-            let compacted = (compactor, WorkEnd::Stopped);
-            (written, (compacted, (seat, doors, ended)))
-        }
-    }
+    let has_writer = begun.is_ok();
+    let seats = (connections, compactor);
+    let beside = take_if_written(scope, service, rings, has_writer, seats, doors, pace);
+    (has_writer, finish(rt, begun), beside)
 }
 
 // The writer, the compactor and the loop.
@@ -271,6 +303,7 @@ fn run_threads<
     doors: D,
     pace: Pace,
 ) -> (
+    bool,
     (Seat<Store>, WorkEnd),
     ((Seat<Store>, WorkEnd), (Seat<Store>, D, Ended)),
 )
@@ -278,21 +311,23 @@ fn run_threads<
     requires writer { IsSeatOf service.now.lock.now seats.writer }
     requires compactor { IsSeatOf service.now.lock.now seats.compactor }
     requires batch { IsInMillion pace.batch }
-    ensures writer { IsSeatOf service.now.lock.now result.0.0 }
-    ensures wrote { WroteTo (fixed_of service.now.lock.now) (seen_by seats.writer) (seen_by result.0.0) result.0.1 }
-    ensures compactor { IsSeatOf service.now.lock.now result.1.0.0 }
-    ensures connections { IsSeatOf service.now.lock.now result.1.1.0 }
-    ensures saw { IsPrefix (seen_by seats.connections) (seen_by result.1.1.0) }
-    ensures place { D.place result.1.1.1 ≡ D.place doors }
-    ensures taken { HasTaken pace.most (D.opened doors) (D.opened result.1.1.1) (D.coming doors) (D.coming result.1.1.1)
-        (D.faults doors) (D.faults result.1.1.1) result.1.1.2.stop result.1.1.2.connections }
+    ensures writer { IsSeatOf service.now.lock.now result.1.0 }
+    ensures wrote { WroteTo (fixed_of service.now.lock.now) (seen_by seats.writer) (seen_by result.1.0) result.1.1 }
+    ensures compactor { IsSeatOf service.now.lock.now result.2.0.0 }
+    ensures connections { IsSeatOf service.now.lock.now result.2.1.0 }
+    ensures saw { IsPrefix (seen_by seats.connections) (seen_by result.2.1.0) }
+    ensures place { D.place result.2.1.1 ≡ D.place doors }
+    ensures none { result.0 ≡ false → D.opened result.2.1.1 ≡ D.opened doors }
+    ensures taken { HasTaken pace.most (D.opened doors) (D.opened result.2.1.1) (D.coming doors) (D.coming result.2.1.1)
+        (D.faults doors) (D.faults result.2.1.1) result.2.1.2.stop result.2.1.2.connections }
     ensures served { ServesUpTo (fixed_of service.now.lock.now) service.now.site.now (C.may_give service.now.clock.now)
-        (seen_by seats.connections) (seen_by result.1.1.0) (D.opened doors) (D.closed doors) (D.closed result.1.1.1) result.1.1.2 }
+        (seen_by seats.connections) (seen_by result.2.1.0) (D.opened doors) (D.closed doors) (D.closed result.2.1.1) result.2.1.2 }
 {
     thread::scope(
         thread::scope_env(),
         service.rt,
         move |scope| -> (
+            bool,
             (Seat<Store>, WorkEnd),
             ((Seat<Store>, WorkEnd), (Seat<Store>, D, Ended)),
         )
@@ -300,16 +335,17 @@ fn run_threads<
             requires writer { IsSeatOf service.now.lock.now seats.writer }
             requires compactor { IsSeatOf service.now.lock.now seats.compactor }
             requires batch { IsInMillion pace.batch }
-            ensures writer { IsSeatOf service.entry.now.lock.now result.0.0 }
-            ensures wrote { WroteTo (fixed_of service.entry.now.lock.now) (seen_by seats.writer) (seen_by result.0.0) result.0.1 }
-            ensures compactor { IsSeatOf service.entry.now.lock.now result.1.0.0 }
-            ensures connections { IsSeatOf service.entry.now.lock.now result.1.1.0 }
-            ensures saw { IsPrefix (seen_by seats.connections) (seen_by result.1.1.0) }
-            ensures place { D.place result.1.1.1 ≡ D.place doors }
-            ensures taken { HasTaken pace.most (D.opened doors) (D.opened result.1.1.1) (D.coming doors) (D.coming result.1.1.1)
-                (D.faults doors) (D.faults result.1.1.1) result.1.1.2.stop result.1.1.2.connections }
+            ensures writer { IsSeatOf service.entry.now.lock.now result.1.0 }
+            ensures wrote { WroteTo (fixed_of service.entry.now.lock.now) (seen_by seats.writer) (seen_by result.1.0) result.1.1 }
+            ensures compactor { IsSeatOf service.entry.now.lock.now result.2.0.0 }
+            ensures connections { IsSeatOf service.entry.now.lock.now result.2.1.0 }
+            ensures saw { IsPrefix (seen_by seats.connections) (seen_by result.2.1.0) }
+            ensures place { D.place result.2.1.1 ≡ D.place doors }
+            ensures none { result.0 ≡ false → D.opened result.2.1.1 ≡ D.opened doors }
+            ensures taken { HasTaken pace.most (D.opened doors) (D.opened result.2.1.1) (D.coming doors) (D.coming result.2.1.1)
+                (D.faults doors) (D.faults result.2.1.1) result.2.1.2.stop result.2.1.2.connections }
             ensures served { ServesUpTo (fixed_of service.entry.now.lock.now) service.entry.now.site.now (C.may_give service.entry.now.clock.now)
-                (seen_by seats.connections) (seen_by result.1.1.0) (D.opened doors) (D.closed doors) (D.closed result.1.1.1) result.1.1.2 }
+                (seen_by seats.connections) (seen_by result.2.1.0) (D.opened doors) (D.closed doors) (D.closed result.2.1.1) result.2.1.2 }
         { run_beside(scope, service, rings, seats, doors, pace) },
     )
 }
@@ -336,17 +372,18 @@ pub(crate) fn run_all<
     ensures wrote { WroteTo (fixed_of service.now.lock.now) (seen_by seats.writer) (seen_by result.0) result.2.writer }
     ensures saw { IsPrefix (seen_by seats.connections) (seen_by result.0) }
     ensures place { D.place result.1 ≡ D.place doors }
+    ensures none { result.2.has_writer ≡ false → D.opened result.1 ≡ D.opened doors }
     ensures taken { HasTaken pace.most (D.opened doors) (D.opened result.1) (D.coming doors) (D.coming result.1)
         (D.faults doors) (D.faults result.1) result.2.connections.stop result.2.connections.connections }
     ensures served { ServesUpTo (fixed_of service.now.lock.now) service.now.site.now (C.may_give service.now.clock.now)
         (seen_by seats.connections) (seen_by result.0) (D.opened doors) (D.closed doors) (D.closed result.1) result.2.connections }
 {
-    let ((written, writer), ((compacted, compactor), (mut seat, doors, connections))) = run_threads(
-        service, rings, seats, doors, pace,
-    );
+    let (has_writer, (written, writer), ((compacted, compactor), (mut seat, doors, connections))) =
+        run_threads(service, rings, seats, doors, pace);
     service.lock.join_in(&mut seat, written);
     service.lock.join_in(&mut seat, compacted);
     let ends = Ends {
+        has_writer,
         writer,
         compactor,
         connections,

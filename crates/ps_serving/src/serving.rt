@@ -1,8 +1,9 @@
 //! The command `serve`, over files, doors, a clock and sinks.
 
-ghost use Rattle.std.specs.Prelude.{◌≡◌, ◌≢◌, ◌≤◌, Ok, Err};
+ghost use Rattle.std.specs.Prelude.{◌≡◌, ◌≢◌, ◌≤◌, length, OnOk, Ok, Err};
 ghost use Rattle.ps_lock.specs.Words.{IsSeatOf, seen_by};
 ghost use Rattle.ps_serve_words.specs.Words.{IsInMillion, AreInRange};
+ghost use Rattle.ps_store.specs.LedgerLaws.{fed_in};
 ghost use Rattle.ps_workers.specs.Sharing.{fixed_of};
 ghost use Rattle.ps_serving.specs.Serving.{most_of, Listens, ServesFed, ServesSo};
 ghost use Rattle.ps_serving.specs.Answers.{AnswersServe, MissesServe, SaysWhy, words_fault_of};
@@ -16,7 +17,7 @@ use crate::running::Pace;
 use crate::stacks::stack_of;
 use crate::threads::run;
 use ps_connections::Hears;
-use ps_data::Text;
+use ps_data::{Memory, Text};
 use ps_doors::Doors;
 use ps_files::Fault;
 use ps_io::{Clock, Files, Sink, Source};
@@ -24,7 +25,7 @@ use ps_lock::Seat;
 use ps_serve::Site;
 use ps_serve_inputs::{Inputs, ServeFault, load_inputs, say_serve};
 use ps_serve_words::{ServeWords, WordsFault, read_serve_words};
-use ps_store::{Store, ledgers_tell_events, ledgers_tell_histories, ledgers_tell_ops};
+use ps_store::{Store, Totals, ledgers_tell_events, ledgers_tell_histories, ledgers_tell_ops};
 use ps_workers::totals_in_turn;
 use std::alloc::Global;
 use std::sync::Wait;
@@ -70,7 +71,18 @@ fn listen<'a, D: Doors, O: Sink>(
     Ok(())
 }
 
-// Serves a store that was fed, and prints the totals of its last history.
+// That no transaction was fed behind the first ones, where no connection was taken.
+fn fed_by_connections(connections: u64, fed: u64, totals: Totals) -> Result<(), Memory>
+    ensures { OnOk result (connections ≡ 0 → totals.transactions ≡ fed) }
+{
+    if connections == 0 && totals.transactions != fed {
+        // Nothing but a connection feeds behind them, so this never comes.
+        return Err(Memory);
+    }
+    Ok(())
+}
+
+// Serves a store into which so many transactions were fed, and prints the totals of its last history.
 fn serve_fed<
     'a,
     R: Wait + time::Clock + Threads + Sync + Hears,
@@ -82,19 +94,23 @@ fn serve_fed<
 >(
     ground: &Ground<R, C>,
     seat: Seat<Store>,
+    fed: u64,
     pace: Pace,
     doors: &mut D,
     out: &mut O,
 ) -> Result<(), ServeFault<'a>>
     requires seat { IsSeatOf ground.now.lock.now seat }
+    requires fed { fed ≡ length (fed_in (seen_by seat)) }
     requires batch { IsInMillion pace.batch }
     ensures { ServesFed (fixed_of ground.now.lock.now) ground.now.site.now (C.may_give ground.now.tools.now.clock.now) (seen_by seat) pace.most
         (record { opened = D.opened doors.old; coming = D.coming doors.old; closed = D.closed doors.old; faults = D.faults doors.old })
         (record { opened = D.opened doors.new; coming = D.coming doors.new; closed = D.closed doors.new; faults = D.faults doors.new })
         (record { taken = O.taken out.old; faults = O.faults out.old }) (record { taken = O.taken out.new; faults = O.faults out.new }) result }
 {
+    ledgers_tell_events();
     let (seat, ends) = run(ground, seat, pace, doors)?;
     let (_seat, _look, totals) = totals_in_turn(ground.tools.rt, ground.lock, seat);
+    fed_by_connections(ends.connections.connections, fed, totals)?;
     let printed = print_totals(ground.tools.alloc, totals, out);
     judge(ends, printed)
 }
@@ -138,6 +154,7 @@ fn serve<
         until_drained: words.until_drained,
     };
     let stack = stack_of(&rules);
+    let fed = transactions.len() as u64;
     let (lock, seat) = open_fed(
         tools.rt,
         tools.alloc,
@@ -152,7 +169,7 @@ fn serve<
         site: &site,
         stack,
     };
-    serve_fed(&ground, seat, pace_of(words), doors, out)
+    serve_fed(&ground, seat, fed, pace_of(words), doors, out)
 }
 
 // Why words are no command.
@@ -172,10 +189,11 @@ fn words_fault<'a>(fault: WordsFault) -> ServeFault<'a>
 /// then all transactions of the change file are fed into a new store, and with `--until-drained` its feed is closed. `listening ADDRESS` is printed once the doors
 /// listen. A writer, a compactor and a thread for each connection share the store, each with a seat of its own at its lock. After the last connection has ended the feed is closed
 /// where it was not, and once the writer and the compactor have ended too the totals are printed.
-/// Where no thread can be had for the writer, no connection is taken, and the status is 8, or 5 where a change is refused.
+/// Where no thread can be had for the writer, no connection is taken, and the status is 8, or 5 or 7 where these come first.
 ///
 /// A fault before the threads run ends it. Of several later ones the writer's decides, then the compactor's, then that of the doors, of the output, and that a connection ended for
 /// out of memory. The runtime hears how each connection ended. So in drained mode, once the address was printed, status 5 comes exactly where writing the change file is refused, but for 8.
+/// Without it 5 comes there too, but for 8, and else only where a connection was handed out: by an upload that cannot be written.
 pub fn run_serve<
     R: Wait + time::Clock + Threads + Sync + Hears,
     F: Files,
@@ -196,8 +214,8 @@ pub fn run_serve<
     err: &mut E,
 ) -> u8
     // Each status with its cause. With status 0: one history, which begins with the Feeds of the change file, over which every connection was answered, and whose
-    // totals were printed. In drained mode, once the threads run, status 5 comes where a change of the change file passes a limit, by the first one that does, and 0, 7
-    // and 10 where none does.
+    // totals were printed; and no further connection is to come, or as many as were wanted were handed out. Once the threads run, 0, 7 and 10 come where no change of the
+    // change file passes a limit; and in drained mode, and where no connection was handed out, 5 comes where one does, by the first one that does.
     ensures answers { AnswersServe (C.may_give clock.now) words.now
         (record { held = F.held files.old; faults = F.faults files.old }) (record { held = F.held files.new; faults = F.faults files.new })
         (record { opened = D.opened doors.old; coming = D.coming doors.old; closed = D.closed doors.old; faults = D.faults doors.old })

@@ -1,6 +1,6 @@
 //! The threads of a service over a store that was fed.
 
-ghost use Rattle.std.specs.Prelude.{◌≡◌, IfOk};
+ghost use Rattle.std.specs.Prelude.{◌≡◌, false, IfOk};
 ghost use mathlib.Core.List.{IsPrefix};
 ghost use Rattle.ps_lock.specs.Words.{IsSeatOf, seen_by};
 ghost use Rattle.ps_connections.specs.Taken.{HasTaken};
@@ -54,6 +54,7 @@ fn run_lent<
     ensures lock { IsSeatOf ground.now.lock.now result.0 }
     ensures wrote { WroteTo (fixed_of ground.now.lock.now) (seen_by seats.writer) (seen_by result.0) result.1.writer }
     ensures saw { IsPrefix (seen_by seats.connections) (seen_by result.0) }
+    ensures none { result.1.has_writer ≡ false → D.opened doors.new ≡ D.opened doors.old }
     ensures taken { HasTaken pace.most (D.opened doors.old) (D.opened doors.new) (D.coming doors.old) (D.coming doors.new)
         (D.faults doors.old) (D.faults doors.new) result.1.connections.stop result.1.connections.connections }
     ensures served { ServesUpTo (fixed_of ground.now.lock.now) ground.now.site.now (C.may_give ground.now.tools.now.clock.now)
@@ -94,6 +95,7 @@ pub(crate) fn run<
     ensures lock { IfOk result (λ ran. IsSeatOf ground.now.lock.now ran.0) }
     ensures wrote { IfOk result (λ ran. WroteTo (fixed_of ground.now.lock.now) (seen_by seat) (seen_by ran.0) ran.1.writer) }
     ensures saw { IfOk result (λ ran. IsPrefix (seen_by seat) (seen_by ran.0)) }
+    ensures none { IfOk result (λ ran. ran.1.has_writer ≡ false → D.opened doors.new ≡ D.opened doors.old) }
     ensures taken { IfOk result (λ ran. HasTaken pace.most (D.opened doors.old) (D.opened doors.new) (D.coming doors.old) (D.coming doors.new)
         (D.faults doors.old) (D.faults doors.new) ran.1.connections.stop ran.1.connections.connections) }
     ensures served { IfOk result (λ ran. ServesUpTo (fixed_of ground.now.lock.now) ground.now.site.now (C.may_give ground.now.tools.now.clock.now)

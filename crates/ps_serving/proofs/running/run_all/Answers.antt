@@ -4,8 +4,8 @@ use Rattle.ps_serving.proofs.running.run_all.Goals as goal
 
 pub returns-clause-wrote : goal.returns-clause-wrote
 returns-clause-wrote g c =
-    let w = c.run_threads-written.ensures.wrote in
-    let own = seen_by c.run_threads-written.result.0.0 in
+    let w = c.run_threads-has_writer.ensures.wrote in
+    let own = seen_by c.run_threads-has_writer.result.1.0 in
     let one = seen_by c.join_in.new.seat in
     let two = seen_by c.join_in-2.new.seat in
     record {
@@ -18,7 +18,7 @@ returns-clause-wrote g c =
 
 pub returns-clause-served : goal.returns-clause-served
 returns-clause-served g c = λ history later valid.
-    let own = seen_by c.run_threads-written.result.1.1.0 in
+    let own = seen_by c.run_threads-has_writer.result.2.1.0 in
     let one = seen_by c.join_in.new.seat in
     let two = seen_by c.join_in-2.new.seat in
-    c.run_threads-written.ensures.served history (prefix_trans own two history (prefix_trans own one two c.join_in.ensures.one.0 c.join_in-2.ensures.one.0) later) valid
+    c.run_threads-has_writer.ensures.served history (prefix_trans own two history (prefix_trans own one two c.join_in.ensures.one.0 c.join_in-2.ensures.one.0) later) valid

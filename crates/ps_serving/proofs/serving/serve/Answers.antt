@@ -71,3 +71,6 @@ returns-clause-serves g c =
     c.serve_fed.result fixed_is site_is start_is c.pace_of.ensures.most doors_are given in
     serves_so c.ledgers_tell_histories.ensures c.ledgers_tell_ops.ensures.one c.ledgers_tell_events.ensures.feeds c.totals_are_one.ensures may_give said files files' doors doors' out out1 out' inputs
     c.in_ok-rules.ensures.loads c.in_ok-listen.ensures.listens.0 c.in_ok-listen.ensures.faults c.serve_fed.result fed
+
+pub serve_fed-requires-fed : goal.serve_fed-requires-fed
+serve_fed-requires-fed g c = ?

@@ -1,11 +1,13 @@
-use Rattle.std.proofs.Common.{subst}
+use Rattle.std.proofs.Common.{◌≡◌, ◌∙◌, ℕ, length, ap, sym, arith, subst}
 use mathlib.Core.List.{IsPrefix}
 use Rattle.ps_lock.specs.Words.{seen_by}
+use Rattle.ps_store.specs.LedgerLaws.{fed_in}
 use Rattle.ps_store.specs.declared.totals.Totals.{Totals}
 use Rattle.ps_streams.specs.Serving.{IsValid}
 use Rattle.ps_workers.specs.Sharing.{fixed_of}
 use Rattle.ps_serving.specs.Printing.{PrintsLine, totals_line}
 use Rattle.ps_serving.specs.Serving.{DoorsAt, SinkAt, HasRun}
+use Rattle.ps_serving.proofs.Closing.{fed_same}
 use Rattle.ps_serving.proofs.Fronts.{prefix_trans}
 use Rattle.ps_serving.proofs.Verdicts.{judged}
 use Rattle.ps_serving.proofs.serving.serve_fed.Goals as goal
@@ -20,14 +22,6 @@ returns g c =
     let knew : IsPrefix saw history = turn.1.looks.looks.knew in
     let wrote = c.in_ok-seat.ensures.wrote in
     let stands = turn.1.looks.stood.1.0 in
-    let run : HasRun fixed start = record {
-      history = history;
-      stood = turn.1.looks.stood;
-      begins = prefix_trans start saw history c.in_ok-seat.ensures.saw knew;
-      seen = wrote.seen;
-      later = wrote.later;
-      earlier = prefix_trans wrote.seen saw history wrote.earlier knew;
-    } in
     let valid : IsValid fixed history = record { rules = stands.rules; numbers = stands.query_numbers; legal = stands.legal } in
     let doors : DoorsAt = record {
       opened = g.D.Doors.opened c.args.doors.now;
@@ -40,6 +34,22 @@ returns g c =
       coming = g.D.Doors.coming c.run.new.doors;
       closed = g.D.Doors.closed c.run.new.doors;
       faults = g.D.Doors.faults c.run.new.doors;
+    } in
+    let begins = prefix_trans start saw history c.in_ok-seat.ensures.saw knew in
+    let run : HasRun fixed start doors doors' = record {
+      history = history;
+      stood = turn.1.looks.stood;
+      begins = begins;
+      seen = wrote.seen;
+      later = wrote.later;
+      earlier = prefix_trans wrote.seen saw history wrote.earlier knew;
+      alone = λ same.
+          let taken = c.in_ok-seat.ensures.taken.opened_is in
+          let none : c.in_ok-seat.ends.connections.connections ≡ 0 = omega (arith, same, taken) in
+          let count : c.totals_in_turn-seat.totals.transactions ≡ c.args.fed = ? in
+          let told : c.totals_in_turn-seat.totals.transactions ≡ length (fed_in history) =
+          ap (λ (t : Totals). t.transactions) turn.1.totals_are ∙ ap length (c.ledgers_tell_events.ensures.feeds fixed.rules history).fed in
+          fed_same start history begins (sym told ∙ (count ∙ c.requires.fed));
     } in
     let out : SinkAt = record { taken = g.O.Sink.taken c.args.out.now; faults = g.O.Sink.faults c.args.out.now } in
     let out' : SinkAt = record { taken = g.O.Sink.taken c.print_totals-printed.new.out; faults = g.O.Sink.faults c.print_totals-printed.new.out } in
