@@ -6,15 +6,17 @@ mod jobs;
 
 use help::help_for;
 use jobs::{Job, job_of};
-use ps_client_log::VolatileKeeper;
+use ps_client_log::{Hashing, VolatileKeeper};
 use ps_commands::run_plain;
-use ps_data::Text;
+use ps_data::{Memory, Text};
 use ps_files::{Fault, say};
 use ps_io::{DiskFiles, Sink, StdSink, WallClock};
-use ps_progress::Meter;
+use ps_progress::{Meter, Nowhere};
 use ps_serving::{Hears, run_serve};
 use ps_sockets::{TcpDoors, TcpLink};
-use ps_syncing::{run_sync, run_sync_telling};
+use ps_syncing::run_sync_telling;
+use std::alloc::Global;
+use std::hash::RandomState;
 use std::io::IsTerminal;
 use std::process::ExitCode;
 use std::sync::Wait;
@@ -69,7 +71,16 @@ fn serve<R: Wait + Threads + time::Clock + Sync + Hears, K: Sink, E: Sink>(
     )
 }
 
-// A client over the system's sockets. What it keeps ends with the program. Where standard error is a terminal, it gets how far a long download is.
+// Says that the system gives no random numbers.
+fn say_no_random_numbers<E: Sink>(alloc: Global, err: &mut E) -> u8 {
+    match Text::from_str(alloc, "random numbers") {
+        Ok(name) => say(err, &Fault::CannotRead { name: &name }),
+        Err(Memory) => say(err, &Fault::Memory),
+    }
+}
+
+// A client over the system's sockets, whose maps hash by a seed that is drawn here and that no service knows. What it keeps ends with the program. Where
+// standard error is a terminal, it gets how far a long download is.
 fn sync<R: Wait, K: Sink, E: Sink>(
     rt: &HostRuntime,
     waits: &R,
@@ -78,6 +89,10 @@ fn sync<R: Wait, K: Sink, E: Sink>(
     err: &mut E,
 ) -> u8 {
     let alloc = rt.alloc();
+    let hashing = match RandomState::new(rt) {
+        Ok(keys) => Hashing::Seeded(keys),
+        Err(_) => return say_no_random_numbers(alloc, err),
+    };
     let mut files = DiskFiles::new(*rt);
     let mut link = TcpLink::new(*rt);
     let keeper = VolatileKeeper;
@@ -85,10 +100,13 @@ fn sync<R: Wait, K: Sink, E: Sink>(
     let (status, _keeper) = if stderr.is_terminal() {
         let mut meter = Meter::new(StdSink::new(io::writer(&stderr)));
         run_sync_telling(
-            waits, alloc, words, &mut files, &mut link, keeper, out, err, &mut meter,
+            waits, alloc, words, &mut files, &mut link, keeper, out, err, &mut meter, hashing,
         )
     } else {
-        run_sync(waits, alloc, words, &mut files, &mut link, keeper, out, err)
+        let mut meter = Meter::off(Nowhere);
+        run_sync_telling(
+            waits, alloc, words, &mut files, &mut link, keeper, out, err, &mut meter, hashing,
+        )
     };
     status
 }
