@@ -84,7 +84,8 @@ fn print<'a, K: Sink>(found: Result<Vec<u8>, SyncFault>, out: &mut K) -> Result<
 
 /// Does the command `sync`, and answers its status and the keeper: docs/FORMATS.md, "Commands" and "Statuses".
 ///
-/// The words are those after the program's name: `sync`, with the options `--connect`, `--token-file` and `--client-id`, which are required, and `--upload`. The token
+/// The words are those after the program's name: `sync`, with the options `--connect`, `--token-file` and `--client-id`, which are required, and `--upload` and
+/// `--store`. The keeper is the caller's; `store_of` gives the file that `--store` names for it. The token
 /// file is read, and then the file of changes, before anything is connected. The changes are written locally, all local writes are uploaded in order, a write
 /// checkpoint is asked for where one is wanted, and streams are taken until a checkpoint is applied, at most eight. Then the rows are printed. Each request
 /// has a connection of its own, which is closed. Where anything fails, nothing is printed.
