@@ -8,7 +8,7 @@ use ps_data::Items;
 use ps_doors::{Link, MemoryLink};
 use ps_io::{Files, MemoryFiles, MemorySink, Sink};
 use ps_progress::{Meter, Nowhere};
-use ps_syncing::{run_sync, run_sync_telling};
+use ps_syncing::{run_sync, run_sync_telling, store_of};
 use std::alloc::Global;
 use std::sync::Wait;
 
@@ -158,4 +158,13 @@ pub fn write_each<R: Wait>(
         }
     }
     Ok(out.push_str("\n")?)
+}
+
+/// Says which file the words name for what the client keeps.
+pub fn write_store(alloc: Global, setting: &Setting, out: &mut String) -> Result<(), Stop> {
+    match store_of(alloc, setting.words())? {
+        Some(name) => write!(out, "store {}\n", name.as_str())?,
+        None => out.push_str("no store\n")?,
+    }
+    Ok(())
 }
