@@ -1,6 +1,6 @@
 -- What is found in a file.
 use Rattle.std.specs.Prelude.{List}
-use Rattle.sqlite_wal.specs.Recovery.{Image}
+use Rattle.sqlite.specs.Recovery.{Image}
 use Rattle.sqlite.specs.Start.{FindsIn}
 use Rattle.sqlite.specs.State.{State as Connected}
 use Rattle.ps_client_log.specs.declared.states.State.{State}

@@ -3,7 +3,7 @@
 ghost use Rattle.std.specs.Prelude.{◌≡◌, IsTrue, IfOk};
 ghost use Rattle.sqlite.specs.State.{HasCleanDisk};
 ghost use Rattle.sqlite.specs.Files.{file_state};
-ghost use Rattle.sqlite_wal.specs.Files.{image_at};
+ghost use Rattle.sqlite.specs.WalFiles.{image_at};
 ghost use Rattle.ps_client_sqlite.specs.Keeping.{connection_of, state_of, writes_of, faults_of, Stands};
 ghost use Rattle.ps_client_file.specs.Opening.{IsFoundIn};
 
