@@ -59,20 +59,13 @@ fn run<R: Wait>(
     let mut out = sink_of(alloc, failing, Kind::Out)?;
     let mut err = sink_of(alloc, failing, Kind::Err)?;
     let words = setting.words();
+    let mut meter = Meter::off(Nowhere);
     let (status, keeper) = match hashing {
         None => run_sync(
             waits, alloc, words, &mut files, &mut link, keeper, &mut out, &mut err,
         ),
         Some(hashing) => run_sync_telling(
-            waits,
-            alloc,
-            words,
-            &mut files,
-            &mut link,
-            keeper,
-            &mut out,
-            &mut err,
-            &mut Meter::off(Nowhere),
+            waits, alloc, words, &mut files, &mut link, keeper, &mut out, &mut err, &mut meter,
             hashing,
         ),
     };
