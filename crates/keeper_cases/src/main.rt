@@ -12,12 +12,16 @@
 //! `crash STEP|STEP..` takes steps over a database on a disk in memory, and stops all calls of the disk's log from some call on. For each such call of the last step
 //! it says how that step ended, and whether a crash then leaves the tables as they were before that step or as they are after it; what is said once is not repeated.
 //!
+//! `refused failed`, `refused memory` and `refused N` print the status of `sync`, and what it says, where the file of its store is refused so; N is the number of
+//! a table.
+//!
 //! A line that begins with `#` is a heading, and is printed as it stands.
 #![tactic(auto)]
 
 mod crashes;
 mod desks;
 mod events;
+mod refusals;
 mod shown;
 
 use case_words::{Stop, cut};
@@ -29,6 +33,7 @@ fn answer(alloc: Global, desk: &mut Desk, line: &str, out: &mut String) -> Resul
     match word {
         "#" => Ok(out.push_str(line)?),
         "crash" => crashes::write_crashes(alloc, rest, out),
+        "refused" => refusals::write_refusal(alloc, rest, out),
         _ => desk.step(alloc, word, rest, out),
     }
 }

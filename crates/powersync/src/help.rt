@@ -95,6 +95,7 @@ Uploads local writes, waits for a checkpoint that has them, and prints the rows 
   --token-file FILE   the token of the user
   --client-id ID      the client, for its write checkpoints
   --upload FILE       changes to upload, one on a line
+  --store FILE        keep what the client has in this file, a database of SQLite, for the next run
 
 Example: powersync sync --connect 127.0.0.1:8080 --token-file token --client-id phone
 ";

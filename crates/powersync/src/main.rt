@@ -6,15 +6,19 @@ mod jobs;
 
 use help::help_for;
 use jobs::{Job, job_of};
-use ps_client_log::VolatileKeeper;
+use ps_client_file::{close_store, open_store, store_status};
+use ps_client_log::{Hashing, Keeper, VolatileKeeper};
 use ps_commands::run_plain;
-use ps_data::Text;
+use ps_data::{Memory, Text};
 use ps_files::{Fault, say};
 use ps_io::{DiskFiles, Sink, StdSink, WallClock};
-use ps_progress::Meter;
+use ps_progress::{Meter, Nowhere};
 use ps_serving::{Hears, run_serve};
 use ps_sockets::{TcpDoors, TcpLink};
-use ps_syncing::{run_sync, run_sync_telling};
+use ps_syncing::{run_sync_telling, store_of};
+use sqlite::Unknown;
+use std::alloc::Global;
+use std::hash::RandomState;
 use std::io::IsTerminal;
 use std::process::ExitCode;
 use std::sync::Wait;
@@ -69,7 +73,63 @@ fn serve<R: Wait + Threads + time::Clock + Sync + Hears, K: Sink, E: Sink>(
     )
 }
 
-// A client over the system's sockets. What it keeps ends with the program. Where standard error is a terminal, it gets how far a long download is.
+// Says that the system gives no random numbers.
+fn say_no_random_numbers<E: Sink>(alloc: Global, err: &mut E) -> u8 {
+    match Text::from_str(alloc, "random numbers") {
+        Ok(name) => say(err, &Fault::CannotRead { name: &name }),
+        Err(Memory) => say(err, &Fault::Memory),
+    }
+}
+
+// A client over the system's sockets and a keeper. Where standard error is a terminal, it gets how far a long download is.
+fn sync_over<R: Wait, P: Keeper, K: Sink, E: Sink>(
+    rt: &HostRuntime,
+    waits: &R,
+    words: &[Text],
+    hashing: Hashing,
+    keeper: P,
+    out: &mut K,
+    err: &mut E,
+) -> (u8, P) {
+    let alloc = rt.alloc();
+    let mut files = DiskFiles::new(*rt);
+    let mut link = TcpLink::new(*rt);
+    let stderr = rt.stderr();
+    if stderr.is_terminal() {
+        let mut meter = Meter::new(StdSink::new(io::writer(&stderr)));
+        run_sync_telling(
+            waits, alloc, words, &mut files, &mut link, keeper, out, err, &mut meter, hashing,
+        )
+    } else {
+        let mut meter = Meter::off(Nowhere);
+        run_sync_telling(
+            waits, alloc, words, &mut files, &mut link, keeper, out, err, &mut meter, hashing,
+        )
+    }
+}
+
+// A client whose storage is a file.
+fn sync_in_file<R: Wait, K: Sink, E: Sink>(
+    rt: &HostRuntime,
+    waits: &R,
+    words: &[Text],
+    hashing: Hashing,
+    name: &Text,
+    out: &mut K,
+    err: &mut E,
+) -> u8 {
+    match open_store(rt, name, Unknown) {
+        Ok(keeper) => {
+            let (status, keeper) = sync_over(rt, waits, words, hashing, keeper, out, err);
+            close_store(keeper);
+            status
+        }
+        Err(fault) => store_status(&fault, err),
+    }
+}
+
+// A client of a service, whose maps hash by a seed that is drawn here and that no service knows. Where no file is named for its storage, what it keeps ends
+// with the program.
 fn sync<R: Wait, K: Sink, E: Sink>(
     rt: &HostRuntime,
     waits: &R,
@@ -77,20 +137,18 @@ fn sync<R: Wait, K: Sink, E: Sink>(
     out: &mut K,
     err: &mut E,
 ) -> u8 {
-    let alloc = rt.alloc();
-    let mut files = DiskFiles::new(*rt);
-    let mut link = TcpLink::new(*rt);
-    let keeper = VolatileKeeper;
-    let stderr = rt.stderr();
-    let (status, _keeper) = if stderr.is_terminal() {
-        let mut meter = Meter::new(StdSink::new(io::writer(&stderr)));
-        run_sync_telling(
-            waits, alloc, words, &mut files, &mut link, keeper, out, err, &mut meter,
-        )
-    } else {
-        run_sync(waits, alloc, words, &mut files, &mut link, keeper, out, err)
+    let hashing = match RandomState::new(rt) {
+        Ok(keys) => Hashing::Seeded(keys),
+        Err(_) => return say_no_random_numbers(rt.alloc(), err),
     };
-    status
+    match store_of(rt.alloc(), words) {
+        Ok(Some(name)) => sync_in_file(rt, waits, words, hashing, &name, out, err),
+        Ok(None) => {
+            let (status, _keeper) = sync_over(rt, waits, words, hashing, VolatileKeeper, out, err);
+            status
+        }
+        Err(Memory) => say(err, &Fault::Memory),
+    }
 }
 
 fn run<R: Wait + Threads + time::Clock + Sync + Hears>(rt: &HostRuntime, waits: &R) -> u8 {

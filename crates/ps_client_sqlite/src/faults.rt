@@ -31,7 +31,7 @@ impl From<Memory> for StoreFault {
     }
 }
 
-// What a refused statement is to one who opens a store.
+/// What a refused statement or a file that is not opened is to one who opens a store: out of memory, or a failure.
 pub fn refused(error: &Error) -> StoreFault
     ensures cause { IsRefused error.now result }
     ensures unnamed { NamesNone result }

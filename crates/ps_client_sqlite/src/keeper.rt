@@ -120,6 +120,7 @@ impl<S: Alter + Drop> SqliteKeeper<S> {
         ensures stands { IfOk result (λ keeper. Stands (state_of keeper) (writes_of keeper) (state S.Store (connection_of keeper))) }
         ensures rows { IfOk result (λ keeper. HasCleanDisk (state S.Store (connection_of keeper)) → IsTrue (state S.Store (connection_of keeper)).is_open
             → IsFrom (state S.Store connection) (state_of keeper) (writes_of keeper)) }
+        ensures clean { IfOk result (λ keeper. HasCleanDisk (state S.Store (connection_of keeper)) → HasCleanDisk (state S.Store connection)) }
         ensures uncounted { IfOk result (λ keeper. faults_of keeper ≡ 0) }
     {
         let connection = with_tables(alloc, connection)?;

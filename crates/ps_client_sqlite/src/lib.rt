@@ -15,7 +15,7 @@ mod writing;
 
 pub use differences::difference;
 pub use editing::after_edits;
-pub use faults::StoreFault;
+pub use faults::{StoreFault, refused};
 pub use keeper::SqliteKeeper;
 pub use numbering::pushed;
 pub use opening::with_tables;

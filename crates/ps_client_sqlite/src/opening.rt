@@ -28,6 +28,7 @@ pub fn with_tables<S: Alter + Drop>(
     ensures settled { IfOk result (λ made. Settles (state S.Store made)) }
     ensures rows { IfOk result (λ made. HasCleanDisk (state S.Store made) → IsTrue (state S.Store made).is_open
         → IsOfCommit (state S.Store connection) (state S.Store made)) }
+    ensures clean { IfOk result (λ made. HasCleanDisk (state S.Store made) → HasCleanDisk (state S.Store connection)) }
     ensures unnamed { IfErr result NamesNone }
 {
     let mut anew = match open_anew(alloc, connection) {

@@ -30,10 +30,12 @@ sync_of-taken found words rows right =
     let b = value_is found words (codes "token-file") rows in
     let d = value_is found words (codes "client-id") rows in
     let e = value_is found words (codes "upload") rows in
-    ap (λ v. named_of v (first_value found (codes "token-file")) (first_value found (codes "client-id")) (first_value found (codes "upload"))) a
-    ∙ ap (λ v. named_of (value_in words (codes "connect")) v (first_value found (codes "client-id")) (first_value found (codes "upload"))) b
-    ∙ ap (λ v. named_of (value_in words (codes "connect")) (value_in words (codes "token-file")) v (first_value found (codes "upload"))) d
-    ∙ ap (λ v. named_of (value_in words (codes "connect")) (value_in words (codes "token-file")) (value_in words (codes "client-id")) v) e
+    let f = value_is found words (codes "store") rows in
+    ap (λ v. named_of v (first_value found (codes "token-file")) (first_value found (codes "client-id")) (first_value found (codes "upload")) (first_value found (codes "store"))) a
+    ∙ ap (λ v. named_of (value_in words (codes "connect")) v (first_value found (codes "client-id")) (first_value found (codes "upload")) (first_value found (codes "store"))) b
+    ∙ ap (λ v. named_of (value_in words (codes "connect")) (value_in words (codes "token-file")) v (first_value found (codes "upload")) (first_value found (codes "store"))) d
+    ∙ ap (λ v. named_of (value_in words (codes "connect")) (value_in words (codes "token-file")) (value_in words (codes "client-id")) v (first_value found (codes "store"))) e
+    ∙ ap (λ v. named_of (value_in words (codes "connect")) (value_in words (codes "token-file")) (value_in words (codes "client-id")) (value_in words (codes "upload")) v) f
     ∙ ap (λ kinds. unless_wrong kinds (values_in words)) (sym right)
 
 wrong_is_none : (kinds : Kinds) (named : Option Named) (why : ErrorKind) → IsAmong why kinds → unless_wrong kinds named ≡ None

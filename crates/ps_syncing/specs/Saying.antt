@@ -15,9 +15,17 @@ status_of NoCheckpoint = 11
 status_of (Answered status) = 12
 status_of Altered = 13
 
--- the service's status, behind its words
+-- a number, behind its words
+abbrev pub numbered_line : List ℕ → ℕ → List ℕ
+numbered_line front number = front ++ (decimal number ++ codes "\n")
+
+-- the service's status
 abbrev pub answered_line : ℕ → List ℕ
-answered_line status = codes "powersync: service answered " ++ (decimal status ++ codes "\n")
+answered_line status = numbered_line (codes "powersync: service answered ") status
+
+-- a table of a client's storage
+abbrev pub store_line : ℕ → List ℕ
+store_line table = numbered_line (codes "powersync: store ") table
 
 abbrev pub stop_line : Stop → List ℕ
 stop_line (Shared fault) = fault_line fault

@@ -2,7 +2,7 @@
 
 ghost use Rattle.std.specs.Prelude.{◌≡◌};
 ghost use Rattle.ps_files.specs.FaultTexts.{Tells};
-ghost use Rattle.ps_syncing.specs.Saying.{SaysStop, TellsPiece, answered_line};
+ghost use Rattle.ps_syncing.specs.Saying.{SaysStop, TellsPiece, numbered_line, store_line};
 
 use crate::Stop;
 use itoa::Buffer;
@@ -26,23 +26,23 @@ fn tell_line<E: Sink>(err: &mut E, line: &str)
     let _told = tell_piece(err, line);
 }
 
-// Writes the line of the service's status; where that fails, nothing more is done.
-fn tell_answered<E: Sink>(err: &mut E, status: u16)
-    ensures { Tells (E.taken err.old) (E.taken err.new) (E.faults err.old) (E.faults err.new) (answered_line status) }
+// Writes a line that ends with a number; where that fails, nothing more is done.
+fn tell_number<E: Sink>(err: &mut E, front: &str, number: u16)
+    ensures { Tells (E.taken err.old) (E.taken err.new) (E.faults err.old) (E.faults err.new) (numbered_line front.now number) }
 {
     let mut digits = Buffer::new();
-    let status = digits.format(status);
-    if !tell_piece(err, "powersync: service answered ") {
+    let number = digits.format(number);
+    if !tell_piece(err, front) {
         return;
     }
-    if !tell_piece(err, status) {
+    if !tell_piece(err, number) {
         return;
     }
     let _told = tell_piece(err, "\n");
 }
 
 /// Says a fault on standard error, and answers its status: docs/FORMATS.md, "Fault texts". Takes no memory.
-pub(crate) fn say_stop<E: Sink>(err: &mut E, stop: &Stop<'_>) -> u8
+pub fn say_stop<E: Sink>(err: &mut E, stop: &Stop<'_>) -> u8
     ensures { SaysStop (record { old = E.taken err.old; new = E.taken err.new; before = E.faults err.old; now = E.faults err.new }) stop.now result }
 {
     match stop {
@@ -60,7 +60,7 @@ pub(crate) fn say_stop<E: Sink>(err: &mut E, stop: &Stop<'_>) -> u8
             11
         }
         Stop::Answered { status } => {
-            tell_answered(err, *status);
+            tell_number(err, "powersync: service answered ", *status);
             12
         }
         Stop::Altered => {
@@ -68,4 +68,14 @@ pub(crate) fn say_stop<E: Sink>(err: &mut E, stop: &Stop<'_>) -> u8
             13
         }
     }
+}
+
+/// Says on standard error that a table of a client's storage, counted from 1, has a row that is none of a state, and answers the status: docs/FORMATS.md, "Fault
+/// texts". Takes no memory.
+pub fn say_bad_store<E: Sink>(err: &mut E, table: u8) -> u8
+    ensures status { result ≡ 16 }
+    ensures line { Tells (E.taken err.old) (E.taken err.new) (E.faults err.old) (E.faults err.new) (store_line table) }
+{
+    tell_number(err, "powersync: store ", u16::from(table));
+    16
 }

@@ -16,7 +16,7 @@ use crate::stops::stop_of;
 use crate::words::read_words;
 use crate::{Stop, SyncFault};
 use ps_client::Client;
-use ps_client_log::{KeepFault, Keeper};
+use ps_client_log::{Hashing, KeepFault, Keeper};
 use ps_data::{Memory, Text};
 use ps_doors::Link;
 use ps_files::Fault;
@@ -35,7 +35,7 @@ fn of_keep(fault: KeepFault) -> SyncFault
     }
 }
 
-// Opens a client over what its keeper keeps, and brings it up to date. The keeper is given back.
+// Opens a client over what its keeper keeps, with maps that hash as given, and brings it up to date. The keeper is given back.
 #[tactic(auto, using(crate::proofs::Hearing::hears_nothing))]
 fn run<R: Wait, L: Link, P: Keeper, G: Sink>(
     rt: &R,
@@ -44,6 +44,7 @@ fn run<R: Wait, L: Link, P: Keeper, G: Sink>(
     prepared: Prepared,
     keeper: P,
     meter: &mut Meter<G>,
+    hashing: Hashing,
 ) -> (Result<Vec<u8>, SyncFault>, P)
     requires { All (λ (change : ChangeSeen). change.table ≢ []) prepared.changes }
     ensures runs { RunsSo prepared.service prepared.changes (P.held keeper) (L.closed link.old) (L.closed link.new) result.0 }
@@ -57,7 +58,7 @@ fn run<R: Wait, L: Link, P: Keeper, G: Sink>(
         Ok(name) => name,
         Err(Memory) => return (Err(SyncFault::Memory), keeper),
     };
-    match Client::open(alloc, keeper, name) {
+    match Client::open_hashed(alloc, keeper, name, hashing) {
         Ok(mut client) => {
             let text = sync_client(rt, alloc, link, &service, changes, &mut client, meter);
             (text, client.close())
@@ -83,10 +84,13 @@ fn print<'a, K: Sink>(found: Result<Vec<u8>, SyncFault>, out: &mut K) -> Result<
 
 /// Does the command `sync`, and answers its status and the keeper: docs/FORMATS.md, "Commands" and "Statuses".
 ///
-/// The words are those after the program's name: `sync`, with the options `--connect`, `--token-file` and `--client-id`, which are required, and `--upload`. The token
+/// The words are those after the program's name: `sync`, with the options `--connect`, `--token-file` and `--client-id`, which are required, and `--upload` and
+/// `--store`. The keeper is the caller's; `store_of` gives the file that `--store` names for it. The token
 /// file is read, and then the file of changes, before anything is connected. The changes are written locally, all local writes are uploaded in order, a write
 /// checkpoint is asked for where one is wanted, and streams are taken until a checkpoint is applied, at most eight. Then the rows are printed. Each request
 /// has a connection of its own, which is closed. Where anything fails, nothing is printed.
+///
+/// The client's maps hash by a seed that everyone knows, which serves for a service that is trusted; `run_sync_telling` is given how they hash.
 pub fn run_sync<R: Wait, F: Files, L: Link, P: Keeper, K: Sink, E: Sink>(
     rt: &R,
     alloc: Global,
@@ -117,10 +121,22 @@ pub fn run_sync<R: Wait, F: Files, L: Link, P: Keeper, K: Sink, E: Sink>(
     ensures out { L.out link.new ≡ L.out link.old }
 {
     let mut meter = Meter::off(Nowhere);
-    run_sync_telling(rt, alloc, words, files, link, keeper, out, err, &mut meter)
+    run_sync_telling(
+        rt,
+        alloc,
+        words,
+        files,
+        link,
+        keeper,
+        out,
+        err,
+        &mut meter,
+        Hashing::Fixed,
+    )
 }
 
-/// Does what `run_sync` does, and a meter hears the lines of the streams, so that a long download says how far it is.
+/// Does what `run_sync` does, and a meter hears the lines of the streams, so that a long download says how far it is. The client's maps hash as given: a
+/// service that may choose the names of buckets and the ids of rows is not to know the seed. No clause depends on it.
 #[tactic(auto, using(crate::proofs::Hearing::hears_nothing))]
 pub fn run_sync_telling<R: Wait, F: Files, L: Link, P: Keeper, K: Sink, E: Sink, G: Sink>(
     rt: &R,
@@ -132,6 +148,7 @@ pub fn run_sync_telling<R: Wait, F: Files, L: Link, P: Keeper, K: Sink, E: Sink,
     out: &mut K,
     err: &mut E,
     meter: &mut Meter<G>,
+    hashing: Hashing,
 ) -> (u8, P)
     ensures ends { EndsSo (record {
       held = F.held files.old;
@@ -163,7 +180,7 @@ pub fn run_sync_telling<R: Wait, F: Files, L: Link, P: Keeper, K: Sink, E: Sink,
         Ok(prepared) => prepared,
         Err(stop) => return (say_stop(err, &stop), keeper),
     };
-    let (found, keeper) = run(rt, alloc, link, prepared, keeper, meter);
+    let (found, keeper) = run(rt, alloc, link, prepared, keeper, meter, hashing);
     match print(found, out) {
         Ok(()) => (0, keeper),
         Err(stop) => (say_stop(err, &stop), keeper),

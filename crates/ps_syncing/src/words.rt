@@ -2,7 +2,7 @@
 
 ghost use Rattle.std.specs.Prelude.{◌≡◌, ◌≢◌, None, IfOk, false, map};
 ghost use Rattle.clap.specs.Words.{app_of, first_value, found_of, kind_of, rule_of};
-ghost use Rattle.ps_syncing.specs.Words.{named_in, option_of, sync_app, sync_of};
+ghost use Rattle.ps_syncing.specs.Words.{named_in, option_of, store_in, sync_app, sync_of};
 
 use clap::error::ErrorKind;
 use clap::{Arg, ArgAction, ArgMatches, Command, Error};
@@ -20,6 +20,8 @@ pub struct Named {
     pub client: Text,
     /// The file of changes to upload.
     pub upload: Option<Text>,
+    /// The file of the client's storage.
+    pub store: Option<Text>,
 }
 
 // An option `--NAME VALUE`.
@@ -41,7 +43,8 @@ fn sync_command<'a>(alloc: Global) -> Result<Command<'a>, Memory>
         .arg(option(alloc, "connect", true))?
         .arg(option(alloc, "token-file", true))?
         .arg(option(alloc, "client-id", true))?
-        .arg(option(alloc, "upload", false))?;
+        .arg(option(alloc, "upload", false))?
+        .arg(option(alloc, "store", false))?;
     Ok(command)
 }
 
@@ -80,11 +83,13 @@ fn named_by(alloc: Global, matches: &ArgMatches<'_>) -> Result<Option<Named>, Me
         return Ok(None);
     };
     let upload = value(alloc, matches, "upload")?;
+    let store = value(alloc, matches, "store")?;
     Ok(Some(Named {
         address,
         token_file,
         client,
         upload,
+        store,
     }))
 }
 
@@ -100,7 +105,7 @@ fn refused(error: &Error) -> Result<Option<Named>, Memory>
 }
 
 /// What the words of `sync` name, of which the first is the command's own: `--connect`, `--token-file` and `--client-id`, which are required, and
-/// `--upload`. None exactly where `clap` refuses them.
+/// `--upload` and `--store`. None exactly where `clap` refuses them.
 pub fn read_words(alloc: Global, words: &[Text]) -> Result<Option<Named>, Memory>
     ensures { IfOk result (λ named. named ≡ sync_of words.now) }
 {
@@ -109,5 +114,16 @@ pub fn read_words(alloc: Global, words: &[Text]) -> Result<Option<Named>, Memory
     match command.try_get_matches_from(texts.as_slice()) {
         Ok(matches) => named_by(alloc, &matches),
         Err(error) => refused(&error),
+    }
+}
+
+/// The file that `--store` names among the words of `sync`, of which the first is the command's own. None where it is not named, and where `clap` refuses
+/// the words.
+pub fn store_of(alloc: Global, words: &[Text]) -> Result<Option<Text>, Memory>
+    ensures { IfOk result (λ store. store ≡ store_in words.now) }
+{
+    match read_words(alloc, words)? {
+        Some(named) => Ok(named.store),
+        None => Ok(None),
     }
 }

@@ -3,11 +3,12 @@
 use crate::failing::{Failing, Kind, kind_in};
 use crate::settings::Setting;
 use case_words::{Stop, push_escaped};
-use ps_client_log::{Keeper, MemoryKeeper};
+use ps_client_log::{Hashing, Keeper, MemoryKeeper};
 use ps_data::Items;
 use ps_doors::{Link, MemoryLink};
 use ps_io::{Files, MemoryFiles, MemorySink, Sink};
-use ps_syncing::run_sync;
+use ps_progress::{Meter, Nowhere};
+use ps_syncing::{run_sync, run_sync_telling, store_of};
 use std::alloc::Global;
 use std::sync::Wait;
 
@@ -45,27 +46,29 @@ fn outside_of(
     Ok((files, link))
 }
 
-// Runs the command, and gives the keeper back.
+// Runs the command, with maps that hash as given where that is said, and gives the keeper back.
 fn run<R: Wait>(
     waits: &R,
     alloc: Global,
     setting: &Setting,
     failing: Failing,
     keeper: MemoryKeeper,
+    hashing: Option<Hashing>,
 ) -> Result<(Ran, MemoryKeeper), Stop> {
     let (mut files, mut link) = outside_of(alloc, setting, failing)?;
     let mut out = sink_of(alloc, failing, Kind::Out)?;
     let mut err = sink_of(alloc, failing, Kind::Err)?;
-    let (status, keeper) = run_sync(
-        waits,
-        alloc,
-        setting.words(),
-        &mut files,
-        &mut link,
-        keeper,
-        &mut out,
-        &mut err,
-    );
+    let words = setting.words();
+    let mut meter = Meter::off(Nowhere);
+    let (status, keeper) = match hashing {
+        None => run_sync(
+            waits, alloc, words, &mut files, &mut link, keeper, &mut out, &mut err,
+        ),
+        Some(hashing) => run_sync_telling(
+            waits, alloc, words, &mut files, &mut link, keeper, &mut out, &mut err, &mut meter,
+            hashing,
+        ),
+    };
     let has_failed = files.file_faults() > 0
         || link.link_faults() > 0
         || keeper.keep_faults() > 0
@@ -101,16 +104,18 @@ fn push_ran(ran: &Ran, out: &mut String) -> Result<(), Stop> {
     Ok(())
 }
 
-/// Runs the command, says what came of it, and drops all peers.
+/// Runs the command, with maps that hash as given where that is said, says what came of it, and drops all peers.
 pub fn write_run<R: Wait>(
     waits: &R,
     alloc: Global,
     setting: &mut Setting,
+    hashing: Option<Hashing>,
     out: &mut String,
 ) -> Result<(), Stop> {
     let kind = Kind::File;
     let keeper = setting.take_keeper(alloc);
-    let (ran, keeper) = run(waits, alloc, setting, Failing { kind, call: 0 }, keeper)?;
+    let failing = Failing { kind, call: 0 };
+    let (ran, keeper) = run(waits, alloc, setting, failing, keeper, hashing)?;
     setting.keeper = Some(keeper);
     setting.leave(alloc);
     push_ran(&ran, out)
@@ -124,7 +129,7 @@ fn run_failing<R: Wait>(
     failing: Failing,
 ) -> Result<Ran, Stop> {
     let keeper = MemoryKeeper::new(alloc, failing.of(alloc, Kind::Keep)?);
-    let (ran, _keeper) = run(waits, alloc, setting, failing, keeper)?;
+    let (ran, _keeper) = run(waits, alloc, setting, failing, keeper, None)?;
     Ok(ran)
 }
 
@@ -146,4 +151,13 @@ pub fn write_each<R: Wait>(
         }
     }
     Ok(out.push_str("\n")?)
+}
+
+/// Says which file the words name for what the client keeps.
+pub fn write_store(alloc: Global, setting: &Setting, out: &mut String) -> Result<(), Stop> {
+    match store_of(alloc, setting.words())? {
+        Some(name) => write!(out, "store {}\n", name.as_str())?,
+        None => out.push_str("no store\n")?,
+    }
+    Ok(())
 }

@@ -2,11 +2,12 @@
 
 use crate::failing::{Failing, Kind};
 use case_words::{Stop, cut, size_in, unescaped};
-use ps_client_log::MemoryKeeper;
+use ps_client_log::{Hashing, MemoryKeeper};
 use ps_data::{Items, Text};
 use ps_doors::Peer;
 use ps_io::MemoryFile;
 use std::alloc::Global;
+use std::hash::RandomState;
 
 // Room for all that a run sends to a peer.
 const ROOM: usize = 65536;
@@ -31,16 +32,19 @@ pub struct Setting {
     words: Vec<Text>,
     files: Vec<Held>,
     answers: Vec<Answer>,
+    // A seed that was drawn.
+    keys: RandomState,
     /// The keeper of the run before.
     pub keeper: Option<MemoryKeeper>,
 }
 
-/// No words, no files, no peers, and a keeper of nothing.
-pub fn new_setting(alloc: Global) -> Setting {
+/// No words, no files, no peers, a keeper of nothing, and a seed that was drawn.
+pub fn new_setting(alloc: Global, keys: RandomState) -> Setting {
     Setting {
         words: Vec::new(alloc),
         files: Vec::new(alloc),
         answers: Vec::new(alloc),
+        keys,
         keeper: None,
     }
 }
@@ -91,6 +95,11 @@ impl Setting {
     /// The words.
     pub fn words(&self) -> &[Text] {
         self.words.as_slice()
+    }
+
+    /// How maps hash by the seed that was drawn.
+    pub fn seeded(&self) -> Hashing {
+        Hashing::Seeded(self.keys)
     }
 
     /// Copies of the files.

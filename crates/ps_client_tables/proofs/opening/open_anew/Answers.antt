@@ -22,6 +22,9 @@ returns-in-Ok-clause-rows g c clean =
     let open' = still_open (g.S.Store.view store) (g.met.S.Store.broken_if_shut store) sound in
     c.in-Ok.ensures.trees clean ∙ (c.into_store-store.ensures.undone.undone open').0
 
+pub returns-in-Ok-clause-clean : goal.returns-in-Ok-clause-clean
+returns-in-Ok-clause-clean g c clean = omega (arith, c.in-Ok.ensures.clean, c.into_store-store.ensures.quiet.clean)
+
 pub returns-in-Ok-clause-ordered : goal.returns-in-Ok-clause-ordered
 returns-in-Ok-clause-ordered g c clean has =
     let store = c.into_store-store.result in

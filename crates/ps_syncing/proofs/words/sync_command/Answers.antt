@@ -6,8 +6,9 @@ use Rattle.ps_syncing.proofs.words.sync_command.Goals as goal
 pub returns : goal.returns
 unfolding sync_app
 returns c =
-    c.in_ok-command.ensures.shape c.option-4.ensures.local
+    c.in_ok-command.ensures.shape c.option-5.ensures.local
+    ∙ ap₂ with_rule (c.in_ok-arg-4.ensures.shape c.option-4.ensures.local
     ∙ ap₂ with_rule (c.in_ok-arg-3.ensures.shape c.option-3.ensures.local
     ∙ ap₂ with_rule (c.in_ok-arg-2.ensures.shape c.option-2.ensures.local
     ∙ ap₂ with_rule (c.in_ok-arg.ensures.shape c.option.ensures.local
-    ∙ ap₂ with_rule c.new.ensures.app c.option.ensures.rule) c.option-2.ensures.rule) c.option-3.ensures.rule) c.option-4.ensures.rule
+    ∙ ap₂ with_rule c.new.ensures.app c.option.ensures.rule) c.option-2.ensures.rule) c.option-3.ensures.rule) c.option-4.ensures.rule) c.option-5.ensures.rule
