@@ -74,7 +74,7 @@ module _ (o : Outside) (mid_held : Option Contents) (mid : ℕ) (words : List (L
       → ((fault : Fault) (bytes : List ℕ) → HoldsWithin o.held name (limit_of role) bytes → Refuses fault bytes → Caused o words fault)
       → (fault : Fault) → Loads {X = X} mid_held name (limit_of role) mid o.read_now Finds Refuses (Err fault) → Caused o words fault
   cause_of Finds Refuses why Usage h = absurd h
-  cause_of Finds Refuses why (Rules line column cause) h = why (Rules line column cause) h.0 (here h.0 h.1) h.2
+  cause_of Finds Refuses why (Rules which line column cause) h = why (Rules which line column cause) h.0 (here h.0 h.1) h.2
   cause_of Finds Refuses why (Change line cause) h = why (Change line cause) h.0 (here h.0 h.1) h.2
   cause_of Finds Refuses why (PastLimit limit) h = why (PastLimit limit) h.0 (here h.0 h.1) h.2
   cause_of Finds Refuses why (TooManyBuckets count) h = why (TooManyBuckets count) h.0 (here h.0 h.1) h.2
@@ -89,7 +89,7 @@ module _ (o : Outside) (mid_held : Option Contents) (mid : ℕ) (words : List (L
 module _ (o : Outside) (words : List (List ℕ)) (name : List ℕ) (kept : Kept o) where
   rules_refused : Reaches o.held words for_rules name → (fault : Fault) (bytes : List ℕ) → HoldsWithin o.held name rules_limit bytes → IsRulesFault fault bytes → Caused o words fault
   rules_refused reached Usage bytes file h = absurd h
-  rules_refused reached (Rules line column why) bytes file h = (kept, record { name = name; reached = reached; bytes = bytes; file = file; refused = h })
+  rules_refused reached (Rules which line column why) bytes file h = (kept, record { name = name; reached = reached; bytes = bytes; file = file; refused = h })
   rules_refused reached (Change line why) bytes file h = absurd h
   rules_refused reached (PastLimit limit) bytes file h = absurd h
   rules_refused reached (TooManyBuckets count) bytes file h = absurd h
@@ -103,7 +103,7 @@ module _ (o : Outside) (words : List (List ℕ)) (name : List ℕ) (kept : Kept 
 
   claims_refused : Reaches o.held words for_claims name → (fault : Fault) (bytes : List ℕ) → HoldsWithin o.held name file_limit bytes → IsClaimsFault fault bytes → Caused o words fault
   claims_refused reached Usage bytes file h = absurd h
-  claims_refused reached (Rules line column why) bytes file h = absurd h
+  claims_refused reached (Rules which line column why) bytes file h = absurd h
   claims_refused reached (Change line why) bytes file h = absurd h
   claims_refused reached (PastLimit limit) bytes file h = absurd h
   claims_refused reached (TooManyBuckets count) bytes file h = absurd h
@@ -117,7 +117,7 @@ module _ (o : Outside) (words : List (List ℕ)) (name : List ℕ) (kept : Kept 
 
   keys_refused : Reaches o.held words for_keys name → (fault : Fault) (bytes : List ℕ) → HoldsWithin o.held name file_limit bytes → IsKeysFault fault bytes → Caused o words fault
   keys_refused reached Usage bytes file h = absurd h
-  keys_refused reached (Rules line column why) bytes file h = absurd h
+  keys_refused reached (Rules which line column why) bytes file h = absurd h
   keys_refused reached (Change line why) bytes file h = absurd h
   keys_refused reached (PastLimit limit) bytes file h = absurd h
   keys_refused reached (TooManyBuckets count) bytes file h = absurd h
@@ -136,7 +136,7 @@ module _ (o : Outside) (words : List (List ℕ)) (names : Names) (kept : Kept o)
 
   changes_refused : (fault : Fault) (bytes : List ℕ) → HoldsWithin o.held names.changes file_limit bytes → RefusesRows names.feeding rules asker fault bytes → Caused o words fault
   changes_refused Usage bytes file h = absurd h
-  changes_refused (Rules line column why) bytes file h = absurd h
+  changes_refused (Rules which line column why) bytes file h = absurd h
   changes_refused (Change line why) bytes file h = (kept, inl (record { names = names; is = is; before = files_before; bytes = bytes; file = file; refused = h }))
   changes_refused (PastLimit limit) bytes file h = (kept, inl (record { names = names; is = is; before = files_before; bytes = bytes; file = file; refused = h }))
   changes_refused (TooManyBuckets count) bytes file h = (
@@ -162,7 +162,7 @@ module _ (o : Outside) (words : List (List ℕ)) (names : Names) (kept : Kept o)
 module _ (o : Outside) (words : List (List ℕ)) (names : Inputs) (kept : Kept o) (is : command_of words ≡ Some (compact names)) (rules : RuleSet) (rules_read : ReadsRules o.held names.rules rules) where
   reports_refused : (fault : Fault) (bytes : List ℕ) → HoldsWithin o.held names.changes file_limit bytes → RefusesReports rules fault bytes → Caused o words fault
   reports_refused Usage bytes file h = absurd h
-  reports_refused (Rules line column why) bytes file h = absurd h
+  reports_refused (Rules which line column why) bytes file h = absurd h
   reports_refused (Change line why) bytes file h = (kept, inr (inl (record { names = names; is = is; rules = rules; rules_read = rules_read; bytes = bytes; file = file; refused = h })))
   reports_refused (PastLimit limit) bytes file h = (kept, inr (inl (record { names = names; is = is; rules = rules; rules_read = rules_read; bytes = bytes; file = file; refused = h })))
   reports_refused (TooManyBuckets count) bytes file h = absurd h

@@ -444,7 +444,7 @@ module _ (held : Contents) (words : List (List ℕ)) (command : Command) (is : c
   answer_of : (read_before read_now write_before write_now : ℕ) → ¬ (Rose read_before read_now) → ¬ (Rose write_before write_now)
       → (fault : Fault) → Caused (outside held read_before read_now old new write_before write_now) words fault → status ≡ status_of fault → IsAnswer (meaning held command) old new status
   answer_of read_before read_now write_before write_now read written Usage c s = let wrong : Some command ≡ None = sym is ∙ c.1 in cc
-  answer_of read_before read_now write_before write_now read written (Rules line column why) c s = rules_answer (Rules line column why) c.1 (s, c.0)
+  answer_of read_before read_now write_before write_now read written (Rules which line column why) c s = rules_answer (Rules which line column why) c.1 (s, c.0)
   answer_of read_before read_now write_before write_now read written (Change line why) c s = lines_answer (Change line why) c.1 (s, c.0)
   answer_of read_before read_now write_before write_now read written (PastLimit limit) c s = lines_answer (PastLimit limit) c.1 (s, c.0)
   answer_of read_before read_now write_before write_now read written (TooManyBuckets count) c s = buckets_answer count c.1 (s, c.0)
@@ -525,7 +525,7 @@ module _ (words : List (List ℕ)) (old new : Option (List ℕ)) (status : ℕ) 
         → (fault : Fault) → Caused (record { held = None; read_before = read_before; read_now = read_now; taken_before = old; taken_now = new; write_before = write_before; write_now = write_now }) words fault → status ≡ status_of fault
         → Answer
     alone_answer read_before read_now write_before write_now read written Usage c s = let wrong : Some command ≡ None = sym is ∙ c.1 in cc
-    alone_answer read_before read_now write_before write_now read written (Rules line column why) c s = of_reached for_rules c.1.name c.1.reached
+    alone_answer read_before read_now write_before write_now read written (Rules which line column why) c s = of_reached for_rules c.1.name c.1.reached
     alone_answer read_before read_now write_before write_now read written (Change line why) c s = of_lines (Change line why) c.1
     alone_answer read_before read_now write_before write_now read written (PastLimit limit) c s = of_lines (PastLimit limit) c.1
     alone_answer read_before read_now write_before write_now read written (TooManyBuckets n) c s = of_other (rows c.1.names) c.1.is (λ none. none)
@@ -550,7 +550,7 @@ exact_err (Some held) words read_before read_now old new write_before write_now 
 
 pub limits_by : (o : Outside) (words : List (List ℕ)) (status : ℕ) (fault : Fault) → Caused o words fault → status ≡ status_of fault → status ≡ 5 → ExceedsLimit o.held words
 limits_by o words status Usage c s h = absurd (omega (arith, s, h))
-limits_by o words status (Rules line column why) c s h = absurd (omega (arith, s, h))
+limits_by o words status (Rules which line column why) c s h = absurd (omega (arith, s, h))
 limits_by o words status (Change line why) c s h = absurd (omega (arith, s, h))
 limits_by o words status (PastLimit limit) c s h = inr (inl (limit, c.1))
 limits_by o words status (TooManyBuckets count) c s h = inr (inr (count, c.1))
@@ -566,7 +566,7 @@ limits_by o words status Memory c s h = absurd (omega (arith, s, h))
 
 pub claims_by : (o : Outside) (words : List (List ℕ)) (status : ℕ) (fault : Fault) → Caused o words fault → status ≡ status_of fault → status ≡ 4 → RefusesKeys o.held words ⊎ RefusesClaims o.held words
 claims_by o words status Usage c s h = absurd (omega (arith, s, h))
-claims_by o words status (Rules line column why) c s h = absurd (omega (arith, s, h))
+claims_by o words status (Rules which line column why) c s h = absurd (omega (arith, s, h))
 claims_by o words status (Change line why) c s h = absurd (omega (arith, s, h))
 claims_by o words status (PastLimit limit) c s h = absurd (omega (arith, s, h))
 claims_by o words status (TooManyBuckets count) c s h = absurd (omega (arith, s, h))
@@ -581,7 +581,7 @@ claims_by o words status Memory c s h = absurd (omega (arith, s, h))
 pub unread_by : (o : Outside) (words : List (List ℕ)) (before after : Option (List (List ℕ))) (status : ℕ) (fault : Fault) → Caused o words fault → JoinsThese before after (unread_name fault)
     → status ≡ status_of fault → status ≡ 6 → Rose o.read_before o.read_now × (name : List ℕ) × IsNext o.held words name × Joins before after name
 unread_by o words before after status Usage c j s h = absurd (omega (arith, s, h))
-unread_by o words before after status (Rules line column why) c j s h = absurd (omega (arith, s, h))
+unread_by o words before after status (Rules which line column why) c j s h = absurd (omega (arith, s, h))
 unread_by o words before after status (Change line why) c j s h = absurd (omega (arith, s, h))
 unread_by o words before after status (PastLimit limit) c j s h = absurd (omega (arith, s, h))
 unread_by o words before after status (TooManyBuckets count) c j s h = absurd (omega (arith, s, h))
@@ -596,7 +596,7 @@ unread_by o words before after status Memory c j s h = absurd (omega (arith, s, 
 -- but where a file could not be read, no name joined those that could not be
 pub missed_by : (before after : Option (List (List ℕ))) (status : ℕ) (fault : Fault) → JoinsThese before after (unread_name fault) → status ≡ status_of fault → ¬ (status ≡ 6) → after ≡ before
 missed_by before after status Usage j s other = j
-missed_by before after status (Rules line column why) j s other = j
+missed_by before after status (Rules which line column why) j s other = j
 missed_by before after status (Change line why) j s other = j
 missed_by before after status (PastLimit limit) j s other = j
 missed_by before after status (TooManyBuckets count) j s other = j
@@ -610,7 +610,7 @@ missed_by before after status Memory j s other = j
 
 pub unwritten_by : (o : Outside) (words : List (List ℕ)) (status : ℕ) (fault : Fault) → Caused o words fault → status ≡ status_of fault → status ≡ 7 → Rose o.write_before o.write_now × PrintsFront o.held words o.taken_before o.taken_now
 unwritten_by o words status Usage c s h = absurd (omega (arith, s, h))
-unwritten_by o words status (Rules line column why) c s h = absurd (omega (arith, s, h))
+unwritten_by o words status (Rules which line column why) c s h = absurd (omega (arith, s, h))
 unwritten_by o words status (Change line why) c s h = absurd (omega (arith, s, h))
 unwritten_by o words status (PastLimit limit) c s h = absurd (omega (arith, s, h))
 unwritten_by o words status (TooManyBuckets count) c s h = absurd (omega (arith, s, h))
@@ -624,7 +624,7 @@ unwritten_by o words status Memory c s h = absurd (omega (arith, s, h))
 
 pub changes_by : (o : Outside) (words : List (List ℕ)) (status : ℕ) (fault : Fault) → Caused o words fault → status ≡ status_of fault → status ≡ 3 → (line : ℕ) × (why : LineFault) × RefusesLines o.held words (Change line why)
 changes_by o words status Usage c s h = absurd (omega (arith, s, h))
-changes_by o words status (Rules line column why) c s h = absurd (omega (arith, s, h))
+changes_by o words status (Rules which line column why) c s h = absurd (omega (arith, s, h))
 changes_by o words status (Change line why) c s h = (line, why, c.1)
 changes_by o words status (PastLimit limit) c s h = absurd (omega (arith, s, h))
 changes_by o words status (TooManyBuckets count) c s h = absurd (omega (arith, s, h))
@@ -638,7 +638,7 @@ changes_by o words status Memory c s h = absurd (omega (arith, s, h))
 
 pub script_by : (o : Outside) (words : List (List ℕ)) (status : ℕ) (fault : Fault) → Caused o words fault → status ≡ status_of fault → status ≡ 9 → (line : ℕ) × (why : ScriptCause) × RefusesScript o.held words line why o.taken_before o.taken_now
 script_by o words status Usage c s h = absurd (omega (arith, s, h))
-script_by o words status (Rules line column why) c s h = absurd (omega (arith, s, h))
+script_by o words status (Rules which line column why) c s h = absurd (omega (arith, s, h))
 script_by o words status (Change line why) c s h = absurd (omega (arith, s, h))
 script_by o words status (PastLimit limit) c s h = absurd (omega (arith, s, h))
 script_by o words status (TooManyBuckets count) c s h = absurd (omega (arith, s, h))
@@ -654,7 +654,7 @@ script_by o words status Memory c s h = absurd (omega (arith, s, h))
 
 pub early_by : (o : Outside) (words : List (List ℕ)) (status : ℕ) (fault : Fault) → Caused o words fault → status ≡ status_of fault → status ≡ 8 → (Kept o) ⊎ PrintsSome o.held words o.taken_before o.taken_now
 early_by o words status Usage c s h = absurd (omega (arith, s, h))
-early_by o words status (Rules line column why) c s h = absurd (omega (arith, s, h))
+early_by o words status (Rules which line column why) c s h = absurd (omega (arith, s, h))
 early_by o words status (Change line why) c s h = absurd (omega (arith, s, h))
 early_by o words status (PastLimit limit) c s h = absurd (omega (arith, s, h))
 early_by o words status (TooManyBuckets count) c s h = absurd (omega (arith, s, h))
@@ -669,7 +669,7 @@ early_by o words status Memory (inr p) s h = inr p
 
 pub first_by : (o : Outside) (words : List (List ℕ)) (status : ℕ) (fault : Fault) → Caused o words fault → status ≡ status_of fault → status ≡ 8 → BeginsWithin o.held words
 first_by o words status Usage c s h = absurd (omega (arith, s, h))
-first_by o words status (Rules line column why) c s h = absurd (omega (arith, s, h))
+first_by o words status (Rules which line column why) c s h = absurd (omega (arith, s, h))
 first_by o words status (Change line why) c s h = absurd (omega (arith, s, h))
 first_by o words status (PastLimit limit) c s h = absurd (omega (arith, s, h))
 first_by o words status (TooManyBuckets count) c s h = absurd (omega (arith, s, h))
@@ -685,7 +685,7 @@ first_by o words status Memory (inr p) s h =
 
 pub kept_by : (o : Outside) (words : List (List ℕ)) (status : ℕ) (fault : Fault) → Caused o words fault → status ≡ status_of fault → ¬ (status ≡ 7) → ¬ (status ≡ 8) → ¬ (status ≡ 9) → Kept o
 kept_by o words status Usage c s seven eight nine = c.0
-kept_by o words status (Rules line column why) c s seven eight nine = c.0
+kept_by o words status (Rules which line column why) c s seven eight nine = c.0
 kept_by o words status (Change line why) c s seven eight nine = c.0
 kept_by o words status (PastLimit limit) c s seven eight nine = c.0
 kept_by o words status (TooManyBuckets count) c s seven eight nine = c.0
@@ -701,7 +701,7 @@ kept_by o words status Memory c s seven eight nine = absurd (eight s)
 
 fault_status : (fault : Fault) → (1 ≤ status_of fault) × (status_of fault ≤ 9)
 fault_status Usage = (omega arith, omega arith)
-fault_status (Rules line column why) = (omega arith, omega arith)
+fault_status (Rules which line column why) = (omega arith, omega arith)
 fault_status (Change line why) = (omega arith, omega arith)
 fault_status (PastLimit limit) = (omega arith, omega arith)
 fault_status (TooManyBuckets count) = (omega arith, omega arith)
@@ -727,7 +727,7 @@ not_quiet status fault s (inr h) = not_altered status fault s h
 
 pub usage_by : (o : Outside) (words : List (List ℕ)) (status : ℕ) (fault : Fault) → Caused o words fault → status ≡ status_of fault → status ≡ 1 → command_of words ≡ None
 usage_by o words status Usage c s h = c.1
-usage_by o words status (Rules line column why) c s h = absurd (omega (arith, s, h))
+usage_by o words status (Rules which line column why) c s h = absurd (omega (arith, s, h))
 usage_by o words status (Change line why) c s h = absurd (omega (arith, s, h))
 usage_by o words status (PastLimit limit) c s h = absurd (omega (arith, s, h))
 usage_by o words status (TooManyBuckets count) c s h = absurd (omega (arith, s, h))
@@ -756,7 +756,7 @@ module _ (held : Option Contents) (words : List (List ℕ)) (none : command_of w
 
 pub no_command : (o : Outside) (words : List (List ℕ)) (status : ℕ) (fault : Fault) → Caused o words fault → status ≡ status_of fault → command_of words ≡ None → status ≡ 1
 no_command o words status Usage c s none = s
-no_command o words status (Rules line column why) c s none = absurd (not_any o.held words none c.1.reached.command c.1.reached.is)
+no_command o words status (Rules which line column why) c s none = absurd (not_any o.held words none c.1.reached.command c.1.reached.is)
 no_command o words status (Change line why) c s none = absurd (not_lines o.held words none (Change line why) c.1)
 no_command o words status (PastLimit limit) c s none = absurd (not_lines o.held words none (PastLimit limit) c.1)
 no_command o words status (TooManyBuckets count) c s none = absurd (not_any o.held words none (rows c.1.names) c.1.is)

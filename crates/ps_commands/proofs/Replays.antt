@@ -57,7 +57,7 @@ module _ (o : Outside) (words : List (List ℕ)) (names : Scripting) (is : comma
   module _ (kept : Kept o) (rules : RuleSet) (rules_read : ReadsRules o.held names.rules rules) where
     pub fed_refused : (fault : Fault) (bytes : List ℕ) → HoldsWithin o.held names.changes file_limit bytes → IsTransactionsFault fault bytes → Caused o words fault
     fed_refused Usage bytes file h = absurd h
-    fed_refused (Rules line column why) bytes file h = absurd h
+    fed_refused (Rules which line column why) bytes file h = absurd h
     fed_refused (Change line why) bytes file h = (kept, inr (inr (inl (record { names = names; is = is; rules = rules; rules_read = rules_read; bytes = bytes; file = file; refused = h }))))
     fed_refused (PastLimit limit) bytes file h = (kept, inr (inr (inl (record { names = names; is = is; rules = rules; rules_read = rules_read; bytes = bytes; file = file; refused = h }))))
     fed_refused (TooManyBuckets count) bytes file h = absurd h
@@ -91,7 +91,7 @@ module _ (o : Outside) (words : List (List ℕ)) (names : Scripting) (is : comma
     pub played : (r : Result (Unit {0}) Fault) → PlaysOut game out_of r → Outcome o words r
     played (Ok done) p = record { command = replay names; is = is; text = p.0; means = record { game = game; read = read; gives = p.1 }; printed = p.2 }
     played (Err Usage) p = absurd p
-    played (Err (Rules line column why)) p = absurd p
+    played (Err (Rules which line column why)) p = absurd p
     played (Err (Change line why)) p = absurd p
     played (Err (PastLimit limit)) p = absurd p
     played (Err (TooManyBuckets count)) p = absurd p

@@ -567,7 +567,7 @@ Kept o = o.taken_now ≡ o.taken_before
 -- why a command ends with a fault, and what the output has taken then
 abbrev pub Caused : Outside → List (List ℕ) → Fault → Type 0
 Caused o words Usage = Kept o × (command_of words ≡ None)
-Caused o words (Rules line column why) = Kept o × RefusesRules o.held words (Rules line column why)
+Caused o words (Rules which line column why) = Kept o × RefusesRules o.held words (Rules which line column why)
 Caused o words (Change line why) = Kept o × RefusesLines o.held words (Change line why)
 Caused o words (PastLimit limit) = Kept o × RefusesLines o.held words (PastLimit limit)
 Caused o words (TooManyBuckets count) = Kept o × HasTooManyBuckets o.held words count

@@ -74,7 +74,7 @@ stopped_by number scripts.Memory = Memory
 abbrev pub PlaysOut : Game → Output → Result (Unit {0}) Fault → Type 0
 PlaysOut game out (Ok done) = (text : List ℕ) × GivesAll game text × Gains out.old out.new text
 PlaysOut game out (Err Usage) = ⊥
-PlaysOut game out (Err (Rules line column why)) = ⊥
+PlaysOut game out (Err (Rules which line column why)) = ⊥
 PlaysOut game out (Err (Change line why)) = ⊥
 PlaysOut game out (Err (PastLimit limit)) = ⊥
 PlaysOut game out (Err (TooManyBuckets count)) = ⊥
