@@ -59,7 +59,10 @@ fn of_next<'a>(fault: Fault<'a>) -> Fault<'a>
 {
     match fault {
         Fault::Rules {
-            line, column, why, ..
+            line,
+            column,
+            why,
+            ..
         } => Fault::Rules {
             file: RulesFile::Next,
             line,

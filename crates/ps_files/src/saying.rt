@@ -135,17 +135,11 @@ fn tell_rules<E: Sink>(err: &mut E, file: RulesFile, line: u32, column: u32, why
     let line = line_digits.format(line);
     let column = column_digits.format(column);
     match at {
-        None => tell(
-            err,
-            &[front, line, ":", column, " ", kind, "\n"],
-        ),
+        None => tell(err, &[front, line, ":", column, " ", kind, "\n"]),
         Some(at) => {
             let mut at_digits = Buffer::new();
             let at = at_digits.format(at);
-            tell(
-                err,
-                &[front, line, ":", column, " ", kind, at, "\n"],
-            )
+            tell(err, &[front, line, ":", column, " ", kind, at, "\n"])
         }
     }
 }
