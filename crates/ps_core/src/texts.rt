@@ -118,10 +118,10 @@ fn counted(alloc: Global, totals: Totals) -> Result<Vec<u8>, Memory>
     )?.into_bytes())
 }
 
-fn built_up(alloc: Global, built: Built) -> Result<Vec<u8>, Memory>
-    ensures { IfOk result (λ text. text.items ≡ text_of_effect (Effect.Built built)) }
+fn built(alloc: Global, batch: Built) -> Result<Vec<u8>, Memory>
+    ensures { IfOk result (λ text. text.items ≡ text_of_effect (Effect.Built batch)) }
 {
-    let (changes, last_op, left) = (built.changes, built.last_op.0, built.left);
+    let (changes, last_op, left) = (batch.changes, batch.last_op.0, batch.left);
     Ok(format!(in alloc; "built {changes} last {last_op} left {left}\n")?.into_bytes())
 }
 
@@ -176,7 +176,7 @@ pub fn effect_text(alloc: Global, effect: &Effect) -> Result<Vec<u8>, Memory>
         }
         Effect::Building { generation } => numbered(alloc, "building", u64::from(*generation)),
         Effect::GenerationsFull { last } => numbered(alloc, "generations full", u64::from(*last)),
-        Effect::Built { built } => built_up(alloc, *built),
+        Effect::Built { built: batch } => built(alloc, *batch),
         Effect::NothingBuilding => fixed(alloc, "nothing building"),
         Effect::NothingToBuild => fixed(alloc, "nothing to build"),
         Effect::NotBuilt { left } => numbered(alloc, "not built", *left),
