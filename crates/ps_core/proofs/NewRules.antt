@@ -19,6 +19,7 @@ use Rattle.ps_store.specs.declared.stores.Store.{Store}
 use Rattle.ps_store.specs.Deploys.{Abandons, Builds, Deploys, Switches, as_force, run_in, run_of}
 use Rattle.ps_store.specs.Generations.{Coming, lane_next, queue_in}
 use Rattle.ps_store.specs.Ledgers.{Ledger, fresh, ledger_after, ledger_of}
+use Rattle.ps_store.specs.Limits.{greatest}
 use Rattle.ps_store.specs.Originals.{Timed, entries_at, key_of}
 use Rattle.ps_store.specs.Readings.{building_of}
 use Rattle.ps_store.specs.Stores.{StoreStandsFor}
@@ -213,7 +214,7 @@ pub switched_so : (fixed : Fixed) (play : Play) (store : Store) (checkpoint : Ch
     → CameStill fixed play scripts.Switch store (effects.Committed checkpoint)
 switched_so fixed play store checkpoint it =
     let l = ledger fixed play in
-    let can : IsSome l.building × (queue_in l.building ≡ []) × (l.reach.over ≡ 0) × (l.last < _) = could_come fixed.rules play.history events.Switch it.3.legal in
+    let can : IsSome l.building × (queue_in l.building ≡ []) × (l.reach.over ≡ 0) × (l.last < greatest) = could_come fixed.rules play.history events.Switch it.3.legal in
     let room : l.last < fixed.limits.ops = omega (arith, it.1, it.2) in
     let same : checkpoint_of l.reach.position (l.last + 1) ≡ checkpoint =
     ap (λ (p : ℕ). checkpoint_of p (l.last + 1)) (sym it.0) ∙ ap (λ (op : ℕ). checkpoint_of checkpoint.position.0 op) (sym it.1) in
