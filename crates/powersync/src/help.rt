@@ -7,7 +7,7 @@ const COMMANDS: &str =
 
   check RULES                         what the rules have, and warnings; or the first fault, with its place
   rows RULES CHANGES CLAIMS           the rows that one user gets, after all changes
-  replay RULES CHANGES SCRIPT         what each event of a script does
+  replay RULES CHANGES SCRIPT [NEXT]  what each event of a script does
   compact RULES CHANGES               what the compaction of each bucket reports
   token KEYS KID CLAIMS               a signed token (RFC 7519, HS256)
   generate N [lines]                  a summary of N made transactions, or their lines
@@ -34,9 +34,10 @@ Prints the rows that the asker of the claims file gets, after all transactions o
 Example: powersync rows examples/todo/rules.yaml examples/todo/changes.jsonl examples/todo/ann.json
 ";
 
-const REPLAY: &str = "powersync replay RULES CHANGES SCRIPT
+const REPLAY: &str = "powersync replay RULES CHANGES SCRIPT [NEXT]
 
 Plays a script of events against a store: feeding, writing, committing and compacting, and clients with their streams. Prints what each event did.
+With a rules file NEXT, the script can deploy its rules, build what they make of the rows, and switch to them while streams run.
 Example: powersync replay examples/todo/rules.yaml examples/todo/changes.jsonl examples/todo/script.txt
 ";
 

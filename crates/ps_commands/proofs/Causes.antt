@@ -10,13 +10,13 @@ use Rattle.ps_token.specs.declared.key_lists.Key.{Key}
 use Rattle.ps_files.specs.declared.faults.Fault.{Fault}
 use Rattle.ps_files.specs.declared.faults.Fault.TheVariants.{Usage, Rules, Change, PastLimit, TooManyBuckets, Claims, Keys, TooLong, CannotRead, CannotWrite, Script, Memory}
 use Rattle.ps_files.specs.HeldFiles.{file_limit, rules_limit, HoldsWithin}
-use Rattle.ps_commands.specs.Commands.{Names, Inputs, check, rows, compact, token, generate, generate_lines, audit, Recording, command_of, ReadsRules, ReadsAsker, ReadsKeyFile, ReadsRising, ReadsAuditor, ReadsSource, Role, for_rules, for_keys, for_claims, for_changes, for_script, for_stream, limit_of, ComesTo, FirstFits, ReadsRulesAndClaims, Reaches, Command, replay, Means, MeansRows, MeansCompact, Begins, Outside, Kept, Caused, reading, Finds}
+use Rattle.ps_commands.specs.Commands.{Names, Inputs, check, rows, compact, token, generate, generate_lines, audit, Recording, command_of, ReadsRules, ReadsAsker, ReadsKeyFile, ReadsRising, ReadsAuditor, ReadsSource, Role, for_rules, for_next, for_keys, for_claims, for_changes, for_script, for_stream, limit_of, ComesTo, FirstFits, ReadsRulesAndClaims, Reaches, Command, replay, Means, MeansRows, MeansCompact, Begins, Outside, Kept, Caused, reading, Finds}
 use Rattle.ps_audit.specs.declared.verdicts.Verdict.TheVariants.{Yes}
 use Rattle.ps_commands.specs.Replaying.{Game, GivesAll, GivesSome}
 use Rattle.ps_script.specs.Lines.{lines_of}
 use Rattle.ps_rows.specs.declared.changes.Transaction.{Transaction}
 use Rattle.ps_files.specs.Compacting.{FindsReports, RefusesReports}
-use Rattle.ps_files.specs.Loading.{Loads, FindsRules, IsRulesFault, FindsKeys, IsKeysFault, FindsAsker, IsClaimsFault}
+use Rattle.ps_files.specs.Loading.{Loads, FindsRules, IsRulesFault, IsNextFault, FindsKeys, IsKeysFault, FindsAsker, IsClaimsFault}
 use Rattle.ps_due_rows.specs.Loading.{FindsRows, RefusesRows}
 
 rose_later : (before mid now : ℕ) → before ≤ mid → Rose mid now → Rose before now
@@ -28,30 +28,35 @@ rose_later before mid now le h = omega arith
 first_fits : (held : Option Contents) (command : Command) (role : Role) (name : List ℕ) → ComesTo held command role name
     → (bytes : List ℕ) → HoldsWithin held name (limit_of role) bytes → FirstFits held command
 first_fits held (check rules) for_rules name c bytes file = (bytes, subst (λ (own : List ℕ). HoldsWithin held own rules_limit bytes) c file)
+first_fits held (check rules) for_next name c bytes file = absurd c
 first_fits held (check rules) for_keys name c bytes file = absurd c
 first_fits held (check rules) for_claims name c bytes file = absurd c
 first_fits held (check rules) for_changes name c bytes file = absurd c
 first_fits held (check rules) for_script name c bytes file = absurd c
 first_fits held (check rules) for_stream name c bytes file = absurd c
 first_fits held (rows names) for_rules name c bytes file = (bytes, subst (λ (own : List ℕ). HoldsWithin held own rules_limit bytes) c file)
+first_fits held (rows names) for_next name c bytes file = absurd c
 first_fits held (rows names) for_keys name c bytes file = absurd c
 first_fits held (rows names) for_claims name c bytes file = (c.2.bytes, c.2.file)
 first_fits held (rows names) for_changes name c bytes file = (c.1.rules_read.bytes, c.1.rules_read.file)
 first_fits held (rows names) for_script name c bytes file = absurd c
 first_fits held (rows names) for_stream name c bytes file = absurd c
 first_fits held (replay names) for_rules name c bytes file = (bytes, subst (λ (own : List ℕ). HoldsWithin held own rules_limit bytes) c file)
+first_fits held (replay names) for_next name c bytes file = (c.2.bytes, c.2.file)
 first_fits held (replay names) for_keys name c bytes file = absurd c
 first_fits held (replay names) for_claims name c bytes file = absurd c
-first_fits held (replay names) for_changes name c bytes file = (c.2.bytes, c.2.file)
-first_fits held (replay names) for_script name c bytes file = (c.1.rules_read.bytes, c.1.rules_read.file)
+first_fits held (replay names) for_changes name c bytes file = (c.1.rules_read.bytes, c.1.rules_read.file)
+first_fits held (replay names) for_script name c bytes file = (c.1.before.rules_read.bytes, c.1.before.rules_read.file)
 first_fits held (replay names) for_stream name c bytes file = absurd c
 first_fits held (compact names) for_rules name c bytes file = (bytes, subst (λ (own : List ℕ). HoldsWithin held own rules_limit bytes) c file)
+first_fits held (compact names) for_next name c bytes file = absurd c
 first_fits held (compact names) for_keys name c bytes file = absurd c
 first_fits held (compact names) for_claims name c bytes file = absurd c
 first_fits held (compact names) for_changes name c bytes file = (c.2.bytes, c.2.file)
 first_fits held (compact names) for_script name c bytes file = absurd c
 first_fits held (compact names) for_stream name c bytes file = absurd c
 first_fits held (token names) for_rules name c bytes file = absurd c
+first_fits held (token names) for_next name c bytes file = absurd c
 first_fits held (token names) for_keys name c bytes file = (bytes, subst (λ (own : List ℕ). HoldsWithin held own file_limit bytes) c file)
 first_fits held (token names) for_claims name c bytes file = (c.2.bytes, c.2.file)
 first_fits held (token names) for_changes name c bytes file = absurd c
@@ -60,6 +65,7 @@ first_fits held (token names) for_stream name c bytes file = absurd c
 first_fits held (generate count) role name c bytes file = absurd c
 first_fits held (generate_lines count) role name c bytes file = absurd c
 first_fits held (audit names) for_rules name c bytes file = (bytes, subst (λ (own : List ℕ). HoldsWithin held own rules_limit bytes) c file)
+first_fits held (audit names) for_next name c bytes file = absurd c
 first_fits held (audit names) for_keys name c bytes file = absurd c
 first_fits held (audit names) for_claims name c bytes file = (c.2.bytes, c.2.file)
 first_fits held (audit names) for_changes name c bytes file = (c.1.rules_read.bytes, c.1.rules_read.file)
@@ -74,7 +80,7 @@ module _ (o : Outside) (mid_held : Option Contents) (mid : ℕ) (words : List (L
       → ((fault : Fault) (bytes : List ℕ) → HoldsWithin o.held name (limit_of role) bytes → Refuses fault bytes → Caused o words fault)
       → (fault : Fault) → Loads {X = X} mid_held name (limit_of role) mid o.read_now Finds Refuses (Err fault) → Caused o words fault
   cause_of Finds Refuses why Usage h = absurd h
-  cause_of Finds Refuses why (Rules line column cause) h = why (Rules line column cause) h.0 (here h.0 h.1) h.2
+  cause_of Finds Refuses why (Rules which line column cause) h = why (Rules which line column cause) h.0 (here h.0 h.1) h.2
   cause_of Finds Refuses why (Change line cause) h = why (Change line cause) h.0 (here h.0 h.1) h.2
   cause_of Finds Refuses why (PastLimit limit) h = why (PastLimit limit) h.0 (here h.0 h.1) h.2
   cause_of Finds Refuses why (TooManyBuckets count) h = why (TooManyBuckets count) h.0 (here h.0 h.1) h.2
@@ -89,7 +95,7 @@ module _ (o : Outside) (mid_held : Option Contents) (mid : ℕ) (words : List (L
 module _ (o : Outside) (words : List (List ℕ)) (name : List ℕ) (kept : Kept o) where
   rules_refused : Reaches o.held words for_rules name → (fault : Fault) (bytes : List ℕ) → HoldsWithin o.held name rules_limit bytes → IsRulesFault fault bytes → Caused o words fault
   rules_refused reached Usage bytes file h = absurd h
-  rules_refused reached (Rules line column why) bytes file h = (kept, record { name = name; reached = reached; bytes = bytes; file = file; refused = h })
+  rules_refused reached (Rules which line column why) bytes file h = (kept, inl (record { name = name; reached = reached; bytes = bytes; file = file; refused = h }))
   rules_refused reached (Change line why) bytes file h = absurd h
   rules_refused reached (PastLimit limit) bytes file h = absurd h
   rules_refused reached (TooManyBuckets count) bytes file h = absurd h
@@ -101,9 +107,23 @@ module _ (o : Outside) (words : List (List ℕ)) (name : List ℕ) (kept : Kept 
   rules_refused reached (Script place cause) bytes file h = absurd h
   rules_refused reached Memory bytes file h = absurd h
 
+  pub next_refused : Reaches o.held words for_next name → (fault : Fault) (bytes : List ℕ) → HoldsWithin o.held name rules_limit bytes → IsNextFault fault bytes → Caused o words fault
+  next_refused reached Usage bytes file h = absurd h
+  next_refused reached (Rules which line column why) bytes file h = (kept, inr (record { name = name; reached = reached; bytes = bytes; file = file; refused = h }))
+  next_refused reached (Change line why) bytes file h = absurd h
+  next_refused reached (PastLimit limit) bytes file h = absurd h
+  next_refused reached (TooManyBuckets count) bytes file h = absurd h
+  next_refused reached Claims bytes file h = absurd h
+  next_refused reached Keys bytes file h = absurd h
+  next_refused reached (TooLong seen) bytes file h = absurd h
+  next_refused reached (CannotRead other) bytes file h = absurd h
+  next_refused reached CannotWrite bytes file h = absurd h
+  next_refused reached (Script place cause) bytes file h = absurd h
+  next_refused reached Memory bytes file h = absurd h
+
   claims_refused : Reaches o.held words for_claims name → (fault : Fault) (bytes : List ℕ) → HoldsWithin o.held name file_limit bytes → IsClaimsFault fault bytes → Caused o words fault
   claims_refused reached Usage bytes file h = absurd h
-  claims_refused reached (Rules line column why) bytes file h = absurd h
+  claims_refused reached (Rules which line column why) bytes file h = absurd h
   claims_refused reached (Change line why) bytes file h = absurd h
   claims_refused reached (PastLimit limit) bytes file h = absurd h
   claims_refused reached (TooManyBuckets count) bytes file h = absurd h
@@ -117,7 +137,7 @@ module _ (o : Outside) (words : List (List ℕ)) (name : List ℕ) (kept : Kept 
 
   keys_refused : Reaches o.held words for_keys name → (fault : Fault) (bytes : List ℕ) → HoldsWithin o.held name file_limit bytes → IsKeysFault fault bytes → Caused o words fault
   keys_refused reached Usage bytes file h = absurd h
-  keys_refused reached (Rules line column why) bytes file h = absurd h
+  keys_refused reached (Rules which line column why) bytes file h = absurd h
   keys_refused reached (Change line why) bytes file h = absurd h
   keys_refused reached (PastLimit limit) bytes file h = absurd h
   keys_refused reached (TooManyBuckets count) bytes file h = absurd h
@@ -136,7 +156,7 @@ module _ (o : Outside) (words : List (List ℕ)) (names : Names) (kept : Kept o)
 
   changes_refused : (fault : Fault) (bytes : List ℕ) → HoldsWithin o.held names.changes file_limit bytes → RefusesRows names.feeding rules asker fault bytes → Caused o words fault
   changes_refused Usage bytes file h = absurd h
-  changes_refused (Rules line column why) bytes file h = absurd h
+  changes_refused (Rules which line column why) bytes file h = absurd h
   changes_refused (Change line why) bytes file h = (kept, inl (record { names = names; is = is; before = files_before; bytes = bytes; file = file; refused = h }))
   changes_refused (PastLimit limit) bytes file h = (kept, inl (record { names = names; is = is; before = files_before; bytes = bytes; file = file; refused = h }))
   changes_refused (TooManyBuckets count) bytes file h = (
@@ -162,7 +182,7 @@ module _ (o : Outside) (words : List (List ℕ)) (names : Names) (kept : Kept o)
 module _ (o : Outside) (words : List (List ℕ)) (names : Inputs) (kept : Kept o) (is : command_of words ≡ Some (compact names)) (rules : RuleSet) (rules_read : ReadsRules o.held names.rules rules) where
   reports_refused : (fault : Fault) (bytes : List ℕ) → HoldsWithin o.held names.changes file_limit bytes → RefusesReports rules fault bytes → Caused o words fault
   reports_refused Usage bytes file h = absurd h
-  reports_refused (Rules line column why) bytes file h = absurd h
+  reports_refused (Rules which line column why) bytes file h = absurd h
   reports_refused (Change line why) bytes file h = (kept, inr (inl (record { names = names; is = is; rules = rules; rules_read = rules_read; bytes = bytes; file = file; refused = h })))
   reports_refused (PastLimit limit) bytes file h = (kept, inr (inl (record { names = names; is = is; rules = rules; rules_read = rules_read; bytes = bytes; file = file; refused = h })))
   reports_refused (TooManyBuckets count) bytes file h = absurd h

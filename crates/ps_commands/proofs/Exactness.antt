@@ -23,7 +23,7 @@ use Rattle.ps_claims.specs.Claims.{asker_of_claims}
 use Rattle.ps_files.specs.FaultTexts.{status_of}
 use Rattle.ps_files.specs.Loading.{unread_name, JoinsThese}
 use Rattle.ps_files.specs.HeldFiles.{rules_limit, file_limit, HoldsWithin}
-use Rattle.ps_commands.specs.Commands.{Names, Inputs, Scripting, Signing, Command, check, rows, replay, compact, token, generate, generate_lines, audit, Recording, command_of, ReadsRules, ReadsAsker, ReadsChanges, ReadsTransactions, ReadsGame, ReadsKeyFile, ReadsRising, ReadsAuditor, ReadsSource, ReadsRecording, GivesVerdict, token_text, Means, Prints, Role, for_rules, for_keys, for_claims, for_changes, for_script, for_stream, limit_of, Reaches, ComesTo, RefusesRules, RefusesKeyFile, HasUnknownKid, RefusesKeys, RefusesClaims, RefusesChanges, RefusesCompaction, RefusesFed, RefusesRising, HasWide, PrintsNo, Ends, RefusesScript, RefusesLines, HasTooManyBuckets, ExceedsFile, ExceedsLimit, IsNext, BeginsWithin, PrintsFront, PrintsSome, Kept, Outside, Caused, Refusal, exceeds, refused, refusal_status, within_limit, or_refused, or_refused_as, or_none, rules_meant, keys_meant, asker_meant, transactions_meant, rows_meant, all_meant, script_meant, rising_meant, stream_meant, or_wide, Meant, prints, plays, judges, printing, meaning, IsPlayed, IsJudgedSo, IsAnswer, IsAnswerAlone, IsExact, ◌>>=◌}
+use Rattle.ps_commands.specs.Commands.{Names, Inputs, Scripting, Signing, Command, check, rows, replay, compact, token, generate, generate_lines, audit, Recording, command_of, ReadsRules, ReadsAsker, ReadsChanges, ReadsTransactions, ReadsNext, ReadsAllRules, ReadsGame, ReadsKeyFile, ReadsRising, ReadsAuditor, ReadsSource, ReadsRecording, GivesVerdict, token_text, Means, Prints, Role, for_rules, for_next, for_keys, for_claims, for_changes, for_script, for_stream, limit_of, Reaches, ComesTo, RefusesFirst, RefusesNext, RefusesRules, RefusesKeyFile, HasUnknownKid, RefusesKeys, RefusesClaims, RefusesChanges, RefusesCompaction, RefusesFed, RefusesRising, HasWide, PrintsNo, Ends, RefusesScript, RefusesLines, HasTooManyBuckets, ExceedsFile, ExceedsLimit, IsNext, BeginsWithin, PrintsFront, PrintsSome, Kept, Outside, Caused, Refusal, exceeds, refused, refusal_status, within_limit, or_refused, or_refused_as, or_none, rules_meant, next_rules_meant, next_meant, keys_meant, asker_meant, transactions_meant, rows_meant, all_meant, script_meant, rising_meant, stream_meant, or_wide, Meant, prints, plays, judges, printing, meaning, IsPlayed, IsJudgedSo, IsAnswer, IsAnswerAlone, IsExact, ◌>>=◌}
 use Rattle.ps_due_rows.specs.declared.feedings.Feeding.{Feeding}
 use Rattle.ps_due_rows.specs.declared.feedings.Feeding.TheVariants.{Changes}
 use Rattle.ps_due_rows.specs.Dues.{due, own_buckets}
@@ -36,7 +36,7 @@ use Rattle.ps_audit.specs.Positions.{Case, case_for}
 use Rattle.ps_commands.specs.Auditing.{stream_lines, verdict_text, verdict_status, wide_limit}
 use Rattle.ps_commands.specs.Generating.{generated}
 use Rattle.ps_commands.specs.Replaying.{Game}
-use Rattle.ps_files.specs.RulesFaults.{rules_of_file}
+use Rattle.ps_files.specs.RulesFaults.{as_next, rules_of_file}
 use Rattle.ps_showing.specs.Printing.{rows_text}
 
 same_value : {A : Type 0} (o : Option A) (a b : A) → o ≡ Some a → o ≡ Some b → a ≡ b
@@ -84,6 +84,12 @@ module _ (held : Contents) (name : List ℕ) where
   rules_are : (rules : RuleSet) → ReadsRules (Some held) name rules → rules_meant held name ≡ Ok rules
   rules_are rules r = rules_from r.bytes r.file ∙ ap or_refused r.read
 
+  next_from : (bytes : List ℕ) → HoldsWithin (Some held) name rules_limit bytes → next_rules_meant held name ≡ or_refused (as_next (rules_of_file bytes))
+  next_from bytes file = ap (λ x. x >>= λ bytes. or_refused (as_next (rules_of_file bytes))) (fits held name rules_limit bytes file)
+
+  next_rules_are : (rules : RuleSet) → ReadsRules (Some held) name rules → next_rules_meant held name ≡ Ok rules
+  next_rules_are rules r = next_from r.bytes r.file ∙ ap (λ x. or_refused (as_next x)) r.read
+
   keys_are : (keys : List Key) → ReadsKeyFile (Some held) name keys → keys_meant held name ≡ Ok keys
   keys_are keys r = keys_from r.bytes r.file ∙ ap (or_refused_as Keys) r.read
 
@@ -97,6 +103,7 @@ module _ (held : Contents) (name : List ℕ) where
   -- a file in its role, refused
   abbrev pub IsRefusedIn : Role → Refusal → Type 0
   IsRefusedIn for_rules refusal = rules_meant held name ≡ Err refusal
+  IsRefusedIn for_next refusal = next_rules_meant held name ≡ Err refusal
   IsRefusedIn for_keys refusal = keys_meant held name ≡ Err refusal
   IsRefusedIn for_claims refusal = asker_meant held name ≡ Err refusal
   IsRefusedIn for_changes refusal = ((feeding : Feeding) (rules : RuleSet) → transactions_meant held feeding rules name ≡ Err refusal) × (all_meant held name ≡ Err refusal)
@@ -106,6 +113,7 @@ module _ (held : Contents) (name : List ℕ) where
 
   too_long : (role : Role) (seen : ℕ) → limit_of role < seen → HasLength (Some held) name seen → IsRefusedIn role exceeds
   too_long for_rules seen more file = ap (λ x. x >>= λ bytes. or_refused (rules_of_file bytes)) (exceeds_by held name rules_limit seen more file)
+  too_long for_next seen more file = ap (λ x. x >>= λ bytes. or_refused (as_next (rules_of_file bytes))) (exceeds_by held name rules_limit seen more file)
   too_long for_keys seen more file = ap (λ x. x >>= λ bytes. or_refused_as Keys (keys_of_file bytes)) (exceeds_by held name file_limit seen more file)
   too_long for_claims seen more file = ap (λ x. x >>= λ bytes. or_none Claims (asker_of_claims bytes)) (exceeds_by held name file_limit seen more file)
   too_long for_changes seen more file = (
@@ -149,14 +157,17 @@ module _ (held : Contents) where
   abbrev rules_left : Names → Result RuleSet Refusal → Result Meant Refusal
   rules_left names r = r >>= λ rules. claims_left rules names (asker_meant held names.claims)
 
-  abbrev script_left : RuleSet → List Transaction → Result (List ℕ) Refusal → Result Meant Refusal
-  script_left rules transactions r = r >>= λ script. Ok (plays (record { rules = rules; transactions = transactions; script = script }))
+  abbrev script_left : RuleSet → Option RuleSet → List Transaction → Result (List ℕ) Refusal → Result Meant Refusal
+  script_left rules next transactions r = r >>= λ script. Ok (plays (record { rules = rules; next = next; transactions = transactions; script = script }))
 
-  abbrev fed_left : Scripting → RuleSet → Result (List Transaction) Refusal → Result Meant Refusal
-  fed_left names rules r = r >>= λ transactions. script_left rules transactions (script_meant held names.script)
+  abbrev fed_left : Scripting → RuleSet → Option RuleSet → Result (List Transaction) Refusal → Result Meant Refusal
+  fed_left names rules next r = r >>= λ transactions. script_left rules next transactions (script_meant held names.script)
+
+  abbrev next_left : Scripting → RuleSet → Result (Option RuleSet) Refusal → Result Meant Refusal
+  next_left names rules r = r >>= λ next. fed_left names rules next (all_meant held names.changes)
 
   abbrev replay_rules : Scripting → Result RuleSet Refusal → Result Meant Refusal
-  replay_rules names r = r >>= λ rules. fed_left names rules (all_meant held names.changes)
+  replay_rules names r = r >>= λ rules. next_left names rules (next_meant held names.next)
 
   abbrev compact_left : RuleSet → Result (List Transaction) Refusal → Result Meant Refusal
   compact_left rules r = r >>= λ transactions. Ok (prints (compact_text rules transactions))
@@ -208,20 +219,29 @@ module _ (held : Contents) where
       → meaning held (rows names) ≡ changes_left rules asker (transactions_meant held names.feeding rules names.changes)
   past_claims names rules asker r a = past_rules names rules r ∙ ap (claims_left rules names) (asker_is held names.claims asker a)
 
-  past_scripting : (names : Scripting) (rules : RuleSet) → ReadsRules (Some held) names.rules rules → meaning held (replay names) ≡ fed_left names rules (all_meant held names.changes)
+  next_is : (name : Option (List ℕ)) (next : Option RuleSet) → ReadsNext (Some held) name next → next_meant held name ≡ Ok next
+  next_is None None r = refl
+  next_is None (Some rules) r = absurd r
+  next_is (Some name) None r = absurd r
+  next_is (Some name) (Some rules) r = ap (λ x. x >>= λ rules. Ok (Some rules)) (next_rules_are held name rules r)
+
+  past_scripting : (names : Scripting) (rules : RuleSet) → ReadsRules (Some held) names.rules rules → meaning held (replay names) ≡ next_left names rules (next_meant held names.next)
   past_scripting names rules r = ap (replay_rules names) (rules_are held names.rules rules r)
 
-  past_fed : (names : Scripting) (rules : RuleSet) (transactions : List Transaction) → ReadsRules (Some held) names.rules rules → ReadsTransactions (Some held) names.changes transactions
-      → meaning held (replay names) ≡ script_left rules transactions (script_meant held names.script)
-  past_fed names rules transactions r t = past_scripting names rules r ∙ ap (fed_left names rules) (all_are held names.changes transactions t)
+  past_next : (names : Scripting) (b : ReadsAllRules (Some held) names) → meaning held (replay names) ≡ fed_left names b.rules b.next (all_meant held names.changes)
+  past_next names b = past_scripting names b.rules b.rules_read ∙ ap (next_left names b.rules) (next_is names.next b.next b.next_read)
+
+  past_fed : (names : Scripting) (b : ReadsAllRules (Some held) names) (transactions : List Transaction) → ReadsTransactions (Some held) names.changes transactions
+      → meaning held (replay names) ≡ script_left b.rules b.next transactions (script_meant held names.script)
+  past_fed names b transactions t = past_next names b ∙ ap (fed_left names b.rules b.next) (all_are held names.changes transactions t)
 
   abbrev same_game : Game → Game
-  same_game game = record { rules = game.rules; transactions = game.transactions; script = game.script }
+  same_game game = record { rules = game.rules; next = game.next; transactions = game.transactions; script = game.script }
 
   past_script : (names : Scripting) (game : Game) → ReadsGame (Some held) names game → meaning held (replay names) ≡ Ok (plays (same_game game))
   past_script names game read =
-      past_fed names game.rules game.transactions read.rules_read read.changes_read
-      ∙ ap (script_left game.rules game.transactions) (fits held names.script file_limit game.script read.script_read)
+      past_fed names (record { rules = game.rules; next = game.next; rules_read = read.rules_read; next_read = read.next_read }) game.transactions read.changes_read
+      ∙ ap (script_left game.rules game.next game.transactions) (fits held names.script file_limit game.script read.script_read)
 
   past_inputs : (names : Inputs) (rules : RuleSet) → ReadsRules (Some held) names.rules rules → meaning held (compact names) ≡ compact_left rules (transactions_meant held Changes rules names.changes)
   past_inputs names rules r = ap (compact_rules names) (rules_are held names.rules rules r)
@@ -266,12 +286,14 @@ module _ (held : Contents) where
   -- where the file that comes next is refused, so is the command
   refused_at : (command : Command) (role : Role) (name : List ℕ) (refusal : Refusal) → ComesTo (Some held) command role name → IsRefusedIn held name role refusal → meaning held command ≡ Err refusal
   refused_at (check rules) for_rules name refusal h r = ap (λ r. r >>= λ rules. Ok (prints (check_text rules))) (subst (λ n. rules_meant held n ≡ Err refusal) h r)
+  refused_at (check rules) for_next name refusal h r = absurd h
   refused_at (check rules) for_keys name refusal h r = absurd h
   refused_at (check rules) for_claims name refusal h r = absurd h
   refused_at (check rules) for_changes name refusal h r = absurd h
   refused_at (check rules) for_script name refusal h r = absurd h
   refused_at (check rules) for_stream name refusal h r = absurd h
   refused_at (rows names) for_rules name refusal h r = ap (rules_left names) (subst (λ n. rules_meant held n ≡ Err refusal) h r)
+  refused_at (rows names) for_next name refusal h r = absurd h
   refused_at (rows names) for_keys name refusal h r = absurd h
   refused_at (rows names) for_claims name refusal h r =
       past_rules names h.1 h.2 ∙ ap (claims_left h.1 names) (subst (λ n. asker_meant held n ≡ Err refusal) h.0 r)
@@ -280,15 +302,18 @@ module _ (held : Contents) where
   refused_at (rows names) for_script name refusal h r = absurd h
   refused_at (rows names) for_stream name refusal h r = absurd h
   refused_at (replay names) for_rules name refusal h r = ap (replay_rules names) (subst (λ n. rules_meant held n ≡ Err refusal) h r)
+  refused_at (replay names) for_next name refusal h r =
+      past_scripting names h.1 h.2 ∙ ap (next_left names h.1) (ap (λ (n : Option (List ℕ)). next_meant held n) h.0 ∙ ap (λ x. x >>= λ rules. Ok (Some rules)) r)
   refused_at (replay names) for_keys name refusal h r = absurd h
   refused_at (replay names) for_claims name refusal h r = absurd h
   refused_at (replay names) for_changes name refusal h r =
-      past_scripting names h.1 h.2 ∙ ap (fed_left names h.1) (subst (λ n. all_meant held n ≡ Err refusal) h.0 r.1)
+      past_next names h.1 ∙ ap (fed_left names h.1.rules h.1.next) (subst (λ n. all_meant held n ≡ Err refusal) h.0 r.1)
   refused_at (replay names) for_script name refusal h r =
-      past_fed names h.1.rules h.1.transactions h.1.rules_read h.1.changes_read
-      ∙ ap (script_left h.1.rules h.1.transactions) (subst (λ n. script_meant held n ≡ Err refusal) h.0 r)
+      past_fed names h.1.before h.1.transactions h.1.changes_read
+      ∙ ap (script_left h.1.before.rules h.1.before.next h.1.transactions) (subst (λ n. script_meant held n ≡ Err refusal) h.0 r)
   refused_at (replay names) for_stream name refusal h r = absurd h
   refused_at (compact names) for_rules name refusal h r = ap (compact_rules names) (subst (λ n. rules_meant held n ≡ Err refusal) h r)
+  refused_at (compact names) for_next name refusal h r = absurd h
   refused_at (compact names) for_keys name refusal h r = absurd h
   refused_at (compact names) for_claims name refusal h r = absurd h
   refused_at (compact names) for_changes name refusal h r =
@@ -296,6 +321,7 @@ module _ (held : Contents) where
   refused_at (compact names) for_script name refusal h r = absurd h
   refused_at (compact names) for_stream name refusal h r = absurd h
   refused_at (token names) for_rules name refusal h r = absurd h
+  refused_at (token names) for_next name refusal h r = absurd h
   refused_at (token names) for_keys name refusal h r = ap (keys_left names) (subst (λ n. keys_meant held n ≡ Err refusal) h r)
   refused_at (token names) for_claims name refusal h r = past_keys names h.1 h.2 ∙ ap (signing_left names h.1) (subst (λ n. asker_meant held n ≡ Err refusal) h.0 r)
   refused_at (token names) for_changes name refusal h r = absurd h
@@ -304,6 +330,7 @@ module _ (held : Contents) where
   refused_at (generate count) role name refusal h r = absurd h
   refused_at (generate_lines count) role name refusal h r = absurd h
   refused_at (audit names) for_rules name refusal h r = ap (audit_left names) (subst (λ n. rules_meant held n ≡ Err refusal) h r)
+  refused_at (audit names) for_next name refusal h r = absurd h
   refused_at (audit names) for_keys name refusal h r = absurd h
   refused_at (audit names) for_claims name refusal h r =
       past_audited names h.1 h.2 ∙ ap (auditor_left names h.1) (subst (λ n. asker_meant held n ≡ Err refusal) h.0 r)
@@ -366,7 +393,8 @@ module _ (held : Contents) (words : List (List ℕ)) (command : Command) (is : c
       at_command held words command reached.command (Err refusal) old new status is reached.is (refused_at held reached.command role name refusal reached.comes r) (inl h)
 
   rules_answer : (fault : Fault) → RefusesRules (Some held) words fault → (status ≡ status_of fault) × (new ≡ old) → IsAnswer (meaning held command) old new status
-  rules_answer fault r h = refused_answer for_rules r.name (refused fault) r.reached (rules_from held r.name r.bytes r.file ∙ ap or_refused r.refused) h
+  rules_answer fault (inl r) h = refused_answer for_rules r.name (refused fault) r.reached (rules_from held r.name r.bytes r.file ∙ ap or_refused r.refused) h
+  rules_answer fault (inr r) h = refused_answer for_next r.name (refused fault) r.reached (next_from held r.name r.bytes r.file ∙ ap or_refused r.refused) h
 
   claims_answer : RefusesClaims (Some held) words → (status ≡ 4) × (new ≡ old) → IsAnswer (meaning held command) old new status
   claims_answer r h = refused_answer for_claims r.name (refused Claims) r.reached (asker_from held r.name r.bytes r.file ∙ ap (or_none Claims) r.refused) h
@@ -387,8 +415,8 @@ module _ (held : Contents) (words : List (List ℕ)) (command : Command) (is : c
   fed_answer : (fault : Fault) → RefusesFed (Some held) words fault → (status ≡ status_of fault) × (new ≡ old) → IsAnswer (meaning held command) old new status
   fed_answer fault r h =
       at_command held words command (replay r.names) (Err (refused fault)) old new status is r.is
-      (past_scripting held r.names r.rules r.rules_read
-      ∙ ap (fed_left held r.names r.rules) (all_from_file held r.names.changes r.bytes r.file ∙ ap or_refused r.refused)) (inl h)
+      (past_next held r.names r.before
+      ∙ ap (fed_left held r.names r.before.rules r.before.next) (all_from_file held r.names.changes r.bytes r.file ∙ ap or_refused r.refused)) (inl h)
 
   game_answer : (names : Scripting) (game : Game) → command_of words ≡ Some (replay names) → ReadsGame (Some held) names game → IsPlayed game old new status → IsAnswer (meaning held command) old new status
   game_answer names game own read h = at_command held words command (replay names) (Ok (plays (same_game held game))) old new status is own (past_script held names game read) h
@@ -444,7 +472,7 @@ module _ (held : Contents) (words : List (List ℕ)) (command : Command) (is : c
   answer_of : (read_before read_now write_before write_now : ℕ) → ¬ (Rose read_before read_now) → ¬ (Rose write_before write_now)
       → (fault : Fault) → Caused (outside held read_before read_now old new write_before write_now) words fault → status ≡ status_of fault → IsAnswer (meaning held command) old new status
   answer_of read_before read_now write_before write_now read written Usage c s = let wrong : Some command ≡ None = sym is ∙ c.1 in cc
-  answer_of read_before read_now write_before write_now read written (Rules line column why) c s = rules_answer (Rules line column why) c.1 (s, c.0)
+  answer_of read_before read_now write_before write_now read written (Rules which line column why) c s = rules_answer (Rules which line column why) c.1 (s, c.0)
   answer_of read_before read_now write_before write_now read written (Change line why) c s = lines_answer (Change line why) c.1 (s, c.0)
   answer_of read_before read_now write_before write_now read written (PastLimit limit) c s = lines_answer (PastLimit limit) c.1 (s, c.0)
   answer_of read_before read_now write_before write_now read written (TooManyBuckets count) c s = buckets_answer count c.1 (s, c.0)
@@ -505,6 +533,10 @@ module _ (words : List (List ℕ)) (old new : Option (List ℕ)) (status : ℕ) 
     of_lines fault (inr (inr (inr (inl r)))) = of_other (audit r.names) r.is (λ none. none)
     of_lines fault (inr (inr (inr (inr r)))) = of_other (audit r.names) r.is (λ none. none)
 
+    of_rules : (fault : Fault) → RefusesRules None words fault → Answer
+    of_rules fault (inl r) = of_reached for_rules r.name r.reached
+    of_rules fault (inr r) = of_reached for_next r.name r.reached
+
     of_keys : RefusesKeys None words → Answer
     of_keys (inl r) = of_reached for_keys r.name r.reached
     of_keys (inr r) = of_other (token r.names) r.is (λ none. none)
@@ -525,7 +557,7 @@ module _ (words : List (List ℕ)) (old new : Option (List ℕ)) (status : ℕ) 
         → (fault : Fault) → Caused (record { held = None; read_before = read_before; read_now = read_now; taken_before = old; taken_now = new; write_before = write_before; write_now = write_now }) words fault → status ≡ status_of fault
         → Answer
     alone_answer read_before read_now write_before write_now read written Usage c s = let wrong : Some command ≡ None = sym is ∙ c.1 in cc
-    alone_answer read_before read_now write_before write_now read written (Rules line column why) c s = of_reached for_rules c.1.name c.1.reached
+    alone_answer read_before read_now write_before write_now read written (Rules which line column why) c s = of_rules (Rules which line column why) c.1
     alone_answer read_before read_now write_before write_now read written (Change line why) c s = of_lines (Change line why) c.1
     alone_answer read_before read_now write_before write_now read written (PastLimit limit) c s = of_lines (PastLimit limit) c.1
     alone_answer read_before read_now write_before write_now read written (TooManyBuckets n) c s = of_other (rows c.1.names) c.1.is (λ none. none)
@@ -550,7 +582,7 @@ exact_err (Some held) words read_before read_now old new write_before write_now 
 
 pub limits_by : (o : Outside) (words : List (List ℕ)) (status : ℕ) (fault : Fault) → Caused o words fault → status ≡ status_of fault → status ≡ 5 → ExceedsLimit o.held words
 limits_by o words status Usage c s h = absurd (omega (arith, s, h))
-limits_by o words status (Rules line column why) c s h = absurd (omega (arith, s, h))
+limits_by o words status (Rules which line column why) c s h = absurd (omega (arith, s, h))
 limits_by o words status (Change line why) c s h = absurd (omega (arith, s, h))
 limits_by o words status (PastLimit limit) c s h = inr (inl (limit, c.1))
 limits_by o words status (TooManyBuckets count) c s h = inr (inr (count, c.1))
@@ -566,7 +598,7 @@ limits_by o words status Memory c s h = absurd (omega (arith, s, h))
 
 pub claims_by : (o : Outside) (words : List (List ℕ)) (status : ℕ) (fault : Fault) → Caused o words fault → status ≡ status_of fault → status ≡ 4 → RefusesKeys o.held words ⊎ RefusesClaims o.held words
 claims_by o words status Usage c s h = absurd (omega (arith, s, h))
-claims_by o words status (Rules line column why) c s h = absurd (omega (arith, s, h))
+claims_by o words status (Rules which line column why) c s h = absurd (omega (arith, s, h))
 claims_by o words status (Change line why) c s h = absurd (omega (arith, s, h))
 claims_by o words status (PastLimit limit) c s h = absurd (omega (arith, s, h))
 claims_by o words status (TooManyBuckets count) c s h = absurd (omega (arith, s, h))
@@ -581,7 +613,7 @@ claims_by o words status Memory c s h = absurd (omega (arith, s, h))
 pub unread_by : (o : Outside) (words : List (List ℕ)) (before after : Option (List (List ℕ))) (status : ℕ) (fault : Fault) → Caused o words fault → JoinsThese before after (unread_name fault)
     → status ≡ status_of fault → status ≡ 6 → Rose o.read_before o.read_now × (name : List ℕ) × IsNext o.held words name × Joins before after name
 unread_by o words before after status Usage c j s h = absurd (omega (arith, s, h))
-unread_by o words before after status (Rules line column why) c j s h = absurd (omega (arith, s, h))
+unread_by o words before after status (Rules which line column why) c j s h = absurd (omega (arith, s, h))
 unread_by o words before after status (Change line why) c j s h = absurd (omega (arith, s, h))
 unread_by o words before after status (PastLimit limit) c j s h = absurd (omega (arith, s, h))
 unread_by o words before after status (TooManyBuckets count) c j s h = absurd (omega (arith, s, h))
@@ -596,7 +628,7 @@ unread_by o words before after status Memory c j s h = absurd (omega (arith, s, 
 -- but where a file could not be read, no name joined those that could not be
 pub missed_by : (before after : Option (List (List ℕ))) (status : ℕ) (fault : Fault) → JoinsThese before after (unread_name fault) → status ≡ status_of fault → ¬ (status ≡ 6) → after ≡ before
 missed_by before after status Usage j s other = j
-missed_by before after status (Rules line column why) j s other = j
+missed_by before after status (Rules which line column why) j s other = j
 missed_by before after status (Change line why) j s other = j
 missed_by before after status (PastLimit limit) j s other = j
 missed_by before after status (TooManyBuckets count) j s other = j
@@ -610,7 +642,7 @@ missed_by before after status Memory j s other = j
 
 pub unwritten_by : (o : Outside) (words : List (List ℕ)) (status : ℕ) (fault : Fault) → Caused o words fault → status ≡ status_of fault → status ≡ 7 → Rose o.write_before o.write_now × PrintsFront o.held words o.taken_before o.taken_now
 unwritten_by o words status Usage c s h = absurd (omega (arith, s, h))
-unwritten_by o words status (Rules line column why) c s h = absurd (omega (arith, s, h))
+unwritten_by o words status (Rules which line column why) c s h = absurd (omega (arith, s, h))
 unwritten_by o words status (Change line why) c s h = absurd (omega (arith, s, h))
 unwritten_by o words status (PastLimit limit) c s h = absurd (omega (arith, s, h))
 unwritten_by o words status (TooManyBuckets count) c s h = absurd (omega (arith, s, h))
@@ -624,7 +656,7 @@ unwritten_by o words status Memory c s h = absurd (omega (arith, s, h))
 
 pub changes_by : (o : Outside) (words : List (List ℕ)) (status : ℕ) (fault : Fault) → Caused o words fault → status ≡ status_of fault → status ≡ 3 → (line : ℕ) × (why : LineFault) × RefusesLines o.held words (Change line why)
 changes_by o words status Usage c s h = absurd (omega (arith, s, h))
-changes_by o words status (Rules line column why) c s h = absurd (omega (arith, s, h))
+changes_by o words status (Rules which line column why) c s h = absurd (omega (arith, s, h))
 changes_by o words status (Change line why) c s h = (line, why, c.1)
 changes_by o words status (PastLimit limit) c s h = absurd (omega (arith, s, h))
 changes_by o words status (TooManyBuckets count) c s h = absurd (omega (arith, s, h))
@@ -638,7 +670,7 @@ changes_by o words status Memory c s h = absurd (omega (arith, s, h))
 
 pub script_by : (o : Outside) (words : List (List ℕ)) (status : ℕ) (fault : Fault) → Caused o words fault → status ≡ status_of fault → status ≡ 9 → (line : ℕ) × (why : ScriptCause) × RefusesScript o.held words line why o.taken_before o.taken_now
 script_by o words status Usage c s h = absurd (omega (arith, s, h))
-script_by o words status (Rules line column why) c s h = absurd (omega (arith, s, h))
+script_by o words status (Rules which line column why) c s h = absurd (omega (arith, s, h))
 script_by o words status (Change line why) c s h = absurd (omega (arith, s, h))
 script_by o words status (PastLimit limit) c s h = absurd (omega (arith, s, h))
 script_by o words status (TooManyBuckets count) c s h = absurd (omega (arith, s, h))
@@ -654,7 +686,7 @@ script_by o words status Memory c s h = absurd (omega (arith, s, h))
 
 pub early_by : (o : Outside) (words : List (List ℕ)) (status : ℕ) (fault : Fault) → Caused o words fault → status ≡ status_of fault → status ≡ 8 → (Kept o) ⊎ PrintsSome o.held words o.taken_before o.taken_now
 early_by o words status Usage c s h = absurd (omega (arith, s, h))
-early_by o words status (Rules line column why) c s h = absurd (omega (arith, s, h))
+early_by o words status (Rules which line column why) c s h = absurd (omega (arith, s, h))
 early_by o words status (Change line why) c s h = absurd (omega (arith, s, h))
 early_by o words status (PastLimit limit) c s h = absurd (omega (arith, s, h))
 early_by o words status (TooManyBuckets count) c s h = absurd (omega (arith, s, h))
@@ -669,7 +701,7 @@ early_by o words status Memory (inr p) s h = inr p
 
 pub first_by : (o : Outside) (words : List (List ℕ)) (status : ℕ) (fault : Fault) → Caused o words fault → status ≡ status_of fault → status ≡ 8 → BeginsWithin o.held words
 first_by o words status Usage c s h = absurd (omega (arith, s, h))
-first_by o words status (Rules line column why) c s h = absurd (omega (arith, s, h))
+first_by o words status (Rules which line column why) c s h = absurd (omega (arith, s, h))
 first_by o words status (Change line why) c s h = absurd (omega (arith, s, h))
 first_by o words status (PastLimit limit) c s h = absurd (omega (arith, s, h))
 first_by o words status (TooManyBuckets count) c s h = absurd (omega (arith, s, h))
@@ -685,7 +717,7 @@ first_by o words status Memory (inr p) s h =
 
 pub kept_by : (o : Outside) (words : List (List ℕ)) (status : ℕ) (fault : Fault) → Caused o words fault → status ≡ status_of fault → ¬ (status ≡ 7) → ¬ (status ≡ 8) → ¬ (status ≡ 9) → Kept o
 kept_by o words status Usage c s seven eight nine = c.0
-kept_by o words status (Rules line column why) c s seven eight nine = c.0
+kept_by o words status (Rules which line column why) c s seven eight nine = c.0
 kept_by o words status (Change line why) c s seven eight nine = c.0
 kept_by o words status (PastLimit limit) c s seven eight nine = c.0
 kept_by o words status (TooManyBuckets count) c s seven eight nine = c.0
@@ -701,7 +733,7 @@ kept_by o words status Memory c s seven eight nine = absurd (eight s)
 
 fault_status : (fault : Fault) → (1 ≤ status_of fault) × (status_of fault ≤ 9)
 fault_status Usage = (omega arith, omega arith)
-fault_status (Rules line column why) = (omega arith, omega arith)
+fault_status (Rules which line column why) = (omega arith, omega arith)
 fault_status (Change line why) = (omega arith, omega arith)
 fault_status (PastLimit limit) = (omega arith, omega arith)
 fault_status (TooManyBuckets count) = (omega arith, omega arith)
@@ -727,7 +759,7 @@ not_quiet status fault s (inr h) = not_altered status fault s h
 
 pub usage_by : (o : Outside) (words : List (List ℕ)) (status : ℕ) (fault : Fault) → Caused o words fault → status ≡ status_of fault → status ≡ 1 → command_of words ≡ None
 usage_by o words status Usage c s h = c.1
-usage_by o words status (Rules line column why) c s h = absurd (omega (arith, s, h))
+usage_by o words status (Rules which line column why) c s h = absurd (omega (arith, s, h))
 usage_by o words status (Change line why) c s h = absurd (omega (arith, s, h))
 usage_by o words status (PastLimit limit) c s h = absurd (omega (arith, s, h))
 usage_by o words status (TooManyBuckets count) c s h = absurd (omega (arith, s, h))
@@ -750,13 +782,17 @@ module _ (held : Option Contents) (words : List (List ℕ)) (none : command_of w
   not_lines fault (inr (inr (inr (inl r)))) = not_any (audit r.names) r.is
   not_lines fault (inr (inr (inr (inr r)))) = not_any (audit r.names) r.is
 
+  not_rules : (fault : Fault) → RefusesRules held words fault → ⊥
+  not_rules fault (inl r) = not_any r.reached.command r.reached.is
+  not_rules fault (inr r) = not_any r.reached.command r.reached.is
+
   not_keys : RefusesKeys held words → ⊥
   not_keys (inl r) = not_any r.reached.command r.reached.is
   not_keys (inr r) = not_any (token r.names) r.is
 
 pub no_command : (o : Outside) (words : List (List ℕ)) (status : ℕ) (fault : Fault) → Caused o words fault → status ≡ status_of fault → command_of words ≡ None → status ≡ 1
 no_command o words status Usage c s none = s
-no_command o words status (Rules line column why) c s none = absurd (not_any o.held words none c.1.reached.command c.1.reached.is)
+no_command o words status (Rules which line column why) c s none = absurd (not_rules o.held words none (Rules which line column why) c.1)
 no_command o words status (Change line why) c s none = absurd (not_lines o.held words none (Change line why) c.1)
 no_command o words status (PastLimit limit) c s none = absurd (not_lines o.held words none (PastLimit limit) c.1)
 no_command o words status (TooManyBuckets count) c s none = absurd (not_any o.held words none (rows c.1.names) c.1.is)

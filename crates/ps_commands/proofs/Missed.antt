@@ -14,7 +14,7 @@ misses_later old mid new result same h = subst (λ (names : Option (List (List �
 pub plays_unread : (game : Game) (out : Output) (old new : Option (List (List ℕ))) (result : Result (Unit {0}) Fault) → new ≡ old → PlaysOut game out result → MissesNamed old new result
 plays_unread game out old new (Ok done) same p = same
 plays_unread game out old new (Err Usage) same p = absurd p
-plays_unread game out old new (Err (Rules line column why)) same p = absurd p
+plays_unread game out old new (Err (Rules which line column why)) same p = absurd p
 plays_unread game out old new (Err (Change line why)) same p = absurd p
 plays_unread game out old new (Err (PastLimit limit)) same p = absurd p
 plays_unread game out old new (Err (TooManyBuckets count)) same p = absurd p

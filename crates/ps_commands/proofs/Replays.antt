@@ -1,5 +1,5 @@
 -- Why `replay` ends as it does.
-use Rattle.std.proofs.Common.{inl, inr, ◌≡◌, ℕ, ◌≤◌, List, ◌∷◌, Option, Some, Result, Ok, Err, refl, sym, subst, Vec}
+use Rattle.std.proofs.Common.{inl, inr, ◌≡◌, ℕ, ◌≤◌, List, ◌∷◌, Option, Some, None, Result, Ok, Err, refl, sym, subst, Vec, Bor}
 use Rattle.std.specs.declared.alloc.Global.{Global}
 use Rattle.ps_io.specs.Contents.{Contents}
 use Rattle.ps_rows.specs.declared.changes.Transaction.{Transaction}
@@ -11,12 +11,12 @@ use Rattle.ps_files.specs.declared.faults.Fault.{Fault}
 use Rattle.ps_files.specs.declared.faults.Fault.TheVariants.{Usage, Rules, Change, PastLimit, TooManyBuckets, Claims, Keys, TooLong, CannotRead, CannotWrite, Script, Memory}
 use Rattle.ps_files.specs.declared.faults.ScriptCause.{ScriptCause}
 use Rattle.ps_files.specs.declared.faults.ScriptCause.TheVariants.{BadEvent, UnknownClient, WrongPhase}
-use Rattle.ps_files.specs.HeldFiles.{file_limit, HoldsWithin}
-use Rattle.ps_commands.specs.Commands.{Scripting, replay, command_of, ReadsRules, ReadsTransactions, ReadsRulesAndChanges, ReadsGame, for_changes, for_script, Reaches, Outside, Kept, Caused, Outcome}
-use Rattle.ps_files.specs.Loading.{Loads, IsContent, RefusesNothing}
+use Rattle.ps_files.specs.HeldFiles.{file_limit, rules_limit, HoldsWithin}
+use Rattle.ps_commands.specs.Commands.{Scripting, replay, command_of, name_of, ReadsRules, ReadsNext, FindsNext, LoadsNext, ReadsTransactions, ReadsAllRules, ReadsRulesAndChanges, ReadsGame, for_next, for_changes, for_script, Reaches, Outside, Kept, Caused, Outcome}
+use Rattle.ps_files.specs.Loading.{Loads, IsContent, IsNextFault, RefusesNothing}
 use Rattle.ps_files.specs.ReadingAll.{FindsTransactions, IsTransactionsFault}
 use Rattle.ps_commands.specs.Replaying.{Game, fixed_of, start_of, script_fault, PlaysOut, stopped_by}
-use Rattle.ps_commands.proofs.Causes.{cause_of}
+use Rattle.ps_commands.proofs.Causes.{cause_of, next_refused}
 
 -- ---- a script
 
@@ -54,12 +54,20 @@ stops game number scripts.Memory out s = stopped_early game number scripts.Memor
 -- ---- files
 
 module _ (o : Outside) (words : List (List ℕ)) (names : Scripting) (is : command_of words ≡ Some (replay names)) where
-  module _ (kept : Kept o) (rules : RuleSet) (rules_read : ReadsRules o.held names.rules rules) where
+  -- the file of the next rules
+  pub cause_of_next : Kept o → (rules : RuleSet) → ReadsRules o.held names.rules rules → (file : Option (Bor (List ℕ))) → names.next ≡ name_of file → (mid_held : Option Contents) (mid : ℕ) (fault : Fault)
+      → mid_held ≡ o.held → o.read_before ≤ mid → LoadsNext mid_held file mid o.read_now (Err fault) → Caused o words fault
+  cause_of_next kept rules rules_read None own mid_held mid fault same risen h = absurd h
+  cause_of_next kept rules rules_read (Some file) own mid_held mid fault same risen h =
+      let reached : Reaches o.held words for_next file.now = record { command = replay names; is = is; comes = (own, rules, rules_read) } in
+      cause_of o mid_held mid words for_next file.now same risen kept reached FindsNext IsNextFault (next_refused o words file.now kept reached) fault h
+
+  module _ (kept : Kept o) (before : ReadsAllRules o.held names) where
     pub fed_refused : (fault : Fault) (bytes : List ℕ) → HoldsWithin o.held names.changes file_limit bytes → IsTransactionsFault fault bytes → Caused o words fault
     fed_refused Usage bytes file h = absurd h
-    fed_refused (Rules line column why) bytes file h = absurd h
-    fed_refused (Change line why) bytes file h = (kept, inr (inr (inl (record { names = names; is = is; rules = rules; rules_read = rules_read; bytes = bytes; file = file; refused = h }))))
-    fed_refused (PastLimit limit) bytes file h = (kept, inr (inr (inl (record { names = names; is = is; rules = rules; rules_read = rules_read; bytes = bytes; file = file; refused = h }))))
+    fed_refused (Rules which line column why) bytes file h = absurd h
+    fed_refused (Change line why) bytes file h = (kept, inr (inr (inl (record { names = names; is = is; before = before; bytes = bytes; file = file; refused = h }))))
+    fed_refused (PastLimit limit) bytes file h = (kept, inr (inr (inl (record { names = names; is = is; before = before; bytes = bytes; file = file; refused = h }))))
     fed_refused (TooManyBuckets count) bytes file h = absurd h
     fed_refused Claims bytes file h = absurd h
     fed_refused Keys bytes file h = absurd h
@@ -72,15 +80,15 @@ module _ (o : Outside) (words : List (List ℕ)) (names : Scripting) (is : comma
     pub cause_of_fed : (mid_held : Option Contents) (mid : ℕ) (fault : Fault) → mid_held ≡ o.held → o.read_before ≤ mid
         → Loads {X = Vec Transaction Global} mid_held names.changes file_limit mid o.read_now FindsTransactions IsTransactionsFault (Err fault) → Caused o words fault
     cause_of_fed mid_held mid fault same risen h =
-        let reached : Reaches o.held words for_changes names.changes = record { command = replay names; is = is; comes = (refl, rules, rules_read) } in
+        let reached : Reaches o.held words for_changes names.changes = record { command = replay names; is = is; comes = (refl, before) } in
         cause_of o mid_held mid words for_changes names.changes same risen kept reached FindsTransactions IsTransactionsFault fed_refused fault h
 
     module _ (transactions : List Transaction) (changes_read : ReadsTransactions o.held names.changes transactions) where
       pub cause_of_script : (mid_held : Option Contents) (mid : ℕ) (fault : Fault) → mid_held ≡ o.held → o.read_before ≤ mid
           → Loads {X = Vec ℕ Global} mid_held names.script file_limit mid o.read_now IsContent RefusesNothing (Err fault) → Caused o words fault
       cause_of_script mid_held mid fault same risen h =
-          let before : ReadsRulesAndChanges o.held names = record { rules = rules; transactions = transactions; rules_read = rules_read; changes_read = changes_read } in
-          let reached : Reaches o.held words for_script names.script = record { command = replay names; is = is; comes = (refl, before) } in
+          let source : ReadsRulesAndChanges o.held names = record { before = before; transactions = transactions; changes_read = changes_read } in
+          let reached : Reaches o.held words for_script names.script = record { command = replay names; is = is; comes = (refl, source) } in
           cause_of o mid_held mid words for_script names.script same risen kept reached IsContent RefusesNothing (λ fault bytes file no. absurd no) fault h
 
   -- what is played is the outcome
@@ -91,7 +99,7 @@ module _ (o : Outside) (words : List (List ℕ)) (names : Scripting) (is : comma
     pub played : (r : Result (Unit {0}) Fault) → PlaysOut game out_of r → Outcome o words r
     played (Ok done) p = record { command = replay names; is = is; text = p.0; means = record { game = game; read = read; gives = p.1 }; printed = p.2 }
     played (Err Usage) p = absurd p
-    played (Err (Rules line column why)) p = absurd p
+    played (Err (Rules which line column why)) p = absurd p
     played (Err (Change line why)) p = absurd p
     played (Err (PastLimit limit)) p = absurd p
     played (Err (TooManyBuckets count)) p = absurd p
@@ -104,6 +112,13 @@ module _ (o : Outside) (words : List (List ℕ)) (names : Scripting) (is : comma
     played (Err Memory) p = inr (record { names = names; is = is; text = p.0; begins = record { game = game; read = read; gives = p.1 }; printed = p.2 })
 
 -- ---- what was loaded
+
+pub next_read : (held mid_held : Option Contents) (file : Option (Bor (List ℕ))) (before now : ℕ) (next : Option RuleSet) → mid_held ≡ held → LoadsNext mid_held file before now (Ok next)
+    → ReadsNext held (name_of file) next
+next_read held mid_held None before now None same h = tt
+next_read held mid_held None before now (Some rules) same h = absurd h
+next_read held mid_held (Some file) before now None same h = absurd h.2
+next_read held mid_held (Some file) before now (Some rules) same h = record { bytes = h.0; file = subst (λ x. HoldsWithin x file.now rules_limit h.0) same h.1; read = h.2 }
 
 pub transactions_read : (held mid_held : Option Contents) (name : List ℕ) (before now : ℕ) (transactions : Vec Transaction Global) → mid_held ≡ held
     → Loads mid_held name file_limit before now FindsTransactions IsTransactionsFault (Ok transactions) → ReadsTransactions held name transactions.items

@@ -33,7 +33,7 @@ module _ (o : Outside) (words : List (List ℕ)) (names : Recording) (is : comma
   module _ (kept : Kept o) (before : ReadsAuditor o.held names) where
     rising_refused : (fault : Fault) (bytes : List ℕ) → HoldsWithin o.held names.changes file_limit bytes → IsRisingFault fault bytes → Caused o words fault
     rising_refused Usage bytes file h = absurd h
-    rising_refused (Rules line column why) bytes file h = absurd h
+    rising_refused (Rules which line column why) bytes file h = absurd h
     rising_refused (Change line why) bytes file h = (kept, inr (inr (inr (inl (record { names = names; is = is; before = before; bytes = bytes; file = file; refused = h })))))
     rising_refused (PastLimit limit) bytes file h = (kept, inr (inr (inr (inl (record { names = names; is = is; before = before; bytes = bytes; file = file; refused = h })))))
     rising_refused (TooManyBuckets count) bytes file h = absurd h
@@ -63,7 +63,7 @@ pub judged : (held : Option Contents) (before now : ℕ) (words : List (List ℕ
     (result : Result Verdict Fault) → JudgesFile files.source.before.rules files.source.transactions files.source.before.asker files.stream result → FindsVerdict held before now words result
 judged held before now words names is files (Ok verdict) h = (names, is, record { files = files; judged = h })
 judged held before now words names is files (Err Usage) h = absurd h
-judged held before now words names is files (Err (Rules line column why)) h = absurd h
+judged held before now words names is files (Err (Rules which line column why)) h = absurd h
 judged held before now words names is files (Err (Change line why)) h = absurd h
 judged held before now words names is files (Err (PastLimit limit)) h = λ taken faults.
     (refl, inr (inr (inr (inr (record { names = names; is = is; files = files; wide = h.0; fault_is = ap PastLimit h.1 })))))
@@ -82,7 +82,7 @@ pub judged_unread : (rules : RuleSet) (transactions : List Transaction) (asker :
     → JudgesFile rules transactions asker stream result → MissesNamed old new result
 judged_unread rules transactions asker stream old new (Ok verdict) same h = same
 judged_unread rules transactions asker stream old new (Err Usage) same h = absurd h
-judged_unread rules transactions asker stream old new (Err (Rules line column why)) same h = absurd h
+judged_unread rules transactions asker stream old new (Err (Rules which line column why)) same h = absurd h
 judged_unread rules transactions asker stream old new (Err (Change line why)) same h = absurd h
 judged_unread rules transactions asker stream old new (Err (PastLimit limit)) same h = same
 judged_unread rules transactions asker stream old new (Err (TooManyBuckets count)) same h = absurd h

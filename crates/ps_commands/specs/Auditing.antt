@@ -84,7 +84,7 @@ wide_limit = Entries 1001
 abbrev pub JudgesFile : RuleSet → List Transaction → Asker → List ℕ → Result Verdict Fault → Type 0
 JudgesFile rules transactions asker stream (Ok verdict) = JudgesSo rules transactions asker stream verdict
 JudgesFile rules transactions asker stream (Err Usage) = ⊥
-JudgesFile rules transactions asker stream (Err (Rules line column why)) = ⊥
+JudgesFile rules transactions asker stream (Err (Rules which line column why)) = ⊥
 JudgesFile rules transactions asker stream (Err (Change line why)) = ⊥
 JudgesFile rules transactions asker stream (Err (PastLimit limit)) = (has_wide rules.definitions transactions ≡ true) × (limit ≡ wide_limit)
 JudgesFile rules transactions asker stream (Err (TooManyBuckets count)) = ⊥

@@ -44,7 +44,9 @@ use Rattle.ps_commands.specs.declared.endings.Ending.TheVariants.{Done, Altered}
 use Rattle.ps_commands.specs.Auditing.{verdict_text, verdict_status, stream_lines, JudgesSo, wide_limit}
 use Rattle.ps_commands.specs.Generating.{generated}
 use Rattle.ps_commands.specs.Replaying.{Game, GivesAll, GivesSome, GivesUntil}
-use Rattle.ps_files.specs.RulesFaults.{rules_of_file}
+use Rattle.ps_files.specs.RulesFaults.{as_next, rules_of_file}
+use Rattle.ps_files.specs.Loading.{Loads, FindsRules, IsNextFault}
+use Rattle.std.specs.Borrow.{Bor}
 use Rattle.ps_files.specs.Making.{lines_text}
 use Rattle.ps_showing.specs.Printing.{rows_text}
 
@@ -57,9 +59,10 @@ pub record Names : Type 0 where
   pub changes : List ℕ
   pub claims : List ℕ
 
--- the files that `replay` names
+-- the files that `replay` names, that of the next rules only where there are five words
 pub record Scripting : Type 0 where
   pub rules : List ℕ
+  pub next : Option (List ℕ)
   pub changes : List ℕ
   pub script : List ℕ
 
@@ -92,8 +95,8 @@ pub data Command : Type 0 where
   generate_lines : ℕ → Command
   audit : Recording → Command
 
--- the words `check RULES`, `rows RULES CHANGES CLAIMS`, `snapshot RULES LINES CLAIMS`, `replay RULES CHANGES SCRIPT`, `compact RULES CHANGES`, `token KEYS KID CLAIMS`,
--- `generate N`, `generate N lines` or `audit RULES CHANGES CLAIMS STREAM`, and no others
+-- the words `check RULES`, `rows RULES CHANGES CLAIMS`, `snapshot RULES LINES CLAIMS`, `replay RULES CHANGES SCRIPT`, `replay RULES CHANGES SCRIPT NEXT`, `compact RULES CHANGES`,
+-- `token KEYS KID CLAIMS`, `generate N`, `generate N lines` or `audit RULES CHANGES CLAIMS STREAM`, and no others
 abbrev pub command_of : List (List ℕ) → Option Command
 command_of [] = None
 command_of (w ∷ []) = None
@@ -107,16 +110,22 @@ command_of (w ∷ a ∷ b ∷ c ∷ []) =
     if bytes_eq w (codes "rows") then Some (rows (record { feeding = Changes; rules = a; changes = b; claims = c })) else
     if bytes_eq w (codes "snapshot") then Some (rows (record { feeding = FirstCopy; rules = a; changes = b; claims = c })) else
     if bytes_eq w (codes "token") then Some (token (record { keys = a; kid = b; claims = c })) else
-    if bytes_eq w (codes "replay") then Some (replay (record { rules = a; changes = b; script = c })) else None
+    if bytes_eq w (codes "replay") then Some (replay (record { rules = a; next = None; changes = b; script = c })) else None
 command_of (w ∷ a ∷ b ∷ c ∷ d ∷ []) =
-    if bytes_eq w (codes "audit") then Some (audit (record { rules = a; changes = b; claims = c; stream = d })) else None
+    if bytes_eq w (codes "audit") then Some (audit (record { rules = a; changes = b; claims = c; stream = d })) else
+    if bytes_eq w (codes "replay") then Some (replay (record { rules = a; next = Some d; changes = b; script = c })) else None
 command_of (w ∷ a ∷ b ∷ c ∷ d ∷ e ∷ more) = None
+
+-- the name of a file, if there is one
+abbrev pub name_of : Option (Bor (List ℕ)) → Option (List ℕ)
+name_of None = None
+name_of (Some name) = Some name.now
 
 -- what a command of the program's code is
 abbrev pub named : CommandSeen → Command
 named (coded.Check rules) = check rules.now
 named (coded.Rows feeding rules changes claims) = rows (record { feeding = feeding; rules = rules.now; changes = changes.now; claims = claims.now })
-named (coded.Replay rules changes script) = replay (record { rules = rules.now; changes = changes.now; script = script.now })
+named (coded.Replay rules changes script next) = replay (record { rules = rules.now; next = name_of next; changes = changes.now; script = script.now })
 named (coded.Compact rules changes) = compact (record { rules = rules.now; changes = changes.now })
 named (coded.Token keys kid claims) = token (record { keys = keys.now; kid = kid.now; claims = claims.now })
 named (coded.Generate count) = generate count
@@ -127,7 +136,7 @@ named (coded.Audit rules changes claims stream) = audit (record { rules = rules.
 abbrev pub IsMade : CommandSeen → Type 0
 IsMade (coded.Check rules) = Unit {0}
 IsMade (coded.Rows feeding rules changes claims) = Unit {0}
-IsMade (coded.Replay rules changes script) = Unit {0}
+IsMade (coded.Replay rules changes script next) = Unit {0}
 IsMade (coded.Compact rules changes) = Unit {0}
 IsMade (coded.Token keys kid claims) = Unit {0}
 IsMade (coded.Generate count) = count ≤ made_limit
@@ -184,9 +193,31 @@ pub record ReadsRecording (held : Option Contents) (names : Recording) : Type 0 
   pub stream : List ℕ
   pub stream_read : HoldsWithin held names.stream file_limit stream
 
+-- the file of the next rules, where one is named, is read as those rules
+abbrev pub ReadsNext : Option Contents → Option (List ℕ) → Option RuleSet → Type 0
+ReadsNext held None None = Unit {0}
+ReadsNext held None (Some rules) = ⊥
+ReadsNext held (Some name) None = ⊥
+ReadsNext held (Some name) (Some rules) = ReadsRules held name rules
+
+-- loading it: what was found in its bytes, or why they are not loaded
+abbrev pub FindsNext : Option RuleSet → List ℕ → Type 0
+FindsNext None bytes = ⊥
+FindsNext (Some rules) bytes = FindsRules rules bytes
+
+abbrev pub LoadsNone : Result (Option RuleSet) Fault → Type 0
+LoadsNone (Ok None) = Unit {0}
+LoadsNone (Ok (Some rules)) = ⊥
+LoadsNone (Err fault) = ⊥
+
+abbrev pub LoadsNext : Option Contents → Option (Bor (List ℕ)) → ℕ → ℕ → Result (Option RuleSet) Fault → Type 0
+LoadsNext held None before now result = LoadsNone result
+LoadsNext held (Some name) before now result = Loads held name.now rules_limit before now FindsNext IsNextFault result
+
 -- the files of `replay` are read as that
 pub record ReadsGame (held : Option Contents) (names : Scripting) (game : Game) : Type 0 where
   pub rules_read : ReadsRules held names.rules game.rules
+  pub next_read : ReadsNext held names.next game.next
   pub changes_read : ReadsTransactions held names.changes game.transactions
   pub script_read : HoldsWithin held names.script file_limit game.script
 
@@ -216,7 +247,7 @@ pub record MeansRows (held : Option Contents) (names : Names) (text : List ℕ) 
   pub within : length (own_buckets rules asker transactions) ≤ usual_limits.buckets
   pub is : text ≡ rows_text (due rules asker transactions (last_position 0 transactions))
 
--- `replay`: the texts of all lines of the script, over the rules and all transactions of the change file; no line leads a client wrong
+-- `replay`: the texts of all lines of the script, over the rules, the next ones, and all transactions of the change file; no line leads a client wrong
 pub record MeansReplay (held : Option Contents) (names : Scripting) (text : List ℕ) : Type 0 where
   pub game : Game
   pub read : ReadsGame held names game
@@ -329,6 +360,7 @@ pub record PrintsNo (held : Option Contents) (words : List (List ℕ)) (old new 
 -- what a file is to a command
 pub data Role : Type 0 where
   for_rules : Role
+  for_next : Role
   for_keys : Role
   for_claims : Role
   for_changes : Role
@@ -337,6 +369,7 @@ pub data Role : Type 0 where
 
 abbrev pub limit_of : Role → ℕ
 limit_of for_rules = rules_limit
+limit_of for_next = rules_limit
 limit_of for_keys = file_limit
 limit_of for_claims = file_limit
 limit_of for_changes = file_limit
@@ -350,40 +383,51 @@ pub record ReadsRulesAndClaims (held : Option Contents) (names : Names) : Type 0
   pub rules_read : ReadsRules held names.rules rules
   pub claims_read : ReadsAsker held names.claims asker
 
--- the files of `replay` before the script are read
-pub record ReadsRulesAndChanges (held : Option Contents) (names : Scripting) : Type 0 where
+-- the files of `replay` before the change file are read
+pub record ReadsAllRules (held : Option Contents) (names : Scripting) : Type 0 where
   pub rules : RuleSet
-  pub transactions : List Transaction
+  pub next : Option RuleSet
   pub rules_read : ReadsRules held names.rules rules
+  pub next_read : ReadsNext held names.next next
+
+-- those before the script are read
+pub record ReadsRulesAndChanges (held : Option Contents) (names : Scripting) : Type 0 where
+  pub before : ReadsAllRules held names
+  pub transactions : List Transaction
   pub changes_read : ReadsTransactions held names.changes transactions
 
 -- that is the command's file in that role, and those before it are read
 abbrev pub ComesTo : Option Contents → Command → Role → List ℕ → Type 0
 ComesTo held (check rules) for_rules name = name ≡ rules
+ComesTo held (check rules) for_next name = ⊥
 ComesTo held (check rules) for_keys name = ⊥
 ComesTo held (check rules) for_claims name = ⊥
 ComesTo held (check rules) for_changes name = ⊥
 ComesTo held (check rules) for_script name = ⊥
 ComesTo held (check rules) for_stream name = ⊥
 ComesTo held (rows names) for_rules name = name ≡ names.rules
+ComesTo held (rows names) for_next name = ⊥
 ComesTo held (rows names) for_keys name = ⊥
 ComesTo held (rows names) for_claims name = (name ≡ names.claims) × (rules : RuleSet) × ReadsRules held names.rules rules
 ComesTo held (rows names) for_changes name = (name ≡ names.changes) × ReadsRulesAndClaims held names
 ComesTo held (rows names) for_script name = ⊥
 ComesTo held (rows names) for_stream name = ⊥
 ComesTo held (replay names) for_rules name = name ≡ names.rules
+ComesTo held (replay names) for_next name = (names.next ≡ Some name) × (rules : RuleSet) × ReadsRules held names.rules rules
 ComesTo held (replay names) for_keys name = ⊥
 ComesTo held (replay names) for_claims name = ⊥
-ComesTo held (replay names) for_changes name = (name ≡ names.changes) × (rules : RuleSet) × ReadsRules held names.rules rules
+ComesTo held (replay names) for_changes name = (name ≡ names.changes) × ReadsAllRules held names
 ComesTo held (replay names) for_script name = (name ≡ names.script) × ReadsRulesAndChanges held names
 ComesTo held (replay names) for_stream name = ⊥
 ComesTo held (compact names) for_rules name = name ≡ names.rules
+ComesTo held (compact names) for_next name = ⊥
 ComesTo held (compact names) for_keys name = ⊥
 ComesTo held (compact names) for_claims name = ⊥
 ComesTo held (compact names) for_changes name = (name ≡ names.changes) × (rules : RuleSet) × ReadsRules held names.rules rules
 ComesTo held (compact names) for_script name = ⊥
 ComesTo held (compact names) for_stream name = ⊥
 ComesTo held (token names) for_rules name = ⊥
+ComesTo held (token names) for_next name = ⊥
 ComesTo held (token names) for_keys name = name ≡ names.keys
 ComesTo held (token names) for_claims name = (name ≡ names.claims) × (keys : List Key) × ReadsKeyFile held names.keys keys
 ComesTo held (token names) for_changes name = ⊥
@@ -392,6 +436,7 @@ ComesTo held (token names) for_stream name = ⊥
 ComesTo held (generate count) role name = ⊥
 ComesTo held (generate_lines count) role name = ⊥
 ComesTo held (audit names) for_rules name = name ≡ names.rules
+ComesTo held (audit names) for_next name = ⊥
 ComesTo held (audit names) for_keys name = ⊥
 ComesTo held (audit names) for_claims name = (name ≡ names.claims) × (rules : RuleSet) × ReadsRules held names.rules rules
 ComesTo held (audit names) for_changes name = (name ≡ names.changes) × ReadsAuditor held names
@@ -406,13 +451,25 @@ pub record Reaches (held : Option Contents) (words : List (List ℕ)) (role : Ro
 
 -- ---- the cause of each answer
 
--- that is the fault of the rules file, as read
-pub record RefusesRules (held : Option Contents) (words : List (List ℕ)) (fault : Fault) : Type 0 where
+-- that is the fault of the first rules file, as read
+pub record RefusesFirst (held : Option Contents) (words : List (List ℕ)) (fault : Fault) : Type 0 where
   pub name : List ℕ
   pub reached : Reaches held words for_rules name
   pub bytes : List ℕ
   pub file : HoldsWithin held name rules_limit bytes
   pub refused : rules_of_file bytes ≡ Err fault
+
+-- the first one is read, and that is the fault of the file of the next rules, as read
+pub record RefusesNext (held : Option Contents) (words : List (List ℕ)) (fault : Fault) : Type 0 where
+  pub name : List ℕ
+  pub reached : Reaches held words for_next name
+  pub bytes : List ℕ
+  pub file : HoldsWithin held name rules_limit bytes
+  pub refused : as_next (rules_of_file bytes) ≡ Err fault
+
+-- a rules file is refused, which the fault says
+abbrev pub RefusesRules : Option Contents → List (List ℕ) → Fault → Type 0
+RefusesRules held words fault = RefusesFirst held words fault ⊎ RefusesNext held words fault
 
 -- the key file, as read, is refused
 pub record RefusesKeyFile (held : Option Contents) (words : List (List ℕ)) : Type 0 where
@@ -455,12 +512,11 @@ pub record RefusesCompaction (held : Option Contents) (words : List (List ℕ)) 
   pub file : HoldsWithin held names.changes file_limit bytes
   pub refused : fed_by Changes rules bytes ≡ Err fault
 
--- the rules of `replay` are read, and that is the fault of the first line of its change file that is refused
+-- the rules of `replay` are read, the next ones too, and that is the fault of the first line of its change file that is refused
 pub record RefusesFed (held : Option Contents) (words : List (List ℕ)) (fault : Fault) : Type 0 where
   pub names : Scripting
   pub is : command_of words ≡ Some (replay names)
-  pub rules : RuleSet
-  pub rules_read : ReadsRules held names.rules rules
+  pub before : ReadsAllRules held names
   pub bytes : List ℕ
   pub file : HoldsWithin held names.changes file_limit bytes
   pub refused : all_transactions_of bytes ≡ Err fault
@@ -567,7 +623,7 @@ Kept o = o.taken_now ≡ o.taken_before
 -- why a command ends with a fault, and what the output has taken then
 abbrev pub Caused : Outside → List (List ℕ) → Fault → Type 0
 Caused o words Usage = Kept o × (command_of words ≡ None)
-Caused o words (Rules line column why) = Kept o × RefusesRules o.held words (Rules line column why)
+Caused o words (Rules which line column why) = Kept o × RefusesRules o.held words (Rules which line column why)
 Caused o words (Change line why) = Kept o × RefusesLines o.held words (Change line why)
 Caused o words (PastLimit limit) = Kept o × RefusesLines o.held words (PastLimit limit)
 Caused o words (TooManyBuckets count) = Kept o × HasTooManyBuckets o.held words count
@@ -644,6 +700,14 @@ or_refused_as fault (Err why) = Err (refused fault)
 abbrev pub rules_meant : Contents → List ℕ → Result RuleSet Refusal
 rules_meant held name = within_limit rules_limit (held name) >>= λ bytes. or_refused (rules_of_file bytes)
 
+-- the next rules, where a file of them is named
+abbrev pub next_rules_meant : Contents → List ℕ → Result RuleSet Refusal
+next_rules_meant held name = within_limit rules_limit (held name) >>= λ bytes. or_refused (as_next (rules_of_file bytes))
+
+abbrev pub next_meant : Contents → Option (List ℕ) → Result (Option RuleSet) Refusal
+next_meant held None = Ok None
+next_meant held (Some name) = next_rules_meant held name >>= λ rules. Ok (Some rules)
+
 abbrev pub keys_meant : Contents → List ℕ → Result (List Key) Refusal
 keys_meant held name = within_limit file_limit (held name) >>= λ bytes. or_refused_as Keys (keys_of_file bytes)
 
@@ -682,7 +746,7 @@ pub data Meant : Type 0 where
 abbrev pub printing : Result (List ℕ) Refusal → Result Meant Refusal
 printing r = r >>= λ text. Ok (prints text)
 
--- what a command prints over its files, or the first refusal: rules before claims before changes before the script or the stream; for
+-- what a command prints over its files, or the first refusal: rules before the next rules before claims before changes before the script or the stream; for
 -- `token` keys before claims before the kid
 abbrev pub meaning : Contents → Command → Result Meant Refusal
 meaning held (check name) = do
@@ -696,9 +760,10 @@ meaning held (rows names) = do
   Ok (prints (rows_text shown))
 meaning held (replay names) = do
   rules ← rules_meant held names.rules
+  next ← next_meant held names.next
   transactions ← all_meant held names.changes
   script ← script_meant held names.script
-  Ok (plays (record { rules = rules; transactions = transactions; script = script }))
+  Ok (plays (record { rules = rules; next = next; transactions = transactions; script = script }))
 meaning held (compact names) = do
   rules ← rules_meant held names.rules
   transactions ← transactions_meant held Changes rules names.changes

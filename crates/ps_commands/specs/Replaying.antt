@@ -1,5 +1,5 @@
 -- What the script of `replay` gives.
-use Rattle.std.specs.Prelude.{◌≡◌, ℕ, ◌+◌, List, ◌∷◌, ◌++◌, length, Result, Ok, Err}
+use Rattle.std.specs.Prelude.{◌≡◌, ℕ, ◌+◌, List, ◌∷◌, ◌++◌, length, Option, Result, Ok, Err}
 use Rattle.ps_io.specs.Contents.{Gains, GainsFront}
 use Rattle.ps_io.specs.Counts.{Rose}
 use Rattle.ps_rows.specs.declared.changes.Transaction.{Transaction}
@@ -17,9 +17,10 @@ use Rattle.ps_files.specs.declared.faults.Fault.TheVariants.{Usage, Rules, Chang
 use Rattle.ps_files.specs.declared.faults.ScriptCause.{ScriptCause}
 use Rattle.ps_files.specs.declared.faults.ScriptCause.TheVariants.{BadEvent, UnknownClient, WrongPhase}
 
--- a script, over rules and the transactions that its events feed
+-- a script, over rules, the rules that its deploys take, and the transactions that its events feed
 pub record Game : Type 0 where
   pub rules : RuleSet
+  pub next : Option RuleSet
   pub transactions : List Transaction
   pub script : List ℕ
 
@@ -29,7 +30,7 @@ fixed_of game = record { rules = game.rules; limits = usual_limits }
 
 -- nothing is fed yet, and no client is there
 abbrev pub start_of : Game → Play
-start_of game = first_play game.transactions
+start_of game = first_play game.transactions game.next
 
 -- why a line is refused
 abbrev pub script_fault : ScriptCause → ScriptFault
@@ -74,7 +75,7 @@ stopped_by number scripts.Memory = Memory
 abbrev pub PlaysOut : Game → Output → Result (Unit {0}) Fault → Type 0
 PlaysOut game out (Ok done) = (text : List ℕ) × GivesAll game text × Gains out.old out.new text
 PlaysOut game out (Err Usage) = ⊥
-PlaysOut game out (Err (Rules line column why)) = ⊥
+PlaysOut game out (Err (Rules which line column why)) = ⊥
 PlaysOut game out (Err (Change line why)) = ⊥
 PlaysOut game out (Err (PastLimit limit)) = ⊥
 PlaysOut game out (Err (TooManyBuckets count)) = ⊥

@@ -27,6 +27,8 @@ pub(crate) enum Command<'a> {
         rules: &'a Text,
         changes: &'a Text,
         script: &'a Text,
+        /// The file of the rules that a deploy takes, if there is one.
+        next: Option<&'a Text>,
     },
     /// Prints what the compaction of each bucket reports.
     Compact {
@@ -135,6 +137,7 @@ fn of_four<'a>(
             rules: second,
             changes: third,
             script: fourth,
+            next: None,
         }),
         _ => None,
     }
@@ -157,6 +160,12 @@ fn of_five<'a>(
             changes: third,
             claims: fourth,
             stream: fifth,
+        }),
+        "replay" => Some(Command::Replay {
+            rules: second,
+            changes: third,
+            script: fourth,
+            next: Some(fifth),
         }),
         _ => None,
     }

@@ -7,6 +7,7 @@ ghost use Rattle.ps_commands.specs.Commands.{command_of, check as check_command,
 ghost use Rattle.ps_commands.specs.Causes.{SaysCause};
 ghost use Rattle.ps_files.specs.declared.faults.LineFault.{LineFault as LineFaultData};
 ghost use Rattle.ps_files.specs.declared.faults.RulesCause.{RulesCause as RulesCauseData};
+ghost use Rattle.ps_files.specs.declared.faults.RulesFile.{RulesFile as RulesFileData};
 ghost use Rattle.ps_files.specs.declared.faults.ScriptCause.{ScriptCause as ScriptCauseData};
 
 use crate::auditing::{audit_files, print_verdict};
@@ -207,7 +208,8 @@ fn command<'a, F: Files, K: Sink>(
             rules,
             changes,
             script,
-        } => done(replay_files(alloc, rules, changes, script, files, out)),
+            next,
+        } => done(replay_files(alloc, rules, next, changes, script, files, out)),
         Command::Compact { rules, changes } => print(compact(alloc, rules, changes, files), out),
         Command::Token { keys, kid, claims } => {
             print(token(alloc, keys, kid, claims, files), out)
@@ -231,7 +233,8 @@ fn command<'a, F: Files, K: Sink>(
 ///
 /// The words are those after the program's name. `check RULES` prints what the rules have. `rows RULES CHANGES CLAIMS` prints the rows
 /// that are due to the asker of the claims over all transactions of the change file, and `snapshot RULES LINES CLAIMS` over all that a file
-/// with a first copy of tables feeds. `replay RULES CHANGES SCRIPT` prints the text of each event of the script as it comes.
+/// with a first copy of tables feeds. `replay RULES CHANGES SCRIPT` prints the text of each event of the script as it comes, and with a fifth word, `NEXT`, its deploys take
+/// the rules of that file.
 /// `compact RULES CHANGES` prints what the compaction of each bucket reports. `token KEYS KID CLAIMS` prints
 /// the token of the claims' payload, signed with the key of that kid. `generate N lines` prints N made change lines, and `generate N` a
 /// summary of them. `audit RULES CHANGES CLAIMS STREAM` prints the verdict on a recorded stream. Where anything is refused, nothing is printed, but for the texts of the lines of a script before the refused one.
@@ -250,8 +253,8 @@ pub fn run_plain<F: Files, K: Sink, E: Sink>(
 
     // Statuses 1 to 9, each by its cause.
     ensures usage { (result ≡ 1) ↔ (command_of words.now ≡ None) }
-    ensures rules { result ≡ 2 → (line column : ℕ) × (why : RulesCauseData)
-        × RefusesRules (F.held files.old) words.now (Fault.Rules line column why) }
+    ensures rules { result ≡ 2 → (which : RulesFileData) × (line column : ℕ) × (why : RulesCauseData)
+        × RefusesRules (F.held files.old) words.now (Fault.Rules which line column why) }
     ensures changes { result ≡ 3 → (line : ℕ) × (why : LineFaultData) × RefusesLines (F.held files.old) words.now (Fault.Change line why) }
     ensures claims { result ≡ 4 → RefusesKeys (F.held files.old) words.now ⊎ RefusesClaims (F.held files.old) words.now }
     ensures limits { result ≡ 5 → ExceedsLimit (F.held files.old) words.now }

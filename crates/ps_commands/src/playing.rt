@@ -81,22 +81,23 @@ fn play_line<K: Sink>(
     }
 }
 
-/// Plays a script over a store of the rules, under the usual limits, into which the transactions are fed as its events say, and
-/// prints the text of each event's effect as it comes: docs/FORMATS.md, "Scripts". No position may be above
+/// Plays a script over a store of the rules, under the usual limits, into which the transactions are fed as its events say and whose
+/// deploys take the next rules, and prints the text of each event's effect as it comes: docs/FORMATS.md, "Scripts". No position may be above
 /// 9,223,372,036,854,775,807, and the script must have fewer than 2^63 bytes.
 /// Fails with `Refused` at the first line that is no event or may not come, with `CannotWrite` where the sink fails, and for want of
 /// memory. What was printed before stays. No client is led wrong by any line: each checkpoint that one applies shows exactly the
-/// rows that are due to it.
+/// rows that the rules in force there grant it.
 pub fn replay<K: Sink>(
     alloc: Global,
     rules: Rules,
+    next: Option<Rules>,
     transactions: Vec<Transaction>,
     script: &[u8],
     out: &mut K,
 ) -> Result<(), ReplayFault>
     requires low { AreLow transactions.items }
     requires length { length script.now < 2 ^ 63 }
-    ensures { Replays (record { rules = rules; limits = usual_limits }) (first_play transactions.items) script.now (record {
+    ensures { Replays (record { rules = rules; limits = usual_limits }) (first_play transactions.items next) script.now (record {
       old = K.taken out.old;
       new = K.taken out.new;
       before = K.faults out.old;
@@ -104,7 +105,7 @@ pub fn replay<K: Sink>(
     }) result }
 {
     plays_begin_led();
-    let mut world = World::new(alloc, rules, transactions)?;
+    let mut world = World::new(alloc, rules, transactions, next)?;
     play_lines(alloc, &mut world, script, out)
 }
 

@@ -65,6 +65,7 @@ ended fixed play most store more left effect is printable stands low = record {
   history = ap (λ (o : Outcome). o.play.history) (sym is);
   stands = subst (λ (o : Outcome). StoreStandsFor fixed store o.play.history) is stands;
   left_are = ap (λ (o : Outcome). o.play.left) is;
+  next = ap (λ (o : Outcome). o.play.next) (sym is);
   readers = ap (λ (o : Outcome). o.play.readers) (sym is);
   low = low;
 }

@@ -9,14 +9,18 @@ use Rattle.ps_store.specs.declared.events.Event.{Event}
 use Rattle.ps_store.specs.declared.events.Event.TheVariants as events
 use Rattle.ps_store.specs.declared.fixed.Fixed.{Fixed}
 use Rattle.ps_store.specs.declared.fixed.Limits.{Limits}
+use Rattle.ps_store.specs.Deploys.{run_of}
+use Rattle.ps_store.specs.Generations.{Coming, queue_in}
 use Rattle.ps_store.specs.Ledgers.{Ledger, ledger_of, head_of, unwritten, entries_after, force_ops}
-use Rattle.ps_store.specs.Originals.{Timed}
+use Rattle.ps_store.specs.Originals.{Timed, entries_at, key_of}
+use Rattle.ps_store.specs.Readings.{building_of}
 use Rattle.ps_store.specs.Runs.{Run}
 use Rattle.ps_store.specs.Stores.{next_run}
 use Rattle.ps_core.specs.declared.effects.Effect.{Effect}
+use Rattle.ps_core.specs.declared.effects.Effect.TheVariants as effects
 use Rattle.ps_core.specs.Plays.{Play, Reader, Outcome, ledger}
 use Rattle.ps_core.specs.PlayHeadline.{UnalteredAreLed, IsLed}
-use Rattle.ps_core.specs.StoreEvents.{feed_refusal, fed_or, feeding, feeds, closes, unwritten_effect, written_run, writes, commits_over, commits, compacts_over, compacts, tells_totals}
+use Rattle.ps_core.specs.StoreEvents.{feed_refusal, fed_or, feeding, feeds, closes, unwritten_effect, written_run, writes, commits_over, commits, compacts_over, compacts, tells_totals, deploys_over, deploys, DeploysNext, unbuilt_effect, built_run, builds_over, builds, switches_over, switches, abandons_over, abandons}
 use Rattle.ps_core.proofs.Grounds.{Under}
 use Rattle.ps_core.proofs.Leading.{led_grown}
 use Rattle.ps_core.proofs.Saying.{IsCalm}
@@ -105,3 +109,60 @@ compacts_grown fixed bucket play = compacts_over_grown (force_ops (ledger fixed 
 
 pub totals_grown : (fixed : Fixed) (play : Play) → IsGrown play.history play.readers (tells_totals fixed play)
 totals_grown fixed play = record { new = []; history_is = sym (append-nil play.history); readers_are = refl; calm = tt }
+
+-- ---- new rules
+
+deploys_over_grown : (building : Option ℕ) (limits : Limits) (l : Ledger) (rules : RuleSet) (play : Play) → IsGrown play.history play.readers (deploys_over building limits l rules play)
+deploys_over_grown (Some generation) limits l rules play = still play (effects.Building generation) tt
+deploys_over_grown None limits l rules play = elim (cases_Bool (nat_lt l.begun limits.generations)) [
+  | inl room ↦ rw room (record { new = events.Deploy rules ∷ []; history_is = refl; readers_are = refl; calm = tt })
+  | inr full ↦ rw full (still play (effects.GenerationsFull l.begun) tt)
+]
+
+pub next_grown : (fixed : Fixed) (next : Option RuleSet) (play : Play) (outcome : Outcome) → DeploysNext fixed next play outcome → IsGrown play.history play.readers outcome
+next_grown fixed None play outcome gives = absurd gives
+next_grown fixed (Some rules) play outcome gives =
+    subst (λ (o : Outcome). IsGrown play.history play.readers o) (sym gives) (deploys_over_grown (building_of (ledger fixed play)) fixed.limits (ledger fixed play) rules play)
+
+unbuilt_calm : (limits : Limits) (l : Ledger) (coming : Coming) (ts : List Timed) → IsCalm (unbuilt_effect limits l coming ts)
+unbuilt_calm limits l coming [] = tt
+unbuilt_calm limits l coming (t ∷ ts) = elim (cases_Bool (nat_lt limits.entries (length (entries_at coming.lane.rules.definitions (key_of t) t.change.row)))) [
+  | inl wide ↦ rw wide tt
+  | inr narrow ↦ rw narrow tt
+]
+
+built_grown : (run : Run) (limits : Limits) (l : Ledger) (coming : Coming) (play : Play) → IsGrown play.history play.readers (built_run run limits l coming play)
+built_grown run limits l coming play = elim (cases_Bool (nat_le 1 run.count)) [
+  | inl some ↦ rw some (record { new = events.Build run.count ∷ []; history_is = refl; readers_are = refl; calm = tt })
+  | inr none ↦ rw none (still play (unbuilt_effect limits l coming coming.queue) (unbuilt_calm limits l coming coming.queue))
+]
+
+builds_over_grown : (building : Option Coming) (limits : Limits) (l : Ledger) (limit : ℕ) (play : Play) → IsGrown play.history play.readers (builds_over building limits l limit play)
+builds_over_grown None limits l limit play = still play effects.NothingBuilding tt
+builds_over_grown (Some coming) limits l limit play = built_grown (run_of limits l coming limit) limits l coming play
+
+pub builds_grown : (fixed : Fixed) (limit : ℕ) (play : Play) → IsGrown play.history play.readers (builds fixed limit play)
+builds_grown fixed limit play = builds_over_grown (ledger fixed play).building fixed.limits (ledger fixed play) limit play
+
+switches_over_grown : (building : Option ℕ) (limits : Limits) (l : Ledger) (play : Play) → IsGrown play.history play.readers (switches_over building limits l play)
+switches_over_grown None limits l play = still play effects.NothingBuilding tt
+switches_over_grown (Some generation) limits l play = elim (cases_Bool (nat_lt 0 (length (queue_in l.building)))) [
+  | inl queued ↦ rw queued (still play (effects.NotBuilt (length (queue_in l.building))) tt)
+  | inr built ↦ elim (cases_Bool (nat_lt 0 l.reach.over)) [
+    | inl half ↦ rw (built, half) (still play (effects.HalfWritten l.reach.over) tt)
+    | inr whole ↦ elim (cases_Bool (nat_lt l.last limits.ops)) [
+      | inl room ↦ rw (built, whole, room) (record { new = events.Switch ∷ []; history_is = refl; readers_are = refl; calm = tt })
+      | inr full ↦ rw (built, whole, full) (still play (effects.OpsFull (record { 0 = l.last })) tt)
+    ]
+  ]
+]
+
+pub switches_grown : (fixed : Fixed) (play : Play) → IsGrown play.history play.readers (switches fixed play)
+switches_grown fixed play = switches_over_grown (building_of (ledger fixed play)) fixed.limits (ledger fixed play) play
+
+abandons_over_grown : (building : Option ℕ) (play : Play) → IsGrown play.history play.readers (abandons_over building play)
+abandons_over_grown None play = still play effects.NothingBuilding tt
+abandons_over_grown (Some generation) play = record { new = events.Abandon ∷ []; history_is = refl; readers_are = refl; calm = tt }
+
+pub abandons_grown : (fixed : Fixed) (play : Play) → IsGrown play.history play.readers (abandons fixed play)
+abandons_grown fixed play = abandons_over_grown (building_of (ledger fixed play)) play

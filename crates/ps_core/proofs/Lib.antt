@@ -12,6 +12,7 @@ pub mod Playing
 pub mod PlayRuns
 pub mod Histories
 pub mod StoreSteps
+pub mod NewRules
 pub mod FedRuns
 pub mod Sent
 pub mod Visited

@@ -24,14 +24,14 @@ use Rattle.ps_streams.specs.Lives.{Link, Idle, Streaming}
 use Rattle.ps_streams.specs.Runs.{Made}
 use Rattle.ps_streams.specs.RunsTo.{RunsBegin, RunsTurn, RunsStay, RunsCarry}
 use Rattle.ps_script.specs.declared.events.ScriptEvent.{ScriptEvent}
-use Rattle.ps_script.specs.declared.events.ScriptEvent.TheVariants.{Feed, Close, Write, Commit, Compact, Client, Open, Turn, Take, Cut, Alter, Local, Upload, Number, Rows, Totals}
+use Rattle.ps_script.specs.declared.events.ScriptEvent.TheVariants.{Feed, Close, Write, Commit, Compact, Client, Open, Turn, Take, Cut, Alter, Local, Upload, Number, Rows, Totals, Deploy, Build, Switch, Abandon}
 use Rattle.ps_core.specs.declared.effects.Effect.{Effect}
 use Rattle.ps_core.specs.Plays.{Play, Reader, Outcome, course, first_reader, happens, ledger, place, with_reader}
 use Rattle.ps_core.specs.PlayRuns.{AreRuns, IsRunOn, PlaysBeginRuns, PlaysStayRuns}
 use Rattle.ps_core.specs.PlaySteps.{AltersOn, Gives, NumbersAs, TakesOn, TurnsOn}
 use Rattle.ps_core.specs.ReaderEvents.{TakesLine, altered_in, becomes, cut, link_after_answer, link_after_event, next_position, numbered, numbers_for, opened, takes_in, turn_outcome, turned, uploaded_at, uploads_from, with_kept}
-use Rattle.ps_core.specs.StoreEvents.{closes, commits, compacts, feeds, tells_totals, writes}
-use Rattle.ps_core.proofs.Growing.{IsGrown, closes_grown, commits_grown, compacts_grown, feeds_grown, totals_grown, writes_grown}
+use Rattle.ps_core.specs.StoreEvents.{abandons, builds, closes, commits, compacts, feeds, switches, tells_totals, writes}
+use Rattle.ps_core.proofs.Growing.{IsGrown, abandons_grown, builds_grown, closes_grown, commits_grown, compacts_grown, feeds_grown, next_grown, switches_grown, totals_grown, writes_grown}
 
 -- what runs keep, and the store's readings
 record Ground : Type 0 where
@@ -45,7 +45,7 @@ one_of : {x y : Reader} → Some x ≡ Some y → x ≡ y
 one_of same = cc
 
 pub begin_runs : PlaysBeginRuns
-begin_runs fixed transactions name reader there = cc
+begin_runs fixed transactions next name reader there = cc
 
 -- ---- all clients
 
@@ -211,6 +211,10 @@ module _ (ground : Ground) (fixed : Fixed) where
       number_runs reader.asker.client name play reader outcome gives.2 (runs name reader gives.1) runs
   comes_runs (Rows name) play outcome gives runs = subst (λ (o : Outcome). AreRuns fixed o.play) (sym gives.2.is) runs
   comes_runs Totals play outcome gives runs = grown_given play outcome (tells_totals fixed play) gives (totals_grown fixed play) runs
+  comes_runs Deploy play outcome gives runs = grown_runs play outcome (next_grown fixed play.next play outcome gives) runs
+  comes_runs (Build limit) play outcome gives runs = grown_given play outcome (builds fixed limit play) gives (builds_grown fixed limit play) runs
+  comes_runs Switch play outcome gives runs = grown_given play outcome (switches fixed play) gives (switches_grown fixed play) runs
+  comes_runs Abandon play outcome gives runs = grown_given play outcome (abandons fixed play) gives (abandons_grown fixed play) runs
 
 pub stay_runs : RunsBegin → RunsTurn → RunsStay → RunsCarry → PlacesStay → PlaysStayRuns
 stay_runs begin turn stay carry places fixed play event outcome comes runs =

@@ -20,5 +20,5 @@ all_right (event ∷ events) (outcome ∷ outcomes) stay fixed rules numbers wit
     (it.1, all_right events outcomes stay fixed rules numbers within outcome.play after it.0 played.1)
 
 pub scripts_right : PlaysBeginLed → PlaysStayLed → ScriptsAreRight
-scripts_right begin stay fixed transactions events outcomes rules numbers within low played =
-    all_right events outcomes stay fixed rules numbers within (first_play transactions) (record { legal = tt; low = low }) (begin fixed transactions) played
+scripts_right begin stay fixed transactions next events outcomes rules numbers within low valid played =
+    all_right events outcomes stay fixed rules numbers within (first_play transactions next) (record { legal = tt; low = low; next = valid }) (begin fixed transactions next) played

@@ -1,10 +1,10 @@
 -- Each event of a script leaves every client led, and what is said of it is right.
-use Rattle.std.proofs.Common.{◌≡◌, ◌≢◌, ℕ, ◌<◌, false, List, Some, None, sym, ap, subst, ◌∙◌, arith}
+use Rattle.std.proofs.Common.{◌≡◌, ◌≢◌, ℕ, ◌<◌, false, List, Some, None, refl, sym, ap, subst, ◌∙◌, arith}
 use Rattle.std.proofs.lemmas.Bool.{true≢false}
 use Rattle.ps_store.specs.declared.fixed.Fixed.{Fixed}
 use Rattle.ps_store.specs.Ledgers.{IsLegal}
 use Rattle.ps_script.specs.declared.events.ScriptEvent.{ScriptEvent}
-use Rattle.ps_script.specs.declared.events.ScriptEvent.TheVariants.{Feed, Close, Write, Commit, Compact, Client, Open, Turn, Take, Cut, Alter, Local, Upload, Number, Rows, Totals}
+use Rattle.ps_script.specs.declared.events.ScriptEvent.TheVariants.{Feed, Close, Write, Commit, Compact, Client, Open, Turn, Take, Cut, Alter, Local, Upload, Number, Rows, Totals, Deploy, Build, Switch, Abandon}
 use Rattle.ps_session.specs.declared.phases.Phase.TheVariants.{Void}
 use Rattle.ps_session.specs.Sessions.{SessionState, begin}
 use Rattle.ps_streams.specs.Headline.{VoidIsRetaken}
@@ -17,19 +17,19 @@ use Rattle.ps_core.specs.Plays.{Play, Reader, Outcome, course, first_reader, pla
 use Rattle.ps_core.specs.PlayHeadline.{IsLed, IsRight, PlaysBeginLed, PlaysStayLed, UnalteredAreLed}
 use Rattle.ps_core.specs.PlayRuns.{AreRuns, IsRunOn, PlaysBeginRuns, PlaysStayRuns}
 use Rattle.ps_core.specs.ReaderEvents.{altered_in, becomes, cut, opened, uploads, writes_locally}
-use Rattle.ps_core.specs.StoreEvents.{feeds, closes, writes, commits, compacts, tells_totals}
+use Rattle.ps_core.specs.StoreEvents.{feeds, closes, writes, commits, compacts, tells_totals, builds, switches, abandons}
 use Rattle.ps_core.specs.PlaySteps.{AltersOn, Gives}
 use Rattle.ps_core.proofs.Grounds.{Laws, Under, lawful_in}
 use Rattle.ps_core.proofs.Leading.{with_led}
 use Rattle.ps_core.proofs.Saying.{IsCalm, Retakes, says_right, takes_not, turns_not}
-use Rattle.ps_core.proofs.Growing.{IsGrown, grown_led, feeds_grown, closes_grown, writes_grown, commits_grown, compacts_grown, totals_grown}
+use Rattle.ps_core.proofs.Growing.{IsGrown, grown_led, feeds_grown, closes_grown, writes_grown, commits_grown, compacts_grown, totals_grown, next_grown, builds_grown, switches_grown, abandons_grown}
 use Rattle.ps_core.proofs.PlayTurns.{cut_led, turn_stays_led}
 use Rattle.ps_core.proofs.PlayTakes.{take_stays_led}
 use Rattle.ps_core.proofs.Opening.{first_led, opened_led}
 use Rattle.ps_core.proofs.PlayWrites.{IsFine, local_fine, upload_fine, number_fine}
 
 pub begin_led : PlaysBeginRuns → PlaysBeginLed
-begin_led begin_runs fixed transactions = record { led = λ name reader there plain. absurd (nobody there); runs = begin_runs fixed transactions }
+begin_led begin_runs fixed transactions next = record { led = λ name reader there plain. absurd (nobody there); runs = begin_runs fixed transactions next }
   where
     nobody : {reader : Reader} → None ≡ Some reader → ⊥
     nobody is = cc
@@ -113,6 +113,11 @@ stays (Rows name) fixed under play outcome legal after retakes gives led =
     fine_stays fixed under play (Rows name) outcome after tt
     (given_fine fixed outcome (says (effects.Rows gives.2.rows) play) gives.2.is (record { led = led; calm = tt }))
 stays Totals fixed under play outcome legal after retakes gives led = grown_stays fixed under play Totals outcome (tells_totals fixed play) after tt gives (totals_grown fixed play) led
+stays Deploy fixed under play outcome legal after retakes gives led = grown_stays fixed under play Deploy outcome outcome after tt refl (next_grown fixed play.next play outcome gives) led
+stays (Build limit) fixed under play outcome legal after retakes gives led =
+    grown_stays fixed under play (Build limit) outcome (builds fixed limit play) after tt gives (builds_grown fixed limit play) led
+stays Switch fixed under play outcome legal after retakes gives led = grown_stays fixed under play Switch outcome (switches fixed play) after tt gives (switches_grown fixed play) led
+stays Abandon fixed under play outcome legal after retakes gives led = grown_stays fixed under play Abandon outcome (abandons fixed play) after tt gives (abandons_grown fixed play) led
 
 -- a session that gave its checkpoint up takes a greater op next
 retakes_on : VoidIsRetaken → (fixed : Fixed) → Under fixed → (play : Play) (event : ScriptEvent) → IsLegal fixed.rules play.history → AreRuns fixed play → Retakes fixed play event

@@ -51,19 +51,19 @@ counted count some few =
 -- ---- what comes
 
 module _ (fixed : Fixed) (play : Play) (asked : ScriptEvent) (store : Store) (effect own : Effect) (is : effect ≡ own) (printable : IsPrintable own) where
-  happened : (event : Event) → Comes fixed play asked (record { effect = effect; play = happens event play }) → StoreStandsFor fixed store (play.history ++ event ∷ [])
+  pub happened : (event : Event) → Comes fixed play asked (record { effect = effect; play = happens event play }) → StoreStandsFor fixed store (play.history ++ event ∷ [])
       → CameStill fixed play asked store own
   happened event comes stands = record {
     outcome = record { effect = effect; play = happens event play };
-    came = record { comes = comes; effect_is = is; printable = printable; more = event ∷ []; history = refl; stands = stands };
+    came = record { comes = comes; effect_is = is; printable = printable; more = event ∷ []; history = refl; stands = stands; next = refl };
     left = refl;
     readers = refl;
   }
 
-  said : Comes fixed play asked (says effect play) → StoreStandsFor fixed store play.history → CameStill fixed play asked store own
+  pub said : Comes fixed play asked (says effect play) → StoreStandsFor fixed store play.history → CameStill fixed play asked store own
   said comes stands = record {
     outcome = says effect play;
-    came = record { comes = comes; effect_is = is; printable = printable; more = []; history = sym (append-nil play.history); stands = stands };
+    came = record { comes = comes; effect_is = is; printable = printable; more = []; history = sym (append-nil play.history); stands = stands; next = refl };
     left = refl;
     readers = refl;
   }
@@ -78,7 +78,7 @@ told_so fixed play store totals is stands =
 
 -- ---- commits
 
-abbrev checkpoint_of : ℕ → ℕ → Checkpoint
+abbrev pub checkpoint_of : ℕ → ℕ → Checkpoint
 checkpoint_of p op = record { position = record { 0 = p }; op = record { 0 = op } }
 
 pub committed_so : (fixed : Fixed) (play : Play) (store : Store) (checkpoint : Checkpoint) → Commits fixed play.history store (Ok checkpoint)
@@ -163,22 +163,22 @@ none_written fixed play store limit own some few none is printable stands =
     }) stands
 
 -- a run ends at once where the first change cannot be written
-run_stops : (limits : Limits) (l : Ledger) (t : Timed) (ts : List Timed) (refusal : _) (limit : ℕ) → 1 ≤ limit → unwritten l ≡ t ∷ ts → refusal_of limits l t ≡ Some refusal
-    → (run_from limits l 0 (take limit (unwritten l))).count ≡ 0
-run_stops limits l t ts refusal zero some is why = absurd (omega (arith, some))
-run_stops limits l t ts refusal (suc k) some is why =
+pub run_stops : (limits : Limits) (l : Ledger) (all : List Timed) (t : Timed) (ts : List Timed) (refusal : _) (limit : ℕ) → 1 ≤ limit → all ≡ t ∷ ts → refusal_of limits l t ≡ Some refusal
+    → (run_from limits l 0 (take limit all)).count ≡ 0
+run_stops limits l all t ts refusal zero some is why = absurd (omega (arith, some))
+run_stops limits l all t ts refusal (suc k) some is why =
     ap (λ (us : List Timed). (run_from limits l 0 (take (suc k) us)).count) is
     ∙ ap (λ r. (stopped l 0 r (run_from limits (write_next l t) (0 + 1) (take k ts))).count) why
 
-run_empty : (limits : Limits) (l : Ledger) (limit : ℕ) → unwritten l ≡ [] → (run_from limits l 0 (take limit (unwritten l))).count ≡ 0
-run_empty limits l limit is =
+pub run_empty : (limits : Limits) (l : Ledger) (all : List Timed) (limit : ℕ) → all ≡ [] → (run_from limits l 0 (take limit all)).count ≡ 0
+run_empty limits l all limit is =
     ap (λ (us : List Timed). (run_from limits l 0 (take limit us)).count) is ∙ ap (λ (us : List Timed). (run_from limits l 0 us).count) (take-nil {A = Timed} limit)
 
 pub nothing_to_write : (fixed : Fixed) (play : Play) (store : Store) (limit : ℕ) → 1 ≤ limit → limit ≤ 1000000 → Writes fixed play.history limit store (Err writing.NothingToWrite)
     → CameStill fixed play (scripts.Write limit) store effects.NothingToWrite
 nothing_to_write fixed play store limit some few it =
     let l = ledger fixed play in
-    none_written fixed play store limit effects.NothingToWrite some few (run_empty fixed.limits l limit it.0) (ap (unwritten_effect fixed.limits l) it.0) tt it.1
+    none_written fixed play store limit effects.NothingToWrite some few (run_empty fixed.limits l (unwritten l) limit it.0) (ap (unwritten_effect fixed.limits l) it.0) tt it.1
 
 pub too_wide : (fixed : Fixed) (play : Play) (store : Store) (limit : ℕ) (table id : List ℕ) (count : ℕ) → 1 ≤ limit → limit ≤ 1000000
     → Writes fixed play.history limit store (Err (writing.TooWide table id count)) → CameStill fixed play (scripts.Write limit) store (effects.TooWide count)
@@ -188,7 +188,7 @@ too_wide fixed play store limit table id count some few it =
     let t : Timed = r.0 in
     let wide : nat_lt fixed.limits.entries (length (entries_after l t)) ≡ true = lt-ltb fixed.limits.entries (length (entries_after l t)) r.3 in
     none_written fixed play store limit (effects.TooWide count) some few
-    (run_stops fixed.limits l t r.1 _ limit some r.2 (cond-true _ _ _ wide))
+    (run_stops fixed.limits l (unwritten l) t r.1 _ limit some r.2 (cond-true _ _ _ wide))
     (ap (unwritten_effect fixed.limits l) r.2 ∙ cond-true _ _ _ wide ∙ ap effects.TooWide (sym r.6)) tt it.1
 
 pub ops_full : (fixed : Fixed) (play : Play) (store : Store) (limit : ℕ) (last : OpId) → 1 ≤ limit → limit ≤ 1000000
@@ -200,5 +200,5 @@ ops_full fixed play store limit last some few it =
     let narrow : nat_lt fixed.limits.entries (length (entries_after l t)) ≡ false = le-ltb fixed.limits.entries (length (entries_after l t)) r.3 in
     let full : nat_lt fixed.limits.ops (l.last + length (next_ops l t)) ≡ true = lt-ltb fixed.limits.ops (l.last + length (next_ops l t)) r.4 in
     none_written fixed play store limit (effects.OpsFull last) some few
-    (run_stops fixed.limits l t r.1 _ limit some r.2 (cond-false _ _ _ narrow ∙ cond-true _ _ _ full))
+    (run_stops fixed.limits l (unwritten l) t r.1 _ limit some r.2 (cond-false _ _ _ narrow ∙ cond-true _ _ _ full))
     (ap (unwritten_effect fixed.limits l) r.2 ∙ cond-false _ _ _ narrow ∙ ap (λ (n : ℕ). effects.OpsFull (record { 0 = n })) (sym r.5)) tt it.1

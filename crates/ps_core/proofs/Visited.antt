@@ -45,7 +45,7 @@ module _ (fixed : Fixed) (play : Play) (asked : ScriptEvent) (name : List ℕ) (
       → CameTo fixed play asked name store new own
   became reader comes stands reader_stands = record {
     outcome = becomes effect name reader play;
-    came = record { comes = comes; effect_is = is; printable = printable; more = []; history = sym (append-nil play.history); stands = stands };
+    came = record { comes = comes; effect_is = is; printable = printable; more = []; history = sym (append-nil play.history); stands = stands; next = refl };
     left = refl;
     others = others_stay reader;
     reader = reader;
@@ -59,7 +59,7 @@ module _ (fixed : Fixed) (play : Play) (asked : ScriptEvent) (name : List ℕ) (
       → CameTo fixed play asked name store new own
   happened_to event reader comes stands reader_stands = record {
     outcome = record { effect = effect; play = with_reader name reader (happens event play) };
-    came = record { comes = comes; effect_is = is; printable = printable; more = event ∷ []; history = refl; stands = stands };
+    came = record { comes = comes; effect_is = is; printable = printable; more = event ∷ []; history = refl; stands = stands; next = refl };
     left = refl;
     others = others_stay reader;
     reader = reader;
@@ -72,7 +72,7 @@ module _ (fixed : Fixed) (play : Play) (asked : ScriptEvent) (name : List ℕ) (
       → ReaderStandsFor fixed play.history new reader → CameTo fixed play asked name store new own
   said_to reader named comes stands reader_stands = record {
     outcome = says effect play;
-    came = record { comes = comes; effect_is = is; printable = printable; more = []; history = sym (append-nil play.history); stands = stands };
+    came = record { comes = comes; effect_is = is; printable = printable; more = []; history = sym (append-nil play.history); stands = stands; next = refl };
     left = refl;
     others = λ other apart. refl;
     reader = reader;

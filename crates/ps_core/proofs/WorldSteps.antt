@@ -56,9 +56,9 @@ all_more stay fixed world play more it name = one_more stay fixed play.history m
 
 module _ (fixed : Fixed) (old new : World) (play : Play) (event : ScriptEvent) (effect : Effect) (outcome : Outcome) (it : WorldStandsFor fixed old play)
     (came : Came fixed play event new.store effect outcome) where
-  went_by : new.failed ≡ old.failed → new.left.items ≡ outcome.play.left → AreLow outcome.play.left
+  went_by : new.failed ≡ old.failed → new.left.items ≡ outcome.play.left → AreLow outcome.play.left → new.next ≡ old.next
       → ((name : List ℕ) → OneStandsFor fixed outcome.play.history (reader_at new.readers name) (outcome.play.readers name)) → Went fixed play event new effect
-  went_by failed left low readers = record {
+  went_by failed left low next readers = record {
     outcome = outcome;
     comes = came.comes;
     effect_is = came.effect_is;
@@ -68,6 +68,7 @@ module _ (fixed : Fixed) (old new : World) (play : Play) (event : ScriptEvent) (
       stands = came.stands;
       left = left;
       low = low;
+      next = next ∙ it.next ∙ sym came.next;
       readers = readers;
     };
   }
@@ -98,14 +99,14 @@ module _ (fixed : Fixed) (old new : World) (play : Play) (event : ScriptEvent) (
 -- ---- events of the store
 
 pub went_still : PlacesStay → (fixed : Fixed) (old new : World) (play : Play) (event : ScriptEvent) (effect : Effect) → WorldStandsFor fixed old play → CameStill fixed play event new.store effect
-    → new.failed ≡ old.failed → new.left.items ≡ old.left.items → new.readers ≡ old.readers → Went fixed play event new effect
-went_still stay fixed old new play event effect it still failed left readers =
-    went_by fixed old new play event effect still.outcome it still.came failed (left ∙ it.left ∙ sym still.left) (subst AreLow (sym still.left) it.low)
+    → new.failed ≡ old.failed → new.left.items ≡ old.left.items → new.next ≡ old.next → new.readers ≡ old.readers → Went fixed play event new effect
+went_still stay fixed old new play event effect it still failed left next readers =
+    went_by fixed old new play event effect still.outcome it still.came failed (left ∙ it.left ∙ sym still.left) (subst AreLow (sym still.left) it.low) next
     (same_readers fixed old new play event effect still.outcome it still.came stay readers still.readers)
 
 pub went_feeding : PlacesStay → (fixed : Fixed) (old new : World) (play : Play) (count : ℕ) (effect : Effect) → WorldStandsFor fixed old play → FeedsAll fixed play count new.store new.left.items effect
-    → uncounted count ≡ None → new.failed ≡ old.failed → new.readers ≡ old.readers → Went fixed play (scripts.Feed count) new effect
-went_feeding stay fixed old new play count effect it fed may failed readers =
+    → uncounted count ≡ None → new.failed ≡ old.failed → new.next ≡ old.next → new.readers ≡ old.readers → Went fixed play (scripts.Feed count) new effect
+went_feeding stay fixed old new play count effect it fed may failed next readers =
     let outcome : Outcome = feeds fixed count play in
     let came : Came fixed play (scripts.Feed count) new.store effect outcome = record {
       comes = record { may = may; gives = refl };
@@ -114,8 +115,9 @@ went_feeding stay fixed old new play count effect it fed may failed readers =
       more = fed.more;
       history = fed.history;
       stands = fed.stands;
+      next = fed.next;
     } in
-    went_by fixed old new play (scripts.Feed count) effect outcome it came failed fed.left_are (subst AreLow fed.left_are fed.low)
+    went_by fixed old new play (scripts.Feed count) effect outcome it came failed fed.left_are (subst AreLow fed.left_are fed.low) next
     (same_readers fixed old new play (scripts.Feed count) effect outcome it came stay readers fed.readers)
 
 pub refused_so : (fixed : Fixed) (old new : World) (play : Play) (event : ScriptEvent) (fault : ScriptFault) → WorldStandsFor fixed old play → refusal play event ≡ Some fault → new ≡ old
@@ -168,19 +170,20 @@ is_put old new name own gives = put_by old new name own gives
 
 -- the client of the name answered
 pub acted : PlacesStay → (fixed : Fixed) (old new : World) (play : Play) (event : ScriptEvent) (name : List ℕ) (own : Reader) (result : Result Effect ScriptFault) → WorldStandsFor fixed old play
-    → new.failed ≡ old.failed → new.left.items ≡ old.left.items → IsPut old.readers name own new.readers → Acts fixed play event name new.store own result → Goes fixed play event new result
-acted stay fixed old new play event name own (Ok effect) it failed left put to =
-    went_by fixed old new play event effect to.outcome it to.came failed (left ∙ it.left ∙ sym to.left) (subst AreLow (sym to.left) it.low)
+    → new.failed ≡ old.failed → new.left.items ≡ old.left.items → new.next ≡ old.next → IsPut old.readers name own new.readers → Acts fixed play event name new.store own result → Goes fixed play event new result
+acted stay fixed old new play event name own (Ok effect) it failed left next put to =
+    went_by fixed old new play event effect to.outcome it to.came failed (left ∙ it.left ∙ sym to.left) (subst AreLow (sym to.left) it.low) next
     (other_reader fixed old new play event effect to.outcome it to.came stay name own to.reader put to.named to.others to.reader_stands)
-acted stay fixed old new play event name own (Err BadEvent) it failed left put acts = absurd acts
-acted stay fixed old new play event name own (Err UnknownClient) it failed left put acts = absurd acts
-acted stay fixed old new play event name own (Err WrongPhase) it failed left put acts = record {
+acted stay fixed old new play event name own (Err BadEvent) it failed left next put acts = absurd acts
+acted stay fixed old new play event name own (Err UnknownClient) it failed left next put acts = absurd acts
+acted stay fixed old new play event name own (Err WrongPhase) it failed left next put acts = record {
   refusal_is = acts.0;
   stands = record {
     whole = failed ∙ it.whole;
     stands = acts.1.serves;
     left = left ∙ it.left;
     low = it.low;
+    next = next ∙ it.next;
     readers = same;
   };
 }
@@ -195,7 +198,7 @@ acted stay fixed old new play event name own (Err WrongPhase) it failed left put
           subst (λ (o : Option Reader). OneStandsFor fixed play.history o (play.readers other)) (sym (put other ∙ cond-false (bytes_eq name other) (Some own) (reader_at old.readers other) apart))
           (it.readers other)
     ]
-acted stay fixed old new play event name own (Err Memory) it failed left put acts = acts
+acted stay fixed old new play event name own (Err Memory) it failed left next put acts = acts
 
 -- ---- a client begins
 
@@ -218,9 +221,9 @@ may_begin fixed world play name asker it none = ap (λ (b : Bool). if b then Som
     not_there (Some own) reader none stands = cc
 
 pub began : PlacesStay → (fixed : Fixed) (old new : World) (play : Play) (name : List ℕ) (asker : Asker) (effect : Effect) → WorldStandsFor fixed old play → new.store ≡ old.store
-    → new.failed ≡ old.failed → new.left.items ≡ old.left.items → is_some (reader_at old.readers name) ≡ false → HasBegun old.readers name asker new.readers effect
+    → new.failed ≡ old.failed → new.left.items ≡ old.left.items → new.next ≡ old.next → is_some (reader_at old.readers name) ≡ false → HasBegun old.readers name asker new.readers effect
     → Went fixed play (scripts.Client name asker) new effect
-began stay fixed old new play name asker effect it store failed left none has =
+began stay fixed old new play name asker effect it store failed left next none has =
     let outcome : Outcome = becomes (effects.Client name) name (first_reader asker) play in
     let came : Came fixed play (scripts.Client name asker) new.store effect outcome = record {
       comes = record { may = may_begin fixed old play name asker it none; gives = refl };
@@ -229,8 +232,9 @@ began stay fixed old new play name asker effect it store failed left none has =
       more = [];
       history = sym (append-nil play.history);
       stands = subst (λ (s : Store). StoreStandsFor fixed s play.history) (sym store) it.stands;
+      next = refl;
     } in
-    went_by fixed old new play (scripts.Client name asker) effect outcome it came failed (left ∙ it.left) it.low
+    went_by fixed old new play (scripts.Client name asker) effect outcome it came failed (left ∙ it.left) it.low next
     (other_reader fixed old new play (scripts.Client name asker) effect outcome it came stay name has.reader (first_reader asker) has.put
     (cond-true (bytes_eq name name) (Some (first_reader asker)) (play.readers name) (itself name))
     (λ other apart. cond-false (bytes_eq name other) (Some (first_reader asker)) (play.readers other) apart) (has.first fixed play.history))

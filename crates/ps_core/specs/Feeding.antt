@@ -51,5 +51,6 @@ pub record FeedsAll (fixed : Fixed) (play : Play) (most : ℕ) (store : Store) (
   pub history : (feeds fixed most play).play.history ≡ play.history ++ more
   pub stands : StoreStandsFor fixed store (feeds fixed most play).play.history
   pub left_are : left ≡ (feeds fixed most play).play.left
+  pub next : (feeds fixed most play).play.next ≡ play.next
   pub readers : (feeds fixed most play).play.readers ≡ play.readers
   pub low : AreLow left

@@ -38,6 +38,8 @@ pub record Came (fixed : Fixed) (play : Play) (event : ScriptEvent) (store : Sto
   pub more : List Event
   pub history : outcome.play.history ≡ play.history ++ more
   pub stands : StoreStandsFor fixed store outcome.play.history
+  -- the next rules stay
+  pub next : outcome.play.next ≡ play.next
 
 -- ---- the store's
 

@@ -1,7 +1,7 @@
 -- What every play keeps: no client is led wrong, but for those of which a stream was altered.
-use Rattle.std.specs.Prelude.{◌≡◌, ◌≢◌, ℕ, ◌<◌, ◌≤◌, List, [], ◌∷◌, length, ◌++◌, Some, false}
+use Rattle.std.specs.Prelude.{◌≡◌, ◌≢◌, ℕ, ◌<◌, ◌≤◌, List, [], ◌∷◌, length, ◌++◌, Option, Some, false}
 use Rattle.ps_data.specs.declared.ids.OpId.{OpId}
-use Rattle.ps_definitions.specs.RuleSets.{AreRules}
+use Rattle.ps_definitions.specs.RuleSets.{RuleSet, AreRules}
 use Rattle.ps_rows.specs.declared.changes.Transaction.{Transaction}
 use Rattle.ps_client.specs.declared.events.Differing.{Differing}
 use Rattle.ps_client.specs.Clients.{PlainClient}
@@ -58,7 +58,7 @@ pub record AreLed (fixed : Fixed) (play : Play) : Type 0 where
 
 -- ---- what is then said
 
--- the client shows exactly the rows that are due at the place where the line's checkpoint was taken; and what was uploaded before a
+-- the client shows exactly the rows that are due, by the rules in force, at the place where the line's checkpoint was taken; and what was uploaded before a
 -- write checkpoint whose number that checkpoint covers is within its position
 abbrev pub ShowsDue : Fixed → Play → Made → OpId → Reader → Reader → Type 0
 ShowsDue fixed play m op old new = (m.at ≤ place play) × IsShown (course fixed play.history old.asker) m.at op old.client new.client
@@ -92,4 +92,4 @@ PlaysStayLed = (fixed : Fixed) (play : Play) (event : ScriptEvent) (outcome : Ou
 
 -- before the first event there is no client
 abbrev pub PlaysBeginLed : Type 0
-PlaysBeginLed = (fixed : Fixed) (transactions : List Transaction) → AreLed fixed (first_play transactions)
+PlaysBeginLed = (fixed : Fixed) (transactions : List Transaction) (next : Option RuleSet) → AreLed fixed (first_play transactions next)

@@ -1,6 +1,7 @@
 -- The streams of scripts are runs of their sessions.
-use Rattle.std.specs.Prelude.{◌≡◌, ℕ, List, Some}
+use Rattle.std.specs.Prelude.{◌≡◌, ℕ, List, Option, Some}
 use Rattle.ps_rows.specs.declared.changes.Transaction.{Transaction}
+use Rattle.ps_definitions.specs.RuleSets.{RuleSet}
 use Rattle.ps_store.specs.declared.fixed.Fixed.{Fixed}
 use Rattle.ps_store.specs.Courses.{Course}
 use Rattle.ps_streams.specs.Lives.{Link, Idle, Streaming}
@@ -25,4 +26,4 @@ PlaysStayRuns = (fixed : Fixed) (play : Play) (event : ScriptEvent) (outcome : O
 
 -- before the first event there is no client
 abbrev pub PlaysBeginRuns : Type 0
-PlaysBeginRuns = (fixed : Fixed) (transactions : List Transaction) → AreRuns fixed (first_play transactions)
+PlaysBeginRuns = (fixed : Fixed) (transactions : List Transaction) (next : Option RuleSet) → AreRuns fixed (first_play transactions next)

@@ -1,15 +1,16 @@
 -- What each event of a script does.
 use Rattle.std.specs.Prelude.{◌≡◌, ℕ, ◌&&◌, if◌then◌else◌, List, [], ◌∷◌, Option, Some, None, is_some, nat_le}
+use Rattle.ps_definitions.specs.RuleSets.{RuleSet}
 use Rattle.ps_store.specs.declared.fixed.Fixed.{Fixed}
 use Rattle.ps_streams.specs.Lives.{Link, Idle, Streaming}
 use Rattle.ps_script.specs.declared.events.ScriptEvent.{ScriptEvent}
-use Rattle.ps_script.specs.declared.events.ScriptEvent.TheVariants.{Feed, Close, Write, Commit, Compact, Client, Open, Turn, Take, Cut, Alter, Local, Upload, Number, Rows, Totals}
+use Rattle.ps_script.specs.declared.events.ScriptEvent.TheVariants.{Feed, Close, Write, Commit, Compact, Client, Open, Turn, Take, Cut, Alter, Local, Upload, Number, Rows, Totals, Deploy, Build, Switch, Abandon}
 use Rattle.ps_script.specs.declared.faults.ScriptFault.{ScriptFault}
 use Rattle.ps_script.specs.declared.faults.ScriptFault.TheVariants.{BadEvent, UnknownClient, WrongPhase}
 use Rattle.ps_core.specs.declared.effects.Effect.TheVariants as effects
 use Rattle.ps_core.specs.Altering.{has_data}
 use Rattle.ps_core.specs.Plays.{Play, Reader, Outcome, first_reader, ledger}
-use Rattle.ps_core.specs.StoreEvents.{feeds, closes, writes, commits, compacts, tells_totals}
+use Rattle.ps_core.specs.StoreEvents.{feeds, closes, writes, commits, compacts, tells_totals, DeploysNext, builds, switches, abandons}
 use Rattle.ps_core.specs.ReaderEvents.{Opens, Turns, TakesLine, TellsRows, altered_in, becomes, cut, numbers_for, uploads, writes_locally}
 
 -- ---- refusals
@@ -55,6 +56,11 @@ untabled (byte ∷ table) reader = unknown reader
 abbrev pub uncounted : ℕ → Option ScriptFault
 uncounted count = if nat_le 1 count && nat_le count 1000000 then None else Some BadEvent
 
+-- there must be next rules
+abbrev pub ruleless : Option RuleSet → Option ScriptFault
+ruleless None = Some WrongPhase
+ruleless (Some rules) = None
+
 -- why an event may not come
 abbrev pub refusal : Play → ScriptEvent → Option ScriptFault
 refusal play (Feed count) = uncounted count
@@ -73,6 +79,10 @@ refusal play (Upload name) = unknown (play.readers name)
 refusal play (Number name) = unknown_or_nameless (play.readers name)
 refusal play (Rows name) = unknown (play.readers name)
 refusal play Totals = None
+refusal play Deploy = ruleless play.next
+refusal play (Build limit) = uncounted limit
+refusal play Switch = None
+refusal play Abandon = None
 
 -- ---- what an event does that may come
 
@@ -114,6 +124,10 @@ Gives fixed play (Upload name) outcome = OfReader name play (λ reader. outcome 
 Gives fixed play (Number name) outcome = OfReader name play (λ reader. NumbersAs fixed reader.asker.client name play reader outcome)
 Gives fixed play (Rows name) outcome = OfReader name play (λ reader. TellsRows play reader outcome)
 Gives fixed play Totals outcome = outcome ≡ tells_totals fixed play
+Gives fixed play Deploy outcome = DeploysNext fixed play.next play outcome
+Gives fixed play (Build limit) outcome = outcome ≡ builds fixed limit play
+Gives fixed play Switch outcome = outcome ≡ switches fixed play
+Gives fixed play Abandon outcome = outcome ≡ abandons fixed play
 
 -- an event comes
 pub record Comes (fixed : Fixed) (play : Play) (event : ScriptEvent) (outcome : Outcome) : Type 0 where

@@ -5,6 +5,7 @@ use Rattle.ps_client.specs.declared.streams.Stream.TheVariants.{Over}
 use Rattle.ps_client.specs.Clients.{PlainClient}
 use Rattle.ps_client_log.specs.Kept.{nothing_kept}
 use Rattle.ps_queries.specs.declared.askers.Asker.{Asker}
+use Rattle.ps_definitions.specs.RuleSets.{RuleSet}
 use Rattle.ps_store.specs.declared.events.Event.{Event}
 use Rattle.ps_store.specs.declared.fixed.Fixed.{Fixed}
 use Rattle.ps_store.specs.Courses.{Course, course_of}
@@ -25,6 +26,8 @@ pub record Play : Type 0 where
   pub history : List Event
   -- the transactions that are not fed yet
   pub left : List Transaction
+  -- the rules that a deploy takes, if there are any
+  pub next : Option RuleSet
   -- the clients, each by its name
   pub readers : List ℕ → Option Reader
 
@@ -34,8 +37,8 @@ pub record Outcome : Type 0 where
   pub play : Play
 
 -- before the first event
-abbrev pub first_play : List Transaction → Play
-first_play transactions = record { history = []; left = transactions; readers = λ name. None }
+abbrev pub first_play : List Transaction → Option RuleSet → Play
+first_play transactions next = record { history = []; left = transactions; next = next; readers = λ name. None }
 
 -- a client that begins holds nothing, and has no stream
 abbrev pub first_reader : Asker → Reader

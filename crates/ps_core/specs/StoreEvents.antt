@@ -1,20 +1,24 @@
 -- What the events of a script that are the store's do.
-use Rattle.std.specs.Prelude.{ℕ, ◌+◌, if◌then◌else◌, List, [], ◌∷◌, ◌++◌, length, take, drop, Option, Some, None, nat_le, nat_lt, max}
+use Rattle.std.specs.Prelude.{◌≡◌, ℕ, ◌+◌, ◌-◌, if◌then◌else◌, List, [], ◌∷◌, ◌++◌, length, take, drop, Option, Some, None, nat_le, nat_lt, max}
 use Rattle.ps_bucket_log.specs.declared.ops.Op.{Op}
 use Rattle.ps_rows.specs.declared.changes.Transaction.{Transaction}
 use Rattle.ps_compact.specs.Compaction.{report_of}
 use Rattle.ps_definitions.specs.RuleSets.{RuleSet}
+use Rattle.ps_store.specs.declared.deploying.Built.{Built as Batch}
 use Rattle.ps_store.specs.declared.events.Event.{Event}
 use Rattle.ps_store.specs.declared.events.Event.TheVariants as events
 use Rattle.ps_store.specs.declared.fixed.Fixed.{Fixed}
 use Rattle.ps_store.specs.declared.fixed.Limits.{Limits}
+use Rattle.ps_store.specs.Deploys.{run_of}
+use Rattle.ps_store.specs.Generations.{Coming, queue_in}
 use Rattle.ps_store.specs.Ledgers.{Ledger, ledger_of, ledger_after, head_of, unwritten, entries_after, force_ops}
-use Rattle.ps_store.specs.Originals.{Timed}
+use Rattle.ps_store.specs.Originals.{Timed, entries_at, key_of}
+use Rattle.ps_store.specs.Readings.{building_of}
 use Rattle.ps_store.specs.Runs.{Run}
 use Rattle.ps_store.specs.Stores.{next_run}
 use Rattle.ps_store.specs.Totals.{totals_of}
 use Rattle.ps_core.specs.declared.effects.Effect.{Effect}
-use Rattle.ps_core.specs.declared.effects.Effect.TheVariants.{Fed, FedNotRising, FedClosed, Closed, Wrote, NothingToWrite, TooWide, OpsFull, Committed, NothingToCommit, Compacted, NoBucket, Totals}
+use Rattle.ps_core.specs.declared.effects.Effect.TheVariants.{Fed, FedNotRising, FedClosed, Closed, Wrote, NothingToWrite, TooWide, OpsFull, Committed, NothingToCommit, Compacted, NoBucket, Totals, Generation, Building, GenerationsFull, Built, NothingBuilding, NothingToBuild, NotBuilt, HalfWritten, Abandoned}
 use Rattle.ps_core.specs.Plays.{Play, Outcome, ledger, happens, says}
 
 -- ---- feeding
@@ -91,3 +95,74 @@ compacts fixed bucket play = compacts_over (force_ops (ledger fixed play) bucket
 
 abbrev pub tells_totals : Fixed → Play → Outcome
 tells_totals fixed play = says (Totals (totals_of (ledger fixed play))) play
+
+-- ---- new rules
+
+-- a generation of the rules begins, where none is being built, and where there is a number past the last that was ever begun
+abbrev pub deploys_over : Option ℕ → Limits → Ledger → RuleSet → Play → Outcome
+deploys_over (Some generation) limits l rules play = says (Building generation) play
+deploys_over None limits l rules play =
+    if nat_lt l.begun limits.generations then (record { effect = Generation (l.begun + 1); play = happens (events.Deploy rules) play })
+    else says (GenerationsFull l.begun) play
+
+abbrev pub deploys : Fixed → RuleSet → Play → Outcome
+deploys fixed rules play = deploys_over (building_of (ledger fixed play)) fixed.limits (ledger fixed play) rules play
+
+-- the rules are the next ones
+abbrev pub DeploysNext : Fixed → Option RuleSet → Play → Outcome → Type 0
+DeploysNext fixed None play outcome = ⊥
+DeploysNext fixed (Some rules) play outcome = outcome ≡ deploys fixed rules play
+
+-- why the first of a queue's changes cannot be taken: its row would have too many entries by the new rules; else, there are too few ids
+abbrev pub unbuilt_effect : Limits → Ledger → Coming → List Timed → Effect
+unbuilt_effect limits l coming [] = NothingToBuild
+unbuilt_effect limits l coming (t ∷ ts) =
+    if nat_lt limits.entries (length (entries_at coming.lane.rules.definitions (key_of t) t.change.row)) then TooWide (limits.entries + 1) else OpsFull (record { 0 = l.last })
+
+-- what is told of so many changes of the queue
+abbrev pub batch_after : Ledger → ℕ → Batch
+batch_after l n = record {
+  changes = n;
+  ops = (ledger_after l (events.Build n)).last - l.last;
+  last_op = record { 0 = (ledger_after l (events.Build n)).last };
+  left = length (queue_in (ledger_after l (events.Build n)).building);
+}
+
+-- the longest run of the queue's next changes that can be taken is taken, if it has any
+abbrev pub built_run : Run → Limits → Ledger → Coming → Play → Outcome
+built_run run limits l coming play =
+    if nat_le 1 run.count
+    then (record { effect = Built (batch_after l run.count); play = happens (events.Build run.count) play })
+    else says (unbuilt_effect limits l coming coming.queue) play
+
+abbrev pub builds_over : Option Coming → Limits → Ledger → ℕ → Play → Outcome
+builds_over None limits l limit play = says NothingBuilding play
+builds_over (Some coming) limits l limit play = built_run (run_of limits l coming limit) limits l coming play
+
+abbrev pub builds : Fixed → ℕ → Play → Outcome
+builds fixed limit play = builds_over (ledger fixed play).building fixed.limits (ledger fixed play) limit play
+
+-- the generation that is being built comes into force at the next id, where its queue is empty, no transaction is written in part, and
+-- an id is left
+abbrev pub switches_over : Option ℕ → Limits → Ledger → Play → Outcome
+switches_over None limits l play = says NothingBuilding play
+switches_over (Some generation) limits l play =
+    if nat_lt 0 (length (queue_in l.building)) then says (NotBuilt (length (queue_in l.building))) play
+    else if nat_lt 0 l.reach.over then says (HalfWritten l.reach.over) play
+    else if nat_lt l.last limits.ops
+    then (record {
+      effect = Committed (record { position = record { 0 = l.reach.position }; op = record { 0 = l.last + 1 } });
+      play = happens events.Switch play;
+    })
+    else says (OpsFull (record { 0 = l.last })) play
+
+abbrev pub switches : Fixed → Play → Outcome
+switches fixed play = switches_over (building_of (ledger fixed play)) fixed.limits (ledger fixed play) play
+
+-- it is dropped
+abbrev pub abandons_over : Option ℕ → Play → Outcome
+abandons_over None play = says NothingBuilding play
+abandons_over (Some generation) play = record { effect = Abandoned generation; play = happens events.Abandon play }
+
+abbrev pub abandons : Fixed → Play → Outcome
+abandons fixed play = abandons_over (building_of (ledger fixed play)) play

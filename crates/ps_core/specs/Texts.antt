@@ -7,7 +7,7 @@ use Rattle.ps_client.specs.declared.events.Why.TheVariants.{Queue, Pending, Targ
 use Rattle.ps_lines.specs.Writing.{IsWritable, text_of}
 use Rattle.ps_data.specs.Documents.{quoted_of}
 use Rattle.ps_core.specs.declared.effects.Effect.{Effect}
-use Rattle.ps_core.specs.declared.effects.Effect.TheVariants.{Fed, FedNotRising, FedClosed, Closed, Wrote, NothingToWrite, TooWide, OpsFull, Committed, NothingToCommit, Compacted, NoBucket, Client, Opened, Line, Waiting, Passed, TooMany, Nothing, Applied, Held, Refused, OutOfOrder, BadLine, NoLine, Cut, Altered, Local, Uploaded, QueueEmpty, PositionsFull, Number, NumberFull, Rows, Totals}
+use Rattle.ps_core.specs.declared.effects.Effect.TheVariants.{Fed, FedNotRising, FedClosed, Closed, Wrote, NothingToWrite, TooWide, OpsFull, Committed, NothingToCommit, Compacted, NoBucket, Client, Opened, Line, Waiting, Passed, TooMany, Nothing, Applied, Held, Refused, OutOfOrder, BadLine, NoLine, Cut, Altered, Local, Uploaded, QueueEmpty, PositionsFull, Number, NumberFull, Rows, Totals, Generation, Building, GenerationsFull, Built, NothingBuilding, NothingToBuild, NotBuilt, HalfWritten, Abandoned}
 
 -- ---- printed rows
 
@@ -79,6 +79,15 @@ effect_text (Rows rows) = line_of (codes "rows") (decimal (length rows) ∷ []) 
 effect_text (Totals totals) =
     line_of (codes "transactions") (decimal totals.transactions ∷ codes "changes" ∷ decimal totals.changes ∷ codes "operations" ∷ decimal totals.operations ∷ codes "buckets" ∷ decimal totals.buckets
     ∷ codes "sum" ∷ decimal totals.sum.0 ∷ [])
+effect_text (Generation generation) = line_of (codes "generation") (decimal generation ∷ [])
+effect_text (Building generation) = line_of (codes "building") (decimal generation ∷ [])
+effect_text (GenerationsFull last) = line_of (codes "generations full") (decimal last ∷ [])
+effect_text (Built built) = line_of (codes "built") (decimal built.changes ∷ codes "last" ∷ decimal built.last_op.0 ∷ codes "left" ∷ decimal built.left ∷ [])
+effect_text NothingBuilding = line_of (codes "nothing building") []
+effect_text NothingToBuild = line_of (codes "nothing to build") []
+effect_text (NotBuilt left) = line_of (codes "not built") (decimal left ∷ [])
+effect_text (HalfWritten changes) = line_of (codes "half written") (decimal changes ∷ [])
+effect_text (Abandoned generation) = line_of (codes "abandoned") (decimal generation ∷ [])
 
 -- an effect has a text where its line, if it has one, may be written
 abbrev pub IsPrintable : Effect → Type 0

@@ -66,12 +66,13 @@ OneStandsFor fixed history (Some own) (Some reader) = ReaderStandsFor fixed hist
 
 -- ---- a world
 
--- its store stands for the history; the transactions that are left are those of the play, and so are the clients
+-- its store stands for the history; the transactions that are left and the next rules are those of the play, and so are the clients
 pub record WorldStandsFor (fixed : Fixed) (world : World) (play : Play) : Type 0 where
   pub whole : world.failed ≡ false
   pub stands : StoreStandsFor fixed world.store play.history
   pub left : world.left.items ≡ play.left
   pub low : AreLow play.left
+  pub next : world.next ≡ play.next
   pub readers : (name : List ℕ) → OneStandsFor fixed play.history (get (slice_cmp nat_cmp) world.readers name) (play.readers name)
 
 -- a world stands for a play, or has failed, out of memory

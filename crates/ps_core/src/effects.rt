@@ -3,7 +3,7 @@ use ps_client::{Differing, Why};
 use ps_compact::Report;
 use ps_data::{Items, OpId, Position, Text};
 use ps_rows::Shown;
-use ps_store::{Checkpoint, Totals};
+use ps_store::{Built, Checkpoint, Totals};
 
 /// What an event of a script did.
 #[derive(Drop)]
@@ -157,5 +157,44 @@ pub enum Effect {
     Totals {
         /// In numbers.
         totals: Totals,
+    },
+    /// A generation of the next rules began.
+    Generation {
+        /// Its number.
+        generation: u32,
+    },
+    /// None began, since one is being built.
+    Building {
+        /// The number of that one.
+        generation: u32,
+    },
+    /// None began, since there is no number past the last one.
+    GenerationsFull {
+        /// The last number that was ever begun.
+        last: u32,
+    },
+    /// The generation that is being built took changes of its queue.
+    Built {
+        /// How many, and what is left.
+        built: Built,
+    },
+    /// No generation is being built.
+    NothingBuilding,
+    /// The generation that is being built has taken all that it has to take.
+    NothingToBuild,
+    /// The generation that is being built did not come into force, since its queue is not empty.
+    NotBuilt {
+        /// How many changes are left in it.
+        left: u64,
+    },
+    /// The generation that is being built did not come into force, since a transaction is written in part.
+    HalfWritten {
+        /// How many of its changes are written.
+        changes: u64,
+    },
+    /// The generation that was being built was dropped.
+    Abandoned {
+        /// Its number.
+        generation: u32,
     },
 }

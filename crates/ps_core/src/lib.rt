@@ -2,6 +2,7 @@
 #![tactic(auto)]
 
 mod altering;
+mod deploying;
 mod effects;
 mod feeding;
 mod play_laws;

@@ -16,8 +16,8 @@ pub fn plays_begin_led()
 
 /// A law: each event of a script leaves every client none of whose streams was altered led by the lines of its session, or honest
 /// where it has no stream, whatever the store is made to do from then on. So every such client is honest, and no line that one takes
-/// is refused. Where such a client applies a checkpoint it shows exactly the rows that are due to it at the place where that checkpoint
-/// was taken, its own uploads that the checkpoint covers among them. A session that gave a checkpoint up takes a greater op next,
+/// is refused. Where such a client applies a checkpoint it shows exactly the rows that the rules in force at the place where that
+/// checkpoint was taken grant it there, its own uploads that the checkpoint covers among them. A session that gave a checkpoint up takes a greater op next,
 /// whatever became of its lines.
 pub fn plays_stay_led()
     ensures { PlaysStayLed }
@@ -29,14 +29,15 @@ pub fn plays_stay_led()
     plays_are_runs();
 }
 
-/// A law: each event of a script keeps the history legal, under limits that are not above the usual ones, and leaves no
-/// transaction whose position is above the greatest.
+/// A law: each event of a script keeps the history legal, under limits that are not above the usual ones and where the next rules are
+/// valid, and leaves no transaction whose position is above the greatest.
 pub fn plays_stay_legal()
     ensures { PlaysStayLegal }
 {}
 
-/// A law: over valid rules and any transactions, what is said of each event of every script is right. Every client none of whose
-/// streams was altered is honest, refuses no line, and shows exactly the rows that are due to it where it applies a checkpoint.
+/// A law: over valid rules, the next ones among them, and any transactions, what is said of each event of every script is right. Every
+/// client none of whose streams was altered is honest, refuses no line, and shows exactly the rows that the rules in force grant it where
+/// it applies a checkpoint.
 pub fn scripts_are_right()
     ensures { ScriptsAreRight }
 {

@@ -8,7 +8,7 @@ use ps_compact::Report;
 use ps_data::{Memory, Position, Text};
 use ps_lines::write_line;
 use ps_rows::Shown;
-use ps_store::{Checkpoint, Totals};
+use ps_store::{Built, Checkpoint, Totals};
 use std::alloc::Global;
 
 // A line of nothing but fixed words.
@@ -118,6 +118,13 @@ fn counted(alloc: Global, totals: Totals) -> Result<Vec<u8>, Memory>
     )?.into_bytes())
 }
 
+fn built(alloc: Global, batch: Built) -> Result<Vec<u8>, Memory>
+    ensures { IfOk result (λ text. text.items ≡ text_of_effect (Effect.Built batch)) }
+{
+    let (changes, last_op, left) = (batch.changes, batch.last_op.0, batch.left);
+    Ok(format!(in alloc; "built {changes} last {last_op} left {left}\n")?.into_bytes())
+}
+
 /// What is printed of an effect, with a line feed at the end of each line: docs/FORMATS.md, "Effects of scripts".
 pub fn effect_text(alloc: Global, effect: &Effect) -> Result<Vec<u8>, Memory>
     ensures { IfOk result (λ text. text.items ≡ text_of_effect effect.now) }
@@ -164,5 +171,16 @@ pub fn effect_text(alloc: Global, effect: &Effect) -> Result<Vec<u8>, Memory>
         Effect::NumberFull { last } => numbered(alloc, "number full", *last),
         Effect::Rows { rows } => shown(alloc, rows.as_slice()),
         Effect::Totals { totals } => counted(alloc, *totals),
+        Effect::Generation { generation } => {
+            numbered(alloc, "generation", u64::from(*generation))
+        }
+        Effect::Building { generation } => numbered(alloc, "building", u64::from(*generation)),
+        Effect::GenerationsFull { last } => numbered(alloc, "generations full", u64::from(*last)),
+        Effect::Built { built: batch } => built(alloc, *batch),
+        Effect::NothingBuilding => fixed(alloc, "nothing building"),
+        Effect::NothingToBuild => fixed(alloc, "nothing to build"),
+        Effect::NotBuilt { left } => numbered(alloc, "not built", *left),
+        Effect::HalfWritten { changes } => numbered(alloc, "half written", *changes),
+        Effect::Abandoned { generation } => numbered(alloc, "abandoned", u64::from(*generation)),
     }
 }

@@ -10,6 +10,7 @@ ghost use Rattle.ps_core.specs.WorldSteps.{Goes, Steps, Went};
 ghost use Rattle.ps_core.specs.Scripts.{AreLow};
 ghost use Rattle.ps_core.specs.Worlds.{IsWorld, WorldStandsFor};
 
+use crate::deploying::{abandon, build, deploy, switch};
 use crate::effects::Effect;
 use crate::feeding::feed;
 use crate::play_laws::plays_stay_led;
@@ -29,10 +30,12 @@ use std::collections::{BTreeMap, VecDeque};
 // The most transactions or changes that one event may ask for.
 const MOST: u32 = 1000000;
 
-/// The world of a script: the store, the transactions that are not fed yet, and the clients by their names.
+/// The world of a script: the store, the transactions that are not fed yet, the rules that a deploy takes, and the clients by their
+/// names.
 pub struct World {
     store: Store,
     left: VecDeque<Transaction>,
+    next: Option<Rules>,
     readers: BTreeMap<Text, Reader>,
     failed: bool,
 }
@@ -43,6 +46,7 @@ impl Drop for World {
         let World {
             store: _store,
             left: _left,
+            next: _next,
             readers: _readers,
             failed: _failed,
         } = self;
@@ -67,15 +71,22 @@ fn add(
 }
 
 impl World {
-    /// A world before its first event: nothing is fed, and there is no client. No position may be above 9,223,372,036,854,775,807.
-    pub fn new(alloc: Global, rules: Rules, transactions: Vec<Transaction>) -> Result<World, Memory>
+    /// A world before its first event: nothing is fed, there is no client, and the first rules are in force. Where there are next rules, a
+    /// deploy takes them. No position may be above 9,223,372,036,854,775,807.
+    pub fn new(
+        alloc: Global,
+        rules: Rules,
+        transactions: Vec<Transaction>,
+        next: Option<Rules>,
+    ) -> Result<World, Memory>
         requires { AreLow transactions.items }
-        ensures { IfOk result (λ world. WorldStandsFor (record { rules = rules; limits = usual_limits }) world (first_play transactions.items)) }
+        ensures { IfOk result (λ world. WorldStandsFor (record { rules = rules; limits = usual_limits }) world (first_play transactions.items next)) }
     {
         let store = Store::new(alloc, rules, Limits::usual())?;
         Ok(World {
             store,
             left: VecDeque::from(transactions),
+            next,
             readers: BTreeMap::new(alloc),
             failed: false,
         })
@@ -175,6 +186,54 @@ impl World {
         totals(&self.store)
     }
 
+    // Begins a generation of the next rules.
+    fn deploy(&mut self, alloc: Global) -> Result<Effect, ScriptFault>
+        requires { (fixed : FixedSeen) × (play : Play) × WorldStandsFor fixed self.old play }
+        ensures { (fixed : FixedSeen) (play : Play) → WorldStandsFor fixed self.old play → Goes fixed play events.Deploy self.new result }
+    {
+        places_are_fronts();
+        match &self.next {
+            None => Err(ScriptFault::WrongPhase),
+            Some(next) => match deploy(alloc, &mut self.store, next) {
+                Ok(effect) => Ok(effect),
+                Err(Memory) => Err(ScriptFault::Memory),
+            },
+        }
+    }
+
+    // Builds on the generation that is being built.
+    fn build(&mut self, alloc: Global, limit: u32) -> Result<Effect, ScriptFault>
+        requires { (fixed : FixedSeen) × (play : Play) × WorldStandsFor fixed self.old play }
+        ensures { (fixed : FixedSeen) (play : Play) → WorldStandsFor fixed self.old play → Goes fixed play (events.Build limit) self.new result }
+    {
+        places_are_fronts();
+        if limit < 1 || limit > MOST {
+            return Err(ScriptFault::BadEvent);
+        }
+        match build(alloc, &mut self.store, limit) {
+            Ok(effect) => Ok(effect),
+            Err(Memory) => Err(ScriptFault::Memory),
+        }
+    }
+
+    // Brings it into force.
+    fn switch(&mut self) -> Effect
+        requires { (fixed : FixedSeen) × (play : Play) × WorldStandsFor fixed self.old play }
+        ensures { (fixed : FixedSeen) (play : Play) → WorldStandsFor fixed self.old play → Went fixed play events.Switch self.new result }
+    {
+        places_are_fronts();
+        switch(&mut self.store)
+    }
+
+    // Drops it.
+    fn abandon(&mut self) -> Effect
+        requires { (fixed : FixedSeen) × (play : Play) × WorldStandsFor fixed self.old play }
+        ensures { (fixed : FixedSeen) (play : Play) → WorldStandsFor fixed self.old play → Went fixed play events.Abandon self.new result }
+    {
+        places_are_fronts();
+        abandon(&mut self.store)
+    }
+
     // Asks the client of a name for something.
     fn ask(&mut self, alloc: Global, name: &Text, asked: Visit<'_>) -> Result<Effect, ScriptFault>
         requires table { HasTable asked }
@@ -210,12 +269,16 @@ impl World {
             ScriptEvent::Number { name } => self.ask(alloc, name, Visit::Number),
             ScriptEvent::Rows { name } => self.ask(alloc, name, Visit::Rows),
             ScriptEvent::Totals => Ok(self.totals()),
+            ScriptEvent::Deploy => self.deploy(alloc),
+            ScriptEvent::Build { limit } => self.build(alloc, *limit),
+            ScriptEvent::Switch => Ok(self.switch()),
+            ScriptEvent::Abandon => Ok(self.abandon()),
         }
     }
 
     /// Does an event, and gives its effect: docs/FORMATS.md, "Scripts". Fails with `BadEvent` for a count out of its range and for a
     /// local write without a table, with `UnknownClient` where no client has the name, with `WrongPhase` where the event may not come
-    /// now, all with nothing changed and whatever memory there is; and when out of memory, where the event may come: the world has failed
+    /// now, a deploy without next rules among them, all with nothing changed and whatever memory there is; and when out of memory, where the event may come: the world has failed
     /// then, and each later event fails so.
     pub fn step(&mut self, alloc: Global, event: &ScriptEvent) -> Result<Effect, ScriptFault>
         requires { IsWorld self.old }

@@ -45,7 +45,7 @@ use Rattle.ps_due_rows.specs.Filling.{IsLineFault, refused_at, IsServed, Feeds, 
 -- a fault of lines is that of what they are a part of
 pub along : {X Y : Type 0} (part : Result X Fault) (whole : Result Y Fault) → ((fault : Fault) → part ≡ Err fault → whole ≡ Err fault) → (fault : Fault) → IsLineFault part fault → IsLineFault whole fault
 along part whole same Usage h = h
-along part whole same (Rules line column why) h = h
+along part whole same (Rules which line column why) h = h
 along part whole same (Change line why) h = same (Change line why) h
 along part whole same (PastLimit limit) h = same (PastLimit limit) h
 along part whole same (TooManyBuckets count) h = h
@@ -248,7 +248,7 @@ file_fed rules bytes lines result is h =
 pub written_feeds : (rules : RuleSet) (meant : Result (List Transaction) Fault) (result : Result Store Fault) → Writes rules meant result → Feeds rules meant result
 written_feeds rules meant (Ok store) h = (h.0, h.1, record { history = h.2.history; stands = h.2.stands; one = h.2.one; fed = h.2.fed; position = h.2.position })
 written_feeds rules meant (Err Usage) h = h
-written_feeds rules meant (Err (Rules line column why)) h = h
+written_feeds rules meant (Err (Rules which line column why)) h = h
 written_feeds rules meant (Err (Change line why)) h = h
 written_feeds rules meant (Err (PastLimit limit)) h = h
 written_feeds rules meant (Err (TooManyBuckets count)) h = h

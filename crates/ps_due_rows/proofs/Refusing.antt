@@ -14,7 +14,7 @@ use Rattle.ps_due_rows.specs.Loading.{Prepares}
 -- a file of which a line is refused has no rows
 pub not_fed : (feeding : Feeding) (rules : RuleSet) (asker : Asker) (bytes : List ℕ) (fault : Fault) → IsLineFault (fed_by feeding rules bytes) fault → Prepares feeding rules asker bytes (Err fault)
 not_fed feeding rules asker bytes Usage h = h
-not_fed feeding rules asker bytes (Rules line column why) h = h
+not_fed feeding rules asker bytes (Rules which line column why) h = h
 not_fed feeding rules asker bytes (Change line why) h = h
 not_fed feeding rules asker bytes (PastLimit limit) h = h
 not_fed feeding rules asker bytes (TooManyBuckets count) h = absurd h
@@ -30,7 +30,7 @@ not_fed feeding rules asker bytes Memory h = tt
 pub rows_refused : (feeding : Feeding) (rules : RuleSet) (asker : Asker) (bytes : List ℕ) (transactions : List Transaction) → fed_by feeding rules bytes ≡ Ok transactions
     → (fault : Fault) → Answers rules asker transactions (Err fault) → Prepares feeding rules asker bytes (Err fault)
 rows_refused feeding rules asker bytes transactions read Usage h = absurd h
-rows_refused feeding rules asker bytes transactions read (Rules line column why) h = absurd h
+rows_refused feeding rules asker bytes transactions read (Rules which line column why) h = absurd h
 rows_refused feeding rules asker bytes transactions read (Change line why) h = absurd h
 rows_refused feeding rules asker bytes transactions read (PastLimit limit) h = absurd h
 rows_refused feeding rules asker bytes transactions read (TooManyBuckets count) h = record { transactions = transactions; read = read; count_is = h.0; more = h.1 }

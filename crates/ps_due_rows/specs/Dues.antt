@@ -32,7 +32,7 @@ abbrev pub Answers : RuleSet → Asker → List Transaction → Result (List Sho
 Answers rules asker transactions (Ok rows) =
     (length (own_buckets rules asker transactions) ≤ usual_limits.buckets) × (rows ≡ due rules asker transactions (last_position 0 transactions))
 Answers rules asker transactions (Err Usage) = ⊥
-Answers rules asker transactions (Err (Rules line column why)) = ⊥
+Answers rules asker transactions (Err (Rules which line column why)) = ⊥
 Answers rules asker transactions (Err (Change line why)) = ⊥
 Answers rules asker transactions (Err (PastLimit limit)) = ⊥
 Answers rules asker transactions (Err (TooManyBuckets count)) = (count ≡ length (own_buckets rules asker transactions)) × (usual_limits.buckets < count)

@@ -29,7 +29,7 @@ use Rattle.ps_due_rows.specs.FirstCopies.{taken_at, copied_from}
 -- a fault of lines is that of what they mean; where it is out of memory nothing is said
 abbrev pub IsLineFault : {X : Type 0} → Result X Fault → Fault → Type 0
 IsLineFault meant Usage = ⊥
-IsLineFault meant (Rules line column why) = ⊥
+IsLineFault meant (Rules which line column why) = ⊥
 IsLineFault meant (Change line why) = meant ≡ Err (Change line why)
 IsLineFault meant (PastLimit limit) = meant ≡ Err (PastLimit limit)
 IsLineFault meant (TooManyBuckets count) = ⊥

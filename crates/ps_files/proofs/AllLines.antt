@@ -54,7 +54,7 @@ module _ (changes : List ℕ) (number : ℕ) (bytes : Bor (List ℕ)) (line : Li
   -- a line that is refused refuses the file
   pub refuses_all : (fault : Fault) → is_blank line ≡ false → ReadsRising (Err fault) (numbered (number + 1) (line_of line)) → ReadsAll changes (Err fault)
   refuses_all Usage full is = is
-  refuses_all (Rules place column why) full is = is
+  refuses_all (Rules which place column why) full is = is
   refuses_all (Change place why) full is = full_line (Err (Change place why)) full is
   refuses_all (PastLimit limit) full is = full_line (Err (PastLimit limit)) full is
   refuses_all (TooManyBuckets count) full is = is

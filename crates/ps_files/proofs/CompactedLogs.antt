@@ -170,7 +170,7 @@ module _ (fixed : Fixed) (history : List Event) where
 module _ (rules : RuleSet) (bytes : List ℕ) where
   pub reports_stop : (fault : Fault) → Writes rules (transactions_of rules bytes) (Err fault) → Reports rules bytes (Err fault)
   reports_stop Usage h = h
-  reports_stop (Rules line column why) h = h
+  reports_stop (Rules which line column why) h = h
   reports_stop (Change line why) h = h
   reports_stop (PastLimit limit) h = h
   reports_stop (TooManyBuckets count) h = h

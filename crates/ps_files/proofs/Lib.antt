@@ -12,3 +12,4 @@ pub mod RisingLines
 pub mod RulesReading
 pub mod Telling
 pub mod Writing
+pub mod NextRules

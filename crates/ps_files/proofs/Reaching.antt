@@ -247,7 +247,7 @@ none_passes law one rules ts passed store h = none_passes_left law one rules ts 
 -- a fault of a batch is that of all
 pub pending_refused : (rules : RuleSet) (ts : List Transaction) (left : ℕ) (passed : Option Limit) (store : Store) (fault : Fault) → WritesSome rules ts left passed store (Err fault) → WritesAll rules ts passed store (Err fault)
 pending_refused rules ts left passed store Usage w = w
-pending_refused rules ts left passed store (Rules place column why) w = w
+pending_refused rules ts left passed store (Rules which place column why) w = w
 pending_refused rules ts left passed store (Change place why) w = w
 pending_refused rules ts left passed store (PastLimit limit) w = w
 pending_refused rules ts left passed store (TooManyBuckets count) w = w
@@ -271,7 +271,7 @@ module _ (rules : RuleSet) (done : List Transaction) (number : ℕ) (line : List
   -- a line that is not read is refused
   pub not_read : (last : ℕ) (fault : Fault) (new : Store) → last ≡ last_position 0 done → ReadsRising (Err fault) (rising number last (line_of line)) → TakesLine rules done meant new (Err fault)
   not_read last Usage new at is = is
-  not_read last (Rules place column why) new at is = is
+  not_read last (Rules which place column why) new at is = is
   not_read last (Change place why) new at is = meant_from last (Err (Change place why)) at is
   not_read last (PastLimit limit) new at is = meant_from last (Err (PastLimit limit)) at is
   not_read last (TooManyBuckets count) new at is = is
@@ -300,7 +300,7 @@ module _ (rules : RuleSet) (done : List Transaction) (t : Transaction) where
   -- a transaction that is not written is refused
   pub not_written : (ts : List Transaction) (fault : Fault) (mid new : Store) → WritesAll rules ts first mid (Err fault) → TakesLine rules done (within_limits rules.definitions done t) new (Err fault)
   not_written ts Usage mid new w = w
-  not_written ts (Rules place column why) mid new w = absurd w
+  not_written ts (Rules which place column why) mid new w = absurd w
   not_written ts (Change place why) mid new w = absurd w
   not_written ts (PastLimit limit) mid new w = ap (unless_passed t) w
   not_written ts (TooManyBuckets count) mid new w = w
@@ -374,7 +374,7 @@ module _ (rules : RuleSet) (changes : List ℕ) (number : ℕ) (bytes : Bor (Lis
   pub refuses : (fault : Fault) (new : Store) → is_blank line ≡ false → TakesLine rules so_far.done (accepted rules.definitions so_far.done (number + 1) line) new (Err fault)
       → Writes rules (transactions_of rules changes) (Err fault)
   refuses Usage new full is = is
-  refuses (Rules place column why) new full is = is
+  refuses (Rules which place column why) new full is = is
   refuses (Change place why) new full is = full_line (Err (Change place why)) full is
   refuses (PastLimit limit) new full is = full_line (Err (PastLimit limit)) full is
   refuses (TooManyBuckets count) new full is = is

@@ -46,7 +46,7 @@ module _ (changes : List ℕ) (number : ℕ) (bytes : Bor (List ℕ)) (line : Li
   -- a line that is refused refuses the file
   pub refuses_rising : (fault : Fault) → is_blank line ≡ false → ReadsRising (Err fault) (rising (number + 1) last (line_of line)) → ReadsAllRising changes (Err fault)
   refuses_rising Usage full is = is
-  refuses_rising (Rules place column why) full is = is
+  refuses_rising (Rules which place column why) full is = is
   refuses_rising (Change place why) full is = full_line (Err (Change place why)) full is
   refuses_rising (PastLimit limit) full is = full_line (Err (PastLimit limit)) full is
   refuses_rising (TooManyBuckets count) full is = is

@@ -61,7 +61,7 @@ module _ (rules : RuleSet) (made left : List Transaction) (t : Transaction) (res
 
   pub writing_stops : (new : Store) (fault : Fault) → TakesLine rules w.done (within_limits rules.definitions w.done t) new (Err fault) → Writes rules (admitted rules.definitions [] made) (Err fault)
   writing_stops new Usage h = h
-  writing_stops new (Rules line column why) h = h
+  writing_stops new (Rules which line column why) h = h
   writing_stops new (Change line why) h = left_by (Err (Change line why)) h
   writing_stops new (PastLimit limit) h = left_by (Err (PastLimit limit)) h
   writing_stops new (TooManyBuckets count) h = h

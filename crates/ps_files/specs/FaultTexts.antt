@@ -8,13 +8,15 @@ use Rattle.ps_files.specs.declared.faults.Limit.{Limit}
 use Rattle.ps_files.specs.declared.faults.Limit.TheVariants.{LineBytes, Entries, Operations}
 use Rattle.ps_files.specs.declared.faults.LineFault.{LineFault}
 use Rattle.ps_files.specs.declared.faults.LineFault.TheVariants.{BadJson, BadShape, BadPosition, BadValue, NotRising, BadChunk, NotCovered, NoEnd}
+use Rattle.ps_files.specs.declared.faults.RulesFile.{RulesFile}
+use Rattle.ps_files.specs.declared.faults.RulesFile.TheVariants.{First, Next}
 use Rattle.ps_files.specs.declared.faults.ScriptCause.{ScriptCause}
 use Rattle.ps_files.specs.declared.faults.ScriptCause.TheVariants.{BadEvent, UnknownClient, WrongPhase}
 use Rattle.ps_files.specs.RulesFaults.{cause_text}
 
 abbrev pub status_of : Fault → ℕ
 status_of Usage = 1
-status_of (Rules line column why) = 2
+status_of (Rules which line column why) = 2
 status_of (Change line why) = 3
 status_of (PastLimit limit) = 5
 status_of (TooManyBuckets count) = 5
@@ -46,9 +48,14 @@ script_cause_text BadEvent = codes "bad-event"
 script_cause_text UnknownClient = codes "unknown-client"
 script_cause_text WrongPhase = codes "wrong-phase"
 
+-- which rules file is meant
+abbrev pub rules_word : RulesFile → List ℕ
+rules_word First = codes "rules "
+rules_word Next = codes "next-rules "
+
 abbrev pub fault_text : Fault → List ℕ
 fault_text Usage = codes "usage"
-fault_text (Rules line column why) = codes "rules " ++ decimal line ++ codes ":" ++ decimal column ++ codes " " ++ cause_text why
+fault_text (Rules which line column why) = rules_word which ++ decimal line ++ codes ":" ++ decimal column ++ codes " " ++ cause_text why
 fault_text (Change line why) = codes "change " ++ decimal line ++ codes " " ++ line_fault_text why
 fault_text (PastLimit limit) = codes "limit " ++ limit_text limit
 fault_text (TooManyBuckets count) = codes "limit buckets " ++ decimal count

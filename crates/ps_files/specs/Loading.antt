@@ -17,14 +17,14 @@ use Rattle.ps_token.specs.declared.faults.SignFault.TheVariants.{UnknownKey}
 use Rattle.ps_token.specs.declared.faults.SignFault.TheVariants as sign
 use Rattle.ps_claims.specs.Claims.{asker_of_claims}
 use Rattle.ps_files.specs.HeldFiles.{HoldsWithin}
-use Rattle.ps_files.specs.RulesFaults.{rules_of_file}
+use Rattle.ps_files.specs.RulesFaults.{as_next, rules_of_file}
 
 -- loading a file within a limit: what was found in its bytes, why its bytes are refused, that it is longer, that the files failed, or that memory
 -- was wanting for a file within the limit
 abbrev pub Loads : {X : Type 0} → Option Contents → List ℕ → ℕ → ℕ → ℕ → (X → List ℕ → Type 0) → (Fault → List ℕ → Type 0) → Result X Fault → Type 0
 Loads held name limit before now Finds Refuses (Ok x) = (bytes : List ℕ) × HoldsWithin held name limit bytes × Finds x bytes
 Loads held name limit before now Finds Refuses (Err Usage) = ⊥
-Loads held name limit before now Finds Refuses (Err (Rules line column why)) = (bytes : List ℕ) × HoldsWithin held name limit bytes × Refuses (Rules line column why) bytes
+Loads held name limit before now Finds Refuses (Err (Rules which line column why)) = (bytes : List ℕ) × HoldsWithin held name limit bytes × Refuses (Rules which line column why) bytes
 Loads held name limit before now Finds Refuses (Err (Change line why)) = (bytes : List ℕ) × HoldsWithin held name limit bytes × Refuses (Change line why) bytes
 Loads held name limit before now Finds Refuses (Err (PastLimit passed)) = (bytes : List ℕ) × HoldsWithin held name limit bytes × Refuses (PastLimit passed) bytes
 Loads held name limit before now Finds Refuses (Err (TooManyBuckets count)) = (bytes : List ℕ) × HoldsWithin held name limit bytes × Refuses (TooManyBuckets count) bytes
@@ -39,7 +39,7 @@ Loads held name limit before now Finds Refuses (Err Memory) = (bytes : List ℕ)
 -- the name of a file that could not be read
 abbrev pub unread_name : Fault → Option (List ℕ)
 unread_name Usage = None
-unread_name (Rules line column why) = None
+unread_name (Rules which line column why) = None
 unread_name (Change line why) = None
 unread_name (PastLimit passed) = None
 unread_name (TooManyBuckets count) = None
@@ -73,7 +73,7 @@ abbrev pub FindsRules : RuleSet → List ℕ → Type 0
 FindsRules rules bytes = rules_of_file bytes ≡ Ok rules
 
 abbrev pub IsRulesFault : Fault → List ℕ → Type 0
-IsRulesFault (Rules line column why) bytes = rules_of_file bytes ≡ Err (Rules line column why)
+IsRulesFault (Rules which line column why) bytes = rules_of_file bytes ≡ Err (Rules which line column why)
 IsRulesFault Usage bytes = ⊥
 IsRulesFault (Change line why) bytes = ⊥
 IsRulesFault (PastLimit limit) bytes = ⊥
@@ -86,6 +86,21 @@ IsRulesFault CannotWrite bytes = ⊥
 IsRulesFault (Script place cause) bytes = ⊥
 IsRulesFault Memory bytes = ⊥
 
+-- the same of the file of the next rules
+abbrev pub IsNextFault : Fault → List ℕ → Type 0
+IsNextFault (Rules which line column why) bytes = as_next (rules_of_file bytes) ≡ Err (Rules which line column why)
+IsNextFault Usage bytes = ⊥
+IsNextFault (Change line why) bytes = ⊥
+IsNextFault (PastLimit limit) bytes = ⊥
+IsNextFault (TooManyBuckets count) bytes = ⊥
+IsNextFault Claims bytes = ⊥
+IsNextFault Keys bytes = ⊥
+IsNextFault (TooLong seen) bytes = ⊥
+IsNextFault (CannotRead name) bytes = ⊥
+IsNextFault CannotWrite bytes = ⊥
+IsNextFault (Script place cause) bytes = ⊥
+IsNextFault Memory bytes = ⊥
+
 -- the keys of a key file
 abbrev pub FindsKeys : List Key → List ℕ → Type 0
 FindsKeys keys bytes = keys_of_file bytes ≡ Ok keys
@@ -93,7 +108,7 @@ FindsKeys keys bytes = keys_of_file bytes ≡ Ok keys
 abbrev pub IsKeysFault : Fault → List ℕ → Type 0
 IsKeysFault Keys bytes = (why : KeysFault) × (keys_of_file bytes ≡ Err why)
 IsKeysFault Usage bytes = ⊥
-IsKeysFault (Rules line column why) bytes = ⊥
+IsKeysFault (Rules which line column why) bytes = ⊥
 IsKeysFault (Change line why) bytes = ⊥
 IsKeysFault (PastLimit limit) bytes = ⊥
 IsKeysFault (TooManyBuckets count) bytes = ⊥
@@ -117,7 +132,7 @@ FindsAsker asker bytes = asker_of_claims bytes ≡ Some asker
 abbrev pub IsClaimsFault : Fault → List ℕ → Type 0
 IsClaimsFault Claims bytes = asker_of_claims bytes ≡ None
 IsClaimsFault Usage bytes = ⊥
-IsClaimsFault (Rules line column why) bytes = ⊥
+IsClaimsFault (Rules which line column why) bytes = ⊥
 IsClaimsFault (Change line why) bytes = ⊥
 IsClaimsFault (PastLimit limit) bytes = ⊥
 IsClaimsFault (TooManyBuckets count) bytes = ⊥

@@ -23,7 +23,7 @@ pub record FindsTransactions (transactions : Vec Transaction Global) (bytes : Li
 
 abbrev pub IsTransactionsFault : Fault → List ℕ → Type 0
 IsTransactionsFault Usage bytes = ⊥
-IsTransactionsFault (Rules line column why) bytes = ⊥
+IsTransactionsFault (Rules which line column why) bytes = ⊥
 IsTransactionsFault (Change line why) bytes = all_transactions_of bytes ≡ Err (Change line why)
 IsTransactionsFault (PastLimit limit) bytes = all_transactions_of bytes ≡ Err (PastLimit limit)
 IsTransactionsFault (TooManyBuckets count) bytes = ⊥
@@ -39,7 +39,7 @@ IsTransactionsFault Memory bytes = ⊥
 abbrev pub ReadsAll : List ℕ → Result (Vec Transaction Global) Fault → Type 0
 ReadsAll bytes (Ok transactions) = FindsTransactions transactions bytes
 ReadsAll bytes (Err Usage) = ⊥
-ReadsAll bytes (Err (Rules line column why)) = ⊥
+ReadsAll bytes (Err (Rules which line column why)) = ⊥
 ReadsAll bytes (Err (Change line why)) = all_transactions_of bytes ≡ Err (Change line why)
 ReadsAll bytes (Err (PastLimit limit)) = all_transactions_of bytes ≡ Err (PastLimit limit)
 ReadsAll bytes (Err (TooManyBuckets count)) = ⊥

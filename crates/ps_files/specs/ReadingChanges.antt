@@ -63,7 +63,7 @@ pub record HasCommitted (rules : RuleSet) (transactions : List Transaction) (sto
 abbrev pub WritesSome : RuleSet → List Transaction → ℕ → Option Limit → Store → Result ℕ Fault → Type 0
 WritesSome rules transactions left passed new (Ok count) = (1 ≤ count) × (count ≤ left) × IsPending rules transactions (left - count) passed new
 WritesSome rules transactions left passed new (Err Usage) = ⊥
-WritesSome rules transactions left passed new (Err (Rules line column why)) = ⊥
+WritesSome rules transactions left passed new (Err (Rules which line column why)) = ⊥
 WritesSome rules transactions left passed new (Err (Change line why)) = ⊥
 WritesSome rules transactions left passed new (Err (PastLimit limit)) = passed ≡ Some limit
 WritesSome rules transactions left passed new (Err (TooManyBuckets count)) = ⊥
@@ -79,7 +79,7 @@ WritesSome rules transactions left passed new (Err Memory) = Unit {0}
 abbrev pub WritesAll : RuleSet → List Transaction → Option Limit → Store → Result (Unit {0}) Fault → Type 0
 WritesAll rules transactions passed new (Ok done) = IsPending rules transactions 0 passed new
 WritesAll rules transactions passed new (Err Usage) = ⊥
-WritesAll rules transactions passed new (Err (Rules line column why)) = ⊥
+WritesAll rules transactions passed new (Err (Rules which line column why)) = ⊥
 WritesAll rules transactions passed new (Err (Change line why)) = ⊥
 WritesAll rules transactions passed new (Err (PastLimit limit)) = passed ≡ Some limit
 WritesAll rules transactions passed new (Err (TooManyBuckets count)) = ⊥
@@ -95,7 +95,7 @@ WritesAll rules transactions passed new (Err Memory) = Unit {0}
 abbrev pub TakesLine : RuleSet → List Transaction → Result Transaction Fault → Store → Result (Unit {0}) Fault → Type 0
 TakesLine rules done meant new (Ok taken) = (t : Transaction) × (meant ≡ Ok t) × HasCommitted rules (done ++ t ∷ []) new
 TakesLine rules done meant new (Err Usage) = ⊥
-TakesLine rules done meant new (Err (Rules line column why)) = ⊥
+TakesLine rules done meant new (Err (Rules which line column why)) = ⊥
 TakesLine rules done meant new (Err (Change line why)) = meant ≡ Err (Change line why)
 TakesLine rules done meant new (Err (PastLimit limit)) = meant ≡ Err (PastLimit limit)
 TakesLine rules done meant new (Err (TooManyBuckets count)) = ⊥
@@ -111,7 +111,7 @@ TakesLine rules done meant new (Err Memory) = Unit {0}
 abbrev pub ReadsRising : Result Transaction Fault → Result Transaction Fault → Type 0
 ReadsRising (Ok transaction) meant = meant ≡ Ok transaction
 ReadsRising (Err Usage) meant = ⊥
-ReadsRising (Err (Rules line column why)) meant = ⊥
+ReadsRising (Err (Rules which line column why)) meant = ⊥
 ReadsRising (Err (Change line why)) meant = meant ≡ Err (Change line why)
 ReadsRising (Err (PastLimit limit)) meant = meant ≡ Err (PastLimit limit)
 ReadsRising (Err (TooManyBuckets count)) meant = ⊥
@@ -146,7 +146,7 @@ pub record HasWritten (rules : RuleSet) (bytes : List ℕ) (number : ℕ) (rest 
 abbrev pub Writes : RuleSet → Result (List Transaction) Fault → Result Store Fault → Type 0
 Writes rules meant (Ok store) = (transactions : List Transaction) × (meant ≡ Ok transactions) × HasCommitted rules transactions store
 Writes rules meant (Err Usage) = ⊥
-Writes rules meant (Err (Rules line column why)) = ⊥
+Writes rules meant (Err (Rules which line column why)) = ⊥
 Writes rules meant (Err (Change line why)) = meant ≡ Err (Change line why)
 Writes rules meant (Err (PastLimit limit)) = meant ≡ Err (PastLimit limit)
 Writes rules meant (Err (TooManyBuckets count)) = ⊥

@@ -23,7 +23,7 @@ pub record FindsRising (transactions : Vec Transaction Global) (bytes : List ℕ
 
 abbrev pub IsRisingFault : Fault → List ℕ → Type 0
 IsRisingFault Usage bytes = ⊥
-IsRisingFault (Rules line column why) bytes = ⊥
+IsRisingFault (Rules which line column why) bytes = ⊥
 IsRisingFault (Change line why) bytes = rising_transactions_of bytes ≡ Err (Change line why)
 IsRisingFault (PastLimit limit) bytes = rising_transactions_of bytes ≡ Err (PastLimit limit)
 IsRisingFault (TooManyBuckets count) bytes = ⊥
@@ -39,7 +39,7 @@ IsRisingFault Memory bytes = ⊥
 abbrev pub ReadsAllRising : List ℕ → Result (Vec Transaction Global) Fault → Type 0
 ReadsAllRising bytes (Ok transactions) = FindsRising transactions bytes
 ReadsAllRising bytes (Err Usage) = ⊥
-ReadsAllRising bytes (Err (Rules line column why)) = ⊥
+ReadsAllRising bytes (Err (Rules which line column why)) = ⊥
 ReadsAllRising bytes (Err (Change line why)) = rising_transactions_of bytes ≡ Err (Change line why)
 ReadsAllRising bytes (Err (PastLimit limit)) = rising_transactions_of bytes ≡ Err (PastLimit limit)
 ReadsAllRising bytes (Err (TooManyBuckets count)) = ⊥

@@ -4,6 +4,8 @@ use Rattle.std.specs.Borrow.{Bor}
 use Rattle.ps_files.specs.declared.faults.Fault.{Fault}
 use Rattle.ps_files.specs.declared.faults.LineFault.{LineFault}
 use Rattle.ps_files.specs.declared.faults.RulesCause.{RulesCause}
+use Rattle.ps_files.specs.declared.faults.RulesFile.{RulesFile}
+use Rattle.ps_files.specs.declared.faults.RulesFile.TheVariants.{First, Next}
 use Rattle.ps_files.specs.declared.faults.ScriptCause.{ScriptCause}
 use Rattle.ps_files.specs.RulesFaults.{cause_text}
 use Rattle.ps_files.specs.FaultTexts.{status_of, line_fault_text, script_cause_text, fault_line, Tells}
@@ -25,6 +27,11 @@ abbrev pub joined : List (Bor (List ℕ)) → List ℕ
 joined [] = []
 joined (piece ∷ []) = piece.now
 joined (piece ∷ next ∷ pieces) = piece.now ++ joined (next ∷ pieces)
+
+-- the front of the line of a rules file's fault
+abbrev pub front_of : RulesFile → List ℕ
+front_of First = codes "powersync: rules "
+front_of Next = codes "powersync: next-rules "
 
 -- the end of the line of a change line's fault
 abbrev pub end_of_line : LineFault → List ℕ

@@ -47,6 +47,15 @@ pub enum Limit {
     },
 }
 
+/// Which rules file is meant.
+#[derive(Clone, Copy, Debug, PartialEq, Eq)]
+pub enum RulesFile {
+    /// That of the rules that are in force first.
+    First,
+    /// That of the rules that a deploy takes.
+    Next,
+}
+
 /// Why a rules file is refused: docs/FORMATS.md, "Faults of rules".
 #[derive(Clone, Copy, Debug, PartialEq, Eq)]
 pub enum RulesCause {
@@ -96,8 +105,10 @@ pub enum ScriptCause {
 pub enum Fault<'a> {
     /// The words are no command.
     Usage,
-    /// The rules file is refused.
+    /// A rules file is refused.
     Rules {
+        /// Which one.
+        file: RulesFile,
         /// The line of the first fault, counted from 1.
         line: u32,
         /// The column there, in bytes, counted from 1.

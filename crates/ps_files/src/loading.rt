@@ -1,7 +1,8 @@
 ghost use Rattle.std.specs.Prelude.{◌≡◌, ◌≤◌};
-ghost use Rattle.ps_files.specs.Loading.{Loads, MissesNamed, IsContent, RefusesNothing, FindsRules, IsRulesFault, FindsKeys, IsKeysFault, FindsAsker, IsClaimsFault};
+ghost use Rattle.ps_files.specs.RulesFaults.{of_next as next_fault};
+ghost use Rattle.ps_files.specs.Loading.{Loads, MissesNamed, IsContent, RefusesNothing, FindsRules, IsRulesFault, IsNextFault, FindsKeys, IsKeysFault, FindsAsker, IsClaimsFault};
 
-use crate::faults::Fault;
+use crate::faults::{Fault, RulesFile};
 use crate::rules_faults::read_rules_file;
 use ps_claims::read_claims;
 use ps_data::Text;
@@ -50,6 +51,43 @@ pub fn load_rules<'a, F: Files>(
 {
     let bytes = load(alloc, files, name, RULES_LIMIT)?;
     read_rules_file(alloc, bytes.as_slice())
+}
+
+// A fault of rules as one of the next rules.
+fn of_next<'a>(fault: Fault<'a>) -> Fault<'a>
+    ensures { result ≡ next_fault fault }
+{
+    match fault {
+        Fault::Rules {
+            line,
+            column,
+            why,
+            ..
+        } => Fault::Rules {
+            file: RulesFile::Next,
+            line,
+            column,
+            why,
+        },
+        other => other,
+    }
+}
+
+/// Loads the rules that a deploy takes, from a rules file of their own.
+pub fn load_next<'a, F: Files>(
+    alloc: Global,
+    files: &mut F,
+    name: &'a Text,
+) -> Result<Rules, Fault<'a>>
+    ensures loads { Loads (F.held files.old) name.now RULES_LIMIT (F.faults files.old) (F.faults files.new) FindsRules IsNextFault result }
+    ensures missed { MissesNamed (F.missed files.old) (F.missed files.new) result }
+    ensures held { F.held files.new ≡ F.held files.old }
+    ensures faults { F.faults files.old ≤ F.faults files.new }
+{
+    match load_rules(alloc, files, name) {
+        Ok(rules) => Ok(rules),
+        Err(fault) => Err(of_next(fault)),
+    }
 }
 
 /// Loads the keys of a key file.

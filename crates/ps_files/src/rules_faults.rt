@@ -1,7 +1,7 @@
 ghost use Rattle.std.specs.Prelude.{◌≡◌, ◌<◌, length};
 ghost use Rattle.ps_files.specs.RulesFaults.{yaml_fault as yaml_fault_of, sql_fault as sql_fault_of, rules_fault as rules_fault_of, rules_of_file, ReadsRules};
 
-use crate::faults::{Fault, RulesCause};
+use crate::faults::{Fault, RulesCause, RulesFile};
 use ps_definitions::Rules;
 use ps_rules::{RulesFault, read_rules};
 use ps_sql::SqlFault;
@@ -13,21 +13,25 @@ fn yaml_fault<'a>(fault: YamlFault) -> Fault<'a>
 {
     match fault {
         YamlFault::BadIndent { line, column } => Fault::Rules {
+            file: RulesFile::First,
             line,
             column,
             why: RulesCause::YamlIndent,
         },
         YamlFault::BadScalar { line, column } => Fault::Rules {
+            file: RulesFile::First,
             line,
             column,
             why: RulesCause::YamlScalar,
         },
         YamlFault::DuplicateKey { line, column } => Fault::Rules {
+            file: RulesFile::First,
             line,
             column,
             why: RulesCause::YamlDuplicateKey,
         },
         YamlFault::Unsupported { line, column } => Fault::Rules {
+            file: RulesFile::First,
             line,
             column,
             why: RulesCause::YamlUnsupported,
@@ -42,16 +46,19 @@ fn sql_fault<'a>(line: u32, column: u32, fault: SqlFault) -> Fault<'a>
 {
     match fault {
         SqlFault::BadToken { at } => Fault::Rules {
+            file: RulesFile::First,
             line,
             column,
             why: RulesCause::SqlToken { at },
         },
         SqlFault::Unexpected { at } => Fault::Rules {
+            file: RulesFile::First,
             line,
             column,
             why: RulesCause::SqlUnexpected { at },
         },
         SqlFault::Unsupported { at } => Fault::Rules {
+            file: RulesFile::First,
             line,
             column,
             why: RulesCause::SqlUnsupported { at },
@@ -72,36 +79,43 @@ fn rules_fault<'a>(fault: RulesFault) -> Fault<'a>
             column,
         } => sql_fault(line, column, fault),
         RulesFault::Shape { line, column } => Fault::Rules {
+            file: RulesFile::First,
             line,
             column,
             why: RulesCause::Shape,
         },
         RulesFault::DuplicateName { line, column } => Fault::Rules {
+            file: RulesFile::First,
             line,
             column,
             why: RulesCause::DuplicateName,
         },
         RulesFault::MixedOutput { line, column } => Fault::Rules {
+            file: RulesFile::First,
             line,
             column,
             why: RulesCause::MixedOutput,
         },
         RulesFault::NoId { line, column } => Fault::Rules {
+            file: RulesFile::First,
             line,
             column,
             why: RulesCause::NoId,
         },
         RulesFault::UnknownParameter { line, column } => Fault::Rules {
+            file: RulesFile::First,
             line,
             column,
             why: RulesCause::UnknownParameter,
         },
         RulesFault::TooManyBranches { line, column } => Fault::Rules {
+            file: RulesFile::First,
             line,
             column,
             why: RulesCause::TooManyBranches,
         },
         RulesFault::UnmatchedParameter { line, column } => Fault::Rules {
+            file: RulesFile::First,
             line,
             column,
             why: RulesCause::UnmatchedParameter,

@@ -1,8 +1,8 @@
-ghost use Rattle.std.specs.Prelude.{◌++◌, codes, decimal};
+ghost use Rattle.std.specs.Prelude.{◌≡◌, ◌++◌, codes, decimal};
 ghost use Rattle.ps_files.specs.FaultTexts.{Tells, fault_line};
-ghost use Rattle.ps_files.specs.Saying.{SaysFault, IsCauseText, joined};
+ghost use Rattle.ps_files.specs.Saying.{SaysFault, IsCauseText, front_of, joined};
 
-use crate::faults::{Fault, Limit, LineFault, RulesCause, ScriptCause};
+use crate::faults::{Fault, Limit, LineFault, RulesCause, RulesFile, ScriptCause};
 use itoa::Buffer;
 use ps_io::Sink;
 
@@ -114,27 +114,32 @@ fn cause_parts(why: RulesCause) -> (&'static str, Option<u32>)
     }
 }
 
-// Writes the line of a fault of a rules file.
-fn tell_rules<E: Sink>(err: &mut E, line: u32, column: u32, why: RulesCause)
-    ensures { Tells (E.taken err.old) (E.taken err.new) (E.faults err.old) (E.faults err.new) (fault_line (Fault.Rules line column why)) }
+// The front of the line of a fault of a rules file.
+fn rules_front(file: RulesFile) -> &'static str
+    ensures { result.now ≡ front_of file }
 {
+    match file {
+        RulesFile::First => "powersync: rules ",
+        RulesFile::Next => "powersync: next-rules ",
+    }
+}
+
+// Writes the line of a fault of a rules file.
+fn tell_rules<E: Sink>(err: &mut E, file: RulesFile, line: u32, column: u32, why: RulesCause)
+    ensures { Tells (E.taken err.old) (E.taken err.new) (E.faults err.old) (E.faults err.new) (fault_line (Fault.Rules file line column why)) }
+{
+    let front = rules_front(file);
     let (kind, at) = cause_parts(why);
     let mut line_digits = Buffer::new();
     let mut column_digits = Buffer::new();
     let line = line_digits.format(line);
     let column = column_digits.format(column);
     match at {
-        None => tell(
-            err,
-            &["powersync: rules ", line, ":", column, " ", kind, "\n"],
-        ),
+        None => tell(err, &[front, line, ":", column, " ", kind, "\n"]),
         Some(at) => {
             let mut at_digits = Buffer::new();
             let at = at_digits.format(at);
-            tell(
-                err,
-                &["powersync: rules ", line, ":", column, " ", kind, at, "\n"],
-            )
+            tell(err, &[front, line, ":", column, " ", kind, at, "\n"])
         }
     }
 }
@@ -168,8 +173,13 @@ pub fn say<E: Sink>(err: &mut E, fault: &Fault<'_>) -> u8
             tell_line(err, "powersync: usage\n");
             1
         }
-        Fault::Rules { line, column, why } => {
-            tell_rules(err, *line, *column, *why);
+        Fault::Rules {
+            file,
+            line,
+            column,
+            why,
+        } => {
+            tell_rules(err, *file, *line, *column, *why);
             2
         }
         Fault::Change { line, why } => {

@@ -19,7 +19,7 @@ use Rattle.ps_file_lines.specs.Cuts.{cut}
 use Rattle.ps_script.specs.Words.{IsName, text_of, count_of, name_of}
 use Rattle.ps_script.specs.Verbs.{verb_of, event_by}
 use Rattle.ps_script.specs.Events.{read_or_none, change_in, alone, named, client_in, local_in, behind, by_words, event_of}
-use Rattle.ps_script.specs.Grammar.{IsEvent, feeds, closes, writes, commits, compacts, begins_client, opens, turns, takes, cuts, alters, changes_locally, uploads, numbers, shows_rows, sums_up}
+use Rattle.ps_script.specs.Grammar.{IsEvent, feeds, closes, writes, commits, compacts, begins_client, opens, turns, takes, cuts, alters, changes_locally, uploads, numbers, shows_rows, sums_up, deploys, builds, switches, abandons}
 use Rattle.ps_script.proofs.Cutting.{cut_joins}
 use Rattle.ps_script.proofs.Arguments.{text_found, count_found, name_found}
 use Rattle.ps_script.proofs.Tests.{choose}
@@ -45,7 +45,10 @@ alone_found word event h =
     choose (bytes_eq word (codes "close")) _ _ event h (λ is e. spelled word (codes "close") events.Close event is e closes) (λ h.
     choose (bytes_eq word (codes "commit")) _ _ event h (λ is e. spelled word (codes "commit") events.Commit event is e commits) (λ h.
     choose (bytes_eq word (codes "totals")) _ _ event h (λ is e. spelled word (codes "totals") events.Totals event is e sums_up) (λ h.
-    absurd (cc))))
+    choose (bytes_eq word (codes "deploy")) _ _ event h (λ is e. spelled word (codes "deploy") events.Deploy event is e deploys) (λ h.
+    choose (bytes_eq word (codes "switch")) _ _ event h (λ is e. spelled word (codes "switch") events.Switch event is e switches) (λ h.
+    choose (bytes_eq word (codes "abandon")) _ _ event h (λ is e. spelled word (codes "abandon") events.Abandon event is e abandons) (λ h.
+    absurd (cc)))))))
 
 -- ---- names
 
@@ -122,6 +125,12 @@ write_found law rest event h =
     let own = count_found law rest n read in
     subst (IsEvent (codes "write " ++ rest)) same (subst (λ r. IsEvent (codes "write " ++ r) (events.Write n)) (sym own.1) (writes n own.0)))
 
+build_found : ReadsWhatIsWritten → (rest : List ℕ) (event : ScriptEvent) → option_map events.Build (count_of rest) ≡ Some event → IsEvent (codes "build " ++ rest) event
+build_found law rest event h =
+    mapped events.Build (count_of rest) event h (λ n read same.
+    let own = count_found law rest n read in
+    subst (IsEvent (codes "build " ++ rest)) same (subst (λ r. IsEvent (codes "build " ++ r) (events.Build n)) (sym own.1) (builds n own.0)))
+
 compact_found : (rest : List ℕ) (event : ScriptEvent) → option_map events.Compact (text_of rest) ≡ Some event → IsEvent (codes "compact " ++ rest) event
 compact_found rest event h =
     mapped events.Compact (text_of rest) event h (λ bucket read same.
@@ -132,10 +141,11 @@ behind_found : ReadsWhatIsWritten → ReadsLoneChanges → (word rest : List ℕ
 behind_found law changes word rest event h =
     choose (bytes_eq word (codes "feed")) _ _ event h (λ is e. spelled_with word (codes "feed") rest event is (feed_found law rest event e)) (λ h.
     choose (bytes_eq word (codes "write")) _ _ event h (λ is e. spelled_with word (codes "write") rest event is (write_found law rest event e)) (λ h.
+    choose (bytes_eq word (codes "build")) _ _ event h (λ is e. spelled_with word (codes "build") rest event is (build_found law rest event e)) (λ h.
     choose (bytes_eq word (codes "compact")) _ _ event h (λ is e. spelled_with word (codes "compact") rest event is (compact_found rest event e)) (λ h.
     choose (bytes_eq word (codes "client")) _ _ event h (λ is e. spelled_with word (codes "client") rest event is (client_found rest (cut 32 rest).0 (cut 32 rest).1 event (cut_joins 32 rest) e)) (λ h.
     choose (bytes_eq word (codes "local")) _ _ event h (λ is e. spelled_with word (codes "local") rest event is (local_found changes rest (cut 32 rest).0 (cut 32 rest).1 event (cut_joins 32 rest) e)) (λ h.
-    named_found word rest event h)))))
+    named_found word rest event h))))))
 
 words_found : ReadsWhatIsWritten → ReadsLoneChanges → (line word : List ℕ) (rest : Option (List ℕ)) (event : ScriptEvent) → Joined line word rest → by_words word rest ≡ Some event → IsEvent line event
 words_found law changes line word None event is h = subst (λ l. IsEvent l event) (sym is) (alone_found word event h)

@@ -8,14 +8,14 @@ use Rattle.ps_claims.specs.Claims.{asker_of_claims}
 use Rattle.ps_queries.specs.declared.askers.Asker.{Asker}
 use Rattle.ps_values.specs.Laws.{ReadsWhatIsWritten}
 use Rattle.ps_script.specs.declared.events.ScriptEvent.{ScriptEvent}
-use Rattle.ps_script.specs.declared.events.ScriptEvent.TheVariants.{Feed, Write, Client, Local}
+use Rattle.ps_script.specs.declared.events.ScriptEvent.TheVariants.{Feed, Write, Client, Local, Build}
 use Rattle.ps_script.specs.declared.verbs.Verb.{Verb}
 use Rattle.ps_script.specs.declared.verbs.Verb.TheVariants.{Open, Turn, Take, Cut, Alter, Upload, Number, Rows}
 use Rattle.ps_file_lines.specs.Cuts.{cut}
 use Rattle.ps_script.specs.Words.{IsName, name_of}
 use Rattle.ps_script.specs.Verbs.{event_by}
 use Rattle.ps_script.specs.Events.{read_or_none, change_in, client_in, local_in, event_of}
-use Rattle.ps_script.specs.Grammar.{IsEvent, feeds, closes, writes, commits, compacts, begins_client, opens, turns, takes, cuts, alters, changes_locally, uploads, numbers, shows_rows, sums_up}
+use Rattle.ps_script.specs.Grammar.{IsEvent, feeds, closes, writes, commits, compacts, begins_client, opens, turns, takes, cuts, alters, changes_locally, uploads, numbers, shows_rows, sums_up, deploys, builds, switches, abandons}
 use Rattle.ps_script.proofs.Cutting.{cut_behind}
 use Rattle.ps_script.proofs.Arguments.{text_only, count_only, name_only, name_has_no_space}
 
@@ -53,3 +53,7 @@ event_only law changes (uploads name h) = verb_only Upload name h
 event_only law changes (numbers name h) = verb_only Number name h
 event_only law changes (shows_rows name h) = verb_only Rows name h
 event_only law changes sums_up = refl
+event_only law changes deploys = refl
+event_only law changes (builds limit h) = ap (option_map Build) (count_only law limit h)
+event_only law changes switches = refl
+event_only law changes abandons = refl

@@ -6,7 +6,7 @@ use Rattle.ps_changes.specs.declared.faults.ChangeFault.{ChangeFault}
 use Rattle.ps_claims.specs.Claims.{asker_of_claims}
 use Rattle.ps_queries.specs.declared.askers.Asker.{Asker}
 use Rattle.ps_script.specs.declared.events.ScriptEvent.{ScriptEvent}
-use Rattle.ps_script.specs.declared.events.ScriptEvent.TheVariants.{Feed, Close, Write, Commit, Compact, Client, Local, Totals}
+use Rattle.ps_script.specs.declared.events.ScriptEvent.TheVariants.{Feed, Close, Write, Commit, Compact, Client, Local, Totals, Deploy, Build, Switch, Abandon}
 use Rattle.ps_script.specs.Grammar.{IsEvent}
 use Rattle.ps_script.specs.Verbs.{verb_of, event_by}
 use Rattle.ps_file_lines.specs.Cuts.{cut}
@@ -28,7 +28,10 @@ abbrev pub alone : List ℕ → Option ScriptEvent
 alone word =
     if bytes_eq word (codes "close") then Some Close else
     if bytes_eq word (codes "commit") then Some Commit else
-    if bytes_eq word (codes "totals") then Some Totals else None
+    if bytes_eq word (codes "totals") then Some Totals else
+    if bytes_eq word (codes "deploy") then Some Deploy else
+    if bytes_eq word (codes "switch") then Some Switch else
+    if bytes_eq word (codes "abandon") then Some Abandon else None
 
 -- a word and a client's name
 abbrev pub named : List ℕ → List ℕ → Option ScriptEvent
@@ -49,6 +52,7 @@ abbrev pub behind : List ℕ → List ℕ → Option ScriptEvent
 behind word rest =
     if bytes_eq word (codes "feed") then option_map Feed (count_of rest) else
     if bytes_eq word (codes "write") then option_map Write (count_of rest) else
+    if bytes_eq word (codes "build") then option_map Build (count_of rest) else
     if bytes_eq word (codes "compact") then option_map Compact (text_of rest) else
     if bytes_eq word (codes "client") then client_in (cut 32 rest).0 (cut 32 rest).1 else
     if bytes_eq word (codes "local") then local_in (cut 32 rest).0 (cut 32 rest).1 else

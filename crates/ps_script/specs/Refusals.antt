@@ -28,6 +28,7 @@ abbrev pub may_follow : List ℕ → List ℕ → Bool
 may_follow word rest =
     if bytes_eq word (codes "feed") then is_utf8 rest else
     if bytes_eq word (codes "write") then is_utf8 rest else
+    if bytes_eq word (codes "build") then is_utf8 rest else
     if bytes_eq word (codes "compact") then is_utf8 rest else
     if bytes_eq word (codes "client") then has_claims (cut 32 rest).0 (cut 32 rest).1 else
     if bytes_eq word (codes "local") then has_change (cut 32 rest).0 (cut 32 rest).1 else

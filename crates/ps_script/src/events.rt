@@ -80,4 +80,15 @@ pub enum ScriptEvent {
     },
     /// Sum up the store.
     Totals,
+    /// Begin a generation of the next rules.
+    Deploy,
+    /// Write the next changes of the generation that is being built, in one batch.
+    Build {
+        /// How many at most, from 1 to 1,000,000.
+        limit: u32,
+    },
+    /// Put the generation that is being built in force.
+    Switch,
+    /// Drop the generation that is being built.
+    Abandon,
 }

@@ -54,6 +54,15 @@ fn alone(word: &[u8]) -> Result<ScriptEvent, ScriptFault>
     if word == b"totals".as_slice() {
         return Ok(ScriptEvent::Totals);
     }
+    if word == b"deploy".as_slice() {
+        return Ok(ScriptEvent::Deploy);
+    }
+    if word == b"switch".as_slice() {
+        return Ok(ScriptEvent::Switch);
+    }
+    if word == b"abandon".as_slice() {
+        return Ok(ScriptEvent::Abandon);
+    }
     Err(ScriptFault::BadEvent)
 }
 
@@ -69,6 +78,10 @@ fn behind(alloc: Global, word: &[u8], rest: &[u8]) -> Result<ScriptEvent, Script
     if word == b"write".as_slice() {
         let limit = read_count(alloc, rest)?;
         return Ok(ScriptEvent::Write { limit });
+    }
+    if word == b"build".as_slice() {
+        let limit = read_count(alloc, rest)?;
+        return Ok(ScriptEvent::Build { limit });
     }
     if word == b"compact".as_slice() {
         let bucket = read_text(alloc, rest)?;

@@ -17,7 +17,7 @@ use Rattle.ps_serve_inputs.specs.Inputs.{Means, StopsInputs}
 pub loads_since : {X : Type 0} (held : Option Contents) (name : List ℕ) (limit before mid now : ℕ) (Finds : X → List ℕ → Type 0) (Refuses : Fault → List ℕ → Type 0) (fault : Fault)
     → before ≤ mid → Loads held name limit mid now Finds Refuses (Err fault) → Loads held name limit before now Finds Refuses (Err fault)
 loads_since held name limit before mid now Finds Refuses Usage le h = h
-loads_since held name limit before mid now Finds Refuses (Rules line column why) le h = h
+loads_since held name limit before mid now Finds Refuses (Rules which line column why) le h = h
 loads_since held name limit before mid now Finds Refuses (Change line why) le h = h
 loads_since held name limit before mid now Finds Refuses (PastLimit passed) le h = h
 loads_since held name limit before mid now Finds Refuses (TooManyBuckets count) le h = h

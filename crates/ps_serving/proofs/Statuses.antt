@@ -4,6 +4,7 @@ use Rattle.ps_io.specs.Counts.{Rose}
 use Rattle.ps_files.specs.declared.faults.Fault.TheVariants.{Usage, Rules, Change, PastLimit, TooManyBuckets, Claims, Keys, TooLong, CannotRead, CannotWrite, Script, Memory}
 use Rattle.ps_files.specs.declared.faults.Limit.{Limit}
 use Rattle.ps_files.specs.declared.faults.LineFault.{LineFault}
+use Rattle.ps_files.specs.declared.faults.RulesFile.{RulesFile}
 use Rattle.ps_files.specs.declared.faults.RulesCause.{RulesCause}
 use Rattle.ps_serve_words.specs.declared.words.ServeWords.{ServeWords}
 use Rattle.ps_serve_words.specs.Words.{AreRefused, AreTaken}
@@ -20,7 +21,7 @@ module _ (may_give : ℕ → Type 0) (words : List (List ℕ)) (files files' : F
   is_usage : (fault : ServeFault) → Causes fault → serve_status fault ≡ 1 → AreRefused words
   is_usage ConnectionFailed h e = absurd (omega arith)
   is_usage (Plain Usage) h e = h
-  is_usage (Plain (Rules line column why)) h e = absurd (omega arith)
+  is_usage (Plain (Rules which line column why)) h e = absurd (omega arith)
   is_usage (Plain (Change line why)) h e = absurd (omega arith)
   is_usage (Plain (PastLimit limit)) h e = absurd (omega arith)
   is_usage (Plain (TooManyBuckets count)) h e = absurd h
@@ -32,10 +33,10 @@ module _ (may_give : ℕ → Type 0) (words : List (List ℕ)) (files files' : F
   is_usage (Plain (Script line why)) h e = absurd h
   is_usage (Plain Memory) h e = absurd (omega arith)
 
-  is_rules : (fault : ServeFault) → Causes fault → serve_status fault ≡ 2 → (line column : ℕ) × (why : RulesCause) × Stops may_give words files files' doors doors' out out' (Rules line column why)
+  is_rules : (fault : ServeFault) → Causes fault → serve_status fault ≡ 2 → (which : RulesFile) × (line column : ℕ) × (why : RulesCause) × Stops may_give words files files' doors doors' out out' (Rules which line column why)
   is_rules ConnectionFailed h e = absurd (omega arith)
   is_rules (Plain Usage) h e = absurd (omega arith)
-  is_rules (Plain (Rules line column why)) h e = (line, column, why, h)
+  is_rules (Plain (Rules which line column why)) h e = (which, line, column, why, h)
   is_rules (Plain (Change line why)) h e = absurd (omega arith)
   is_rules (Plain (PastLimit limit)) h e = absurd (omega arith)
   is_rules (Plain (TooManyBuckets count)) h e = absurd h
@@ -50,7 +51,7 @@ module _ (may_give : ℕ → Type 0) (words : List (List ℕ)) (files files' : F
   is_change : (fault : ServeFault) → Causes fault → serve_status fault ≡ 3 → (line : ℕ) × (why : LineFault) × Stops may_give words files files' doors doors' out out' (Change line why)
   is_change ConnectionFailed h e = absurd (omega arith)
   is_change (Plain Usage) h e = absurd (omega arith)
-  is_change (Plain (Rules line column why)) h e = absurd (omega arith)
+  is_change (Plain (Rules which line column why)) h e = absurd (omega arith)
   is_change (Plain (Change line why)) h e = (line, why, h)
   is_change (Plain (PastLimit limit)) h e = absurd (omega arith)
   is_change (Plain (TooManyBuckets count)) h e = absurd h
@@ -65,7 +66,7 @@ module _ (may_give : ℕ → Type 0) (words : List (List ℕ)) (files files' : F
   is_keys : (fault : ServeFault) → Causes fault → serve_status fault ≡ 4 → Stops may_give words files files' doors doors' out out' Keys
   is_keys ConnectionFailed h e = absurd (omega arith)
   is_keys (Plain Usage) h e = absurd (omega arith)
-  is_keys (Plain (Rules line column why)) h e = absurd (omega arith)
+  is_keys (Plain (Rules which line column why)) h e = absurd (omega arith)
   is_keys (Plain (Change line why)) h e = absurd (omega arith)
   is_keys (Plain (PastLimit limit)) h e = absurd (omega arith)
   is_keys (Plain (TooManyBuckets count)) h e = absurd h
@@ -80,7 +81,7 @@ module _ (may_give : ℕ → Type 0) (words : List (List ℕ)) (files files' : F
   is_limit : (fault : ServeFault) → Causes fault → serve_status fault ≡ 5 → ((seen : ℕ) × Stops may_give words files files' doors doors' out out' (TooLong seen)) ⊎ ((limit : Limit) × (Stops may_give words files files' doors doors' out out' (PastLimit limit) ⊎ StopsLate may_give words files files' doors doors' out out' limit))
   is_limit ConnectionFailed h e = absurd (omega arith)
   is_limit (Plain Usage) h e = absurd (omega arith)
-  is_limit (Plain (Rules line column why)) h e = absurd (omega arith)
+  is_limit (Plain (Rules which line column why)) h e = absurd (omega arith)
   is_limit (Plain (Change line why)) h e = absurd (omega arith)
   is_limit (Plain (PastLimit limit)) h e = inr (limit, h)
   is_limit (Plain (TooManyBuckets count)) h e = absurd h
@@ -95,7 +96,7 @@ module _ (may_give : ℕ → Type 0) (words : List (List ℕ)) (files files' : F
   is_unread : (fault : ServeFault) → Causes fault → serve_status fault ≡ 6 → (name : Bor (List ℕ)) × Stops may_give words files files' doors doors' out out' (CannotRead name)
   is_unread ConnectionFailed h e = absurd (omega arith)
   is_unread (Plain Usage) h e = absurd (omega arith)
-  is_unread (Plain (Rules line column why)) h e = absurd (omega arith)
+  is_unread (Plain (Rules which line column why)) h e = absurd (omega arith)
   is_unread (Plain (Change line why)) h e = absurd (omega arith)
   is_unread (Plain (PastLimit limit)) h e = absurd (omega arith)
   is_unread (Plain (TooManyBuckets count)) h e = absurd h
@@ -110,7 +111,7 @@ module _ (may_give : ℕ → Type 0) (words : List (List ℕ)) (files files' : F
   is_unwritten : (fault : ServeFault) → Causes fault → serve_status fault ≡ 7 → Rose out.faults out'.faults × FailsOutside may_give words files files' doors doors' out out'
   is_unwritten ConnectionFailed h e = absurd (omega arith)
   is_unwritten (Plain Usage) h e = absurd (omega arith)
-  is_unwritten (Plain (Rules line column why)) h e = absurd (omega arith)
+  is_unwritten (Plain (Rules which line column why)) h e = absurd (omega arith)
   is_unwritten (Plain (Change line why)) h e = absurd (omega arith)
   is_unwritten (Plain (PastLimit limit)) h e = absurd (omega arith)
   is_unwritten (Plain (TooManyBuckets count)) h e = absurd h
@@ -125,7 +126,7 @@ module _ (may_give : ℕ → Type 0) (words : List (List ℕ)) (files files' : F
   is_connection : (fault : ServeFault) → Causes fault → serve_status fault ≡ 10 → Rose doors.faults doors'.faults × FailsOutside may_give words files files' doors doors' out out'
   is_connection ConnectionFailed h e = h
   is_connection (Plain Usage) h e = absurd (omega arith)
-  is_connection (Plain (Rules line column why)) h e = absurd (omega arith)
+  is_connection (Plain (Rules which line column why)) h e = absurd (omega arith)
   is_connection (Plain (Change line why)) h e = absurd (omega arith)
   is_connection (Plain (PastLimit limit)) h e = absurd (omega arith)
   is_connection (Plain (TooManyBuckets count)) h e = absurd h
@@ -140,7 +141,7 @@ module _ (may_give : ℕ → Type 0) (words : List (List ℕ)) (files files' : F
   is_known : (fault : ServeFault) → Causes fault → (serve_status fault ≤ 8) ⊎ (serve_status fault ≡ 10)
   is_known ConnectionFailed h = inr refl
   is_known (Plain Usage) h = inl (omega arith)
-  is_known (Plain (Rules line column why)) h = inl (omega arith)
+  is_known (Plain (Rules which line column why)) h = inl (omega arith)
   is_known (Plain (Change line why)) h = inl (omega arith)
   is_known (Plain (PastLimit limit)) h = inl (omega arith)
   is_known (Plain (TooManyBuckets count)) h = absurd h
@@ -155,7 +156,7 @@ module _ (may_give : ℕ → Type 0) (words : List (List ℕ)) (files files' : F
   is_no_zero : (fault : ServeFault) → serve_status fault ≡ 0 → ⊥
   is_no_zero ConnectionFailed e = omega arith
   is_no_zero (Plain Usage) e = omega arith
-  is_no_zero (Plain (Rules line column why)) e = omega arith
+  is_no_zero (Plain (Rules which line column why)) e = omega arith
   is_no_zero (Plain (Change line why)) e = omega arith
   is_no_zero (Plain (PastLimit limit)) e = omega arith
   is_no_zero (Plain (TooManyBuckets count)) e = omega arith
@@ -204,7 +205,7 @@ module _ (may_give : ℕ → Type 0) (words : List (List ℕ)) (files files' : F
   pub caused : (said : ServeWords) → AreTaken words said → (fault : ServeFault) → ServesSo may_give said files files' doors doors' out out' (Err fault) → Causes fault
   caused said taken ConnectionFailed h = (h.0, record { said = said; taken = taken; fails = h.1 })
   caused said taken (Plain Usage) h = absurd h
-  caused said taken (Plain (Rules line column why)) h = record { said = said; taken = taken; stops = h }
+  caused said taken (Plain (Rules which line column why)) h = record { said = said; taken = taken; stops = h }
   caused said taken (Plain (Change line why)) h = record { said = said; taken = taken; stops = h }
   caused said taken (Plain (PastLimit limit)) h = elim h [ inl s ↦ inl (record { said = said; taken = taken; stops = s }) | inr r ↦ inr (record { said = said; taken = taken; refused = r }) ]
   caused said taken (Plain (TooManyBuckets count)) h = absurd h

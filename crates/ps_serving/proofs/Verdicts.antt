@@ -62,7 +62,7 @@ module _ (fixed : Fixed) (site : Site) (may_give : ℕ → Type 0) (start : List
         → ServesFed fixed site may_give start most doors doors' out out' (unless_fault (first_of (option_map Plain (output_fault printed)) (option_map Plain (room_fault ended))))
     by_output quiet (Ok done) p = by_room quiet p (is_no_room stop || short) refl
     by_output quiet (Err Usage) p = absurd p
-    by_output quiet (Err (Rules line column why)) p = absurd p
+    by_output quiet (Err (Rules which line column why)) p = absurd p
     by_output quiet (Err (Change line why)) p = absurd p
     by_output quiet (Err (PastLimit limit)) p = absurd p
     by_output quiet (Err (TooManyBuckets n)) p = absurd p

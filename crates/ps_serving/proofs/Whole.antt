@@ -41,7 +41,7 @@ module _ (may_give : ℕ → Type 0) (said : ServeWords) (files files' : FilesAt
       → ServesSo may_give said files files' doors doors' out out' (Err fault)
   listen_failed ConnectionFailed h opened = (h.0, inl (record { opened = opened; printed = ([], listening_line said.listen, refl, gains_nothing out.taken out'.taken h.1) }))
   listen_failed (Plain Usage) h opened = absurd h
-  listen_failed (Plain (Rules line column why)) h opened = absurd h
+  listen_failed (Plain (Rules which line column why)) h opened = absurd h
   listen_failed (Plain (Change line why)) h opened = absurd h
   listen_failed (Plain (PastLimit limit)) h opened = absurd h
   listen_failed (Plain (TooManyBuckets count)) h opened = absurd h
@@ -127,7 +127,7 @@ module _ (tells : LedgersTellHistories) (generation : LedgersTellOneGeneration) 
       }
   serves_so (Err ConnectionFailed) s = (s.0, fails_later s.1)
   serves_so (Err (Plain Usage)) s = absurd s
-  serves_so (Err (Plain (Rules line column why))) s = absurd s
+  serves_so (Err (Plain (Rules which line column why))) s = absurd s
   serves_so (Err (Plain (Change line why))) s = absurd s
   serves_so (Err (Plain (PastLimit limit))) s = inr (record { inputs = inputs; read = read; refuses = s; passes = passes limit s.run s.past })
   serves_so (Err (Plain (TooManyBuckets count))) s = absurd s

@@ -6,6 +6,7 @@ use Rattle.ps_files.specs.declared.faults.Fault.{Fault}
 use Rattle.ps_files.specs.declared.faults.Fault.TheVariants.{Usage, Rules, Change, PastLimit, TooManyBuckets, Claims, Keys, TooLong, CannotRead, CannotWrite, Script, Memory}
 use Rattle.ps_files.specs.declared.faults.Limit.{Limit}
 use Rattle.ps_files.specs.declared.faults.LineFault.{LineFault}
+use Rattle.ps_files.specs.declared.faults.RulesFile.{RulesFile}
 use Rattle.ps_files.specs.declared.faults.RulesCause.{RulesCause}
 use Rattle.ps_files.specs.Loading.{unread_name, JoinsThese}
 use Rattle.ps_files.specs.Saying.{Told}
@@ -62,7 +63,7 @@ module _ (may_give : ℕ → Type 0) (words : List (List ℕ)) (files files' : F
   abbrev pub IsCause : ServeFault → Type 0
   IsCause ConnectionFailed = Rose doors.faults doors'.faults × FailsOutside
   IsCause (Plain Usage) = AreRefused words
-  IsCause (Plain (Rules line column why)) = Stops (Rules line column why)
+  IsCause (Plain (Rules which line column why)) = Stops (Rules which line column why)
   IsCause (Plain (Change line why)) = Stops (Change line why)
   IsCause (Plain (PastLimit limit)) = Stops (PastLimit limit) ⊎ StopsLate limit
   IsCause (Plain (TooManyBuckets count)) = ⊥
@@ -79,7 +80,7 @@ module _ (may_give : ℕ → Type 0) (words : List (List ℕ)) (files files' : F
     pub done : status ≡ 0 → Serves
     pub usage : status ≡ 1 → AreRefused words
     pub unknown : AreRefused words → (status ≡ 1) ⊎ (status ≡ 8)
-    pub rules : status ≡ 2 → (line column : ℕ) × (why : RulesCause) × Stops (Rules line column why)
+    pub rules : status ≡ 2 → (which : RulesFile) × (line column : ℕ) × (why : RulesCause) × Stops (Rules which line column why)
     pub changes : status ≡ 3 → (line : ℕ) × (why : LineFault) × Stops (Change line why)
     pub keys : status ≡ 4 → Stops Keys
     pub limits : status ≡ 5 → ((seen : ℕ) × Stops (TooLong seen)) ⊎ ((limit : Limit) × (Stops (PastLimit limit) ⊎ StopsLate limit))

@@ -23,7 +23,7 @@ totals_line t =
 abbrev pub PrintsLine : List ℕ → Option (List ℕ) → Option (List ℕ) → ℕ → ℕ → Result (Unit {0}) Fault → Type 0
 PrintsLine line old new before now (Ok done) = Gains old new line
 PrintsLine line old new before now (Err Usage) = ⊥
-PrintsLine line old new before now (Err (Rules place column why)) = ⊥
+PrintsLine line old new before now (Err (Rules which place column why)) = ⊥
 PrintsLine line old new before now (Err (Change place why)) = ⊥
 PrintsLine line old new before now (Err (PastLimit limit)) = ⊥
 PrintsLine line old new before now (Err (TooManyBuckets count)) = ⊥

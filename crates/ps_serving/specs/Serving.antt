@@ -104,7 +104,7 @@ abbrev pub ServesFed : Fixed → Site → (ℕ → Type 0) → List Event → �
 ServesFed fixed site may_give start most doors doors' out out' (Ok done) = ServesAll fixed site may_give start most doors doors' out out'
 ServesFed fixed site may_give start most doors doors' out out' (Err ConnectionFailed) = Rose doors.faults doors'.faults × HasDrained fixed start doors doors'
 ServesFed fixed site may_give start most doors doors' out out' (Err (Plain Usage)) = ⊥
-ServesFed fixed site may_give start most doors doors' out out' (Err (Plain (Rules line column why))) = ⊥
+ServesFed fixed site may_give start most doors doors' out out' (Err (Plain (Rules which line column why))) = ⊥
 ServesFed fixed site may_give start most doors doors' out out' (Err (Plain (Change line why))) = ⊥
 ServesFed fixed site may_give start most doors doors' out out' (Err (Plain (PastLimit limit))) = RefusesChange fixed start doors doors' limit
 ServesFed fixed site may_give start most doors doors' out out' (Err (Plain (TooManyBuckets count))) = ⊥
@@ -123,7 +123,7 @@ abbrev pub Listens : List ℕ → SinkAt → SinkAt → ℕ → ℕ → Result (
 Listens address out out' before now (Ok done) = Gains out.taken out'.taken (listening_line address) × (now ≡ before)
 Listens address out out' before now (Err ConnectionFailed) = Rose before now × (out'.taken ≡ out.taken)
 Listens address out out' before now (Err (Plain Usage)) = ⊥
-Listens address out out' before now (Err (Plain (Rules line column why))) = ⊥
+Listens address out out' before now (Err (Plain (Rules which line column why))) = ⊥
 Listens address out out' before now (Err (Plain (Change line why))) = ⊥
 Listens address out out' before now (Err (Plain (PastLimit limit))) = ⊥
 Listens address out out' before now (Err (Plain (TooManyBuckets count))) = ⊥
@@ -207,7 +207,7 @@ module _ (may_give : ℕ → Type 0) (said : ServeWords) (files files' : FilesAt
   ServesSo (Ok done) = IsServed
   ServesSo (Err ConnectionFailed) = Rose doors.faults doors'.faults × Fails
   ServesSo (Err (Plain Usage)) = ⊥
-  ServesSo (Err (Plain (Rules line column why))) = IsStopped (Rules line column why)
+  ServesSo (Err (Plain (Rules which line column why))) = IsStopped (Rules which line column why)
   ServesSo (Err (Plain (Change line why))) = IsStopped (Change line why)
   ServesSo (Err (Plain (PastLimit limit))) = IsStopped (PastLimit limit) ⊎ IsRefusedLate limit
   ServesSo (Err (Plain (TooManyBuckets count))) = ⊥

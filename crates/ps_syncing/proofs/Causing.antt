@@ -28,7 +28,7 @@ at_stop o words e status some (inr stopped) = stopped
 
 at_least_one : (stop : Stop) → 0 < status_of stop
 at_least_one (Shared Usage) = omega arith
-at_least_one (Shared (Rules line column why)) = omega arith
+at_least_one (Shared (Rules which line column why)) = omega arith
 at_least_one (Shared (ChangeLine line why)) = omega arith
 at_least_one (Shared (PastLimit limit)) = omega arith
 at_least_one (Shared (TooManyBuckets count)) = omega arith
@@ -47,7 +47,7 @@ at_least_one Altered = omega arith
 
 at_most_nine : (fault : Fault) → status_of (Shared fault) ≤ 9
 at_most_nine Usage = omega arith
-at_most_nine (Rules line column why) = omega arith
+at_most_nine (Rules which line column why) = omega arith
 at_most_nine (ChangeLine line why) = omega arith
 at_most_nine (PastLimit limit) = omega arith
 at_most_nine (TooManyBuckets count) = omega arith

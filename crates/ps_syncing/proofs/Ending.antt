@@ -31,7 +31,7 @@ RunsSo-made service changes kept before now loaded new (Err fault) told synced p
 -- files that are refused end the command so, with nothing printed and no connection closed
 pub Causes-files : (o : Outside) (named : Named) (stop : Stop) → Unasked o → RefusesFiles o.held o.read_before o.read_now named stop → Causes o named stop
 Causes-files o named (Shared Usage) same said = said
-Causes-files o named (Shared (Rules line column why)) same said = said
+Causes-files o named (Shared (Rules which line column why)) same said = said
 Causes-files o named (Shared (ChangeLine line why)) same said = (same, said)
 Causes-files o named (Shared (PastLimit limit)) same said = (same.0, inl (same.1, said))
 Causes-files o named (Shared (TooManyBuckets count)) same said = said

@@ -22,7 +22,7 @@ use Rattle.ps_syncing.specs.Syncing.{RefusesFiles, TokenRead}
 pub LoadsSo-unread : {X : Type 0} (held : Option Contents) (name : List ℕ) (before now : ℕ) (Finds : X → List ℕ → Type 0) (Refuses : Stop → List ℕ → Type 0) (fault : Fault)
     → Loads {X = Vec ℕ Global} held name file_limit before now IsContent RefusesNothing (Err fault) → LoadsSo held name before now Finds Refuses (Err (Shared fault))
 LoadsSo-unread held name before now Finds Refuses Usage said = absurd said
-LoadsSo-unread held name before now Finds Refuses (Rules line column why) said = absurd said.2
+LoadsSo-unread held name before now Finds Refuses (Rules which line column why) said = absurd said.2
 LoadsSo-unread held name before now Finds Refuses (ChangeLine line why) said = absurd said.2
 LoadsSo-unread held name before now Finds Refuses (PastLimit limit) said = absurd said.2
 LoadsSo-unread held name before now Finds Refuses (TooManyBuckets count) said = absurd said.2
@@ -79,7 +79,7 @@ rose_since before middle now less rose = omega (arith, less, rose)
 pub RefusesFiles-token : (held : Option Contents) (before now : ℕ) (named : Named) (stop : Stop) → LoadsToken held named.token_file before now (Err stop)
     → RefusesFiles held before now named stop
 RefusesFiles-token held before now named (Shared Usage) said = said
-RefusesFiles-token held before now named (Shared (Rules line column why)) said = said
+RefusesFiles-token held before now named (Shared (Rules which line column why)) said = said
 RefusesFiles-token held before now named (Shared (ChangeLine line why)) (bytes, file, (is, none)) = cc
 RefusesFiles-token held before now named (Shared (PastLimit limit)) (bytes, file, (is, none)) = cc
 RefusesFiles-token held before now named (Shared (TooManyBuckets count)) said = said
@@ -99,7 +99,7 @@ RefusesFiles-token held before now named Altered said = said
 module _ (held : Option Contents) (before middle now : ℕ) (less : before ≤ middle) (named : Named) (token : TokenRead held named) (name : List ℕ) (is : named.upload ≡ Some name) where
   refused_upload : (stop : Stop) → LoadsUpload held name middle now (Err stop) → RefusesFiles held before now named stop
   refused_upload (Shared Usage) said = said
-  refused_upload (Shared (Rules line column why)) said = said
+  refused_upload (Shared (Rules which line column why)) said = said
   refused_upload (Shared (ChangeLine line why)) (bytes, file, (refused, same, read)) =
       record { name = name; is = is; token = token; bytes = bytes; file = file; refused = refused; read = read; fault_is = cc }
   refused_upload (Shared (PastLimit limit)) (bytes, file, (refused, same, read)) =

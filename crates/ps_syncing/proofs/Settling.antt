@@ -128,7 +128,7 @@ not_done o named text none done = none done.service done.changes done.prepared
 -- then its cause lies in the files
 of_files : (o : Outside) (named : Named) (stop : Stop) → NotPrepared o named → Causes o named stop → RefusesFiles o.held o.read_before o.read_now named stop
 of_files o named (Shared Usage) none causes = causes
-of_files o named (Shared (Rules line column why)) none causes = causes
+of_files o named (Shared (Rules which line column why)) none causes = causes
 of_files o named (Shared (ChangeLine line why)) none causes = causes.1
 of_files o named (Shared (PastLimit limit)) none (unprinted, inl (unasked, refuses)) = refuses
 of_files o named (Shared (PastLimit limit)) none (unprinted, inr (seen, is, failed)) = absurd (not_failed o named _ none failed)
@@ -168,7 +168,7 @@ line_or_limit line why limit same = cc
 line_decides : (o : Outside) (files : Contents) (named : Named) (line : ℕ) (why : LineFault) (stop : Stop) → o.held ≡ Some files
     → RefusesUpload o.held named (ChangeLine line why) → RefusesFiles o.held o.read_before o.read_now named stop → EndsAt 3 o (status_of stop)
 line_decides o files named line why (Shared Usage) told refuses other = absurd other
-line_decides o files named line why (Shared (Rules row column cause)) told refuses other = absurd other
+line_decides o files named line why (Shared (Rules which row column cause)) told refuses other = absurd other
 line_decides o files named line why (Shared (ChangeLine number cause)) told refuses other = inl refl
 line_decides o files named line why (Shared (PastLimit limit)) told refuses other =
     absurd (line_or_limit line why limit (one_fault o.held files named _ _ told refuses other))
@@ -190,7 +190,7 @@ line_decides o files named line why Altered told refuses other = absurd other
 limit_decides : (o : Outside) (files : Contents) (named : Named) (limit : Limit) (stop : Stop) → o.held ≡ Some files
     → RefusesUpload o.held named (PastLimit limit) → RefusesFiles o.held o.read_before o.read_now named stop → EndsAt 5 o (status_of stop)
 limit_decides o files named limit (Shared Usage) told refuses other = absurd other
-limit_decides o files named limit (Shared (Rules row column cause)) told refuses other = absurd other
+limit_decides o files named limit (Shared (Rules which row column cause)) told refuses other = absurd other
 limit_decides o files named limit (Shared (ChangeLine line why)) told refuses other =
     absurd (line_or_limit line why limit (one_fault o.held files named _ _ told other refuses))
 limit_decides o files named limit (Shared (PastLimit also)) told refuses other = inl refl
@@ -211,7 +211,7 @@ limit_decides o files named limit Altered told refuses other = absurd other
 token_decides : (o : Outside) (files : Contents) (named : Named) (stop : Stop) → o.held ≡ Some files
     → RefusesToken o.held named → RefusesFiles o.held o.read_before o.read_now named stop → EndsAt 4 o (status_of stop)
 token_decides o files named (Shared Usage) told refuses other = absurd other
-token_decides o files named (Shared (Rules row column cause)) told refuses other = absurd other
+token_decides o files named (Shared (Rules which row column cause)) told refuses other = absurd other
 token_decides o files named (Shared (ChangeLine line why)) told refuses other = absurd (no_token o.held files named told refuses other.token)
 token_decides o files named (Shared (PastLimit limit)) told refuses other = absurd (no_token o.held files named told refuses other.token)
 token_decides o files named (Shared (TooManyBuckets count)) told refuses other = absurd other
@@ -232,7 +232,7 @@ token_decides o files named Altered told refuses other = absurd other
 length_decides : (o : Outside) (files : Contents) (named : Named) (seen : ℕ) (stop : Stop) → o.held ≡ Some files
     → ExceedsFile o.held named seen → RefusesFiles o.held o.read_before o.read_now named stop → EndsAt 5 o (status_of stop)
 length_decides o files named seen (Shared Usage) told long other = absurd other
-length_decides o files named seen (Shared (Rules row column cause)) told long other = absurd other
+length_decides o files named seen (Shared (Rules which row column cause)) told long other = absurd other
 length_decides o files named seen (Shared (ChangeLine line why)) told long other =
     absurd (long_and_refused o.held files named seen long.name _ told long.next long.file long.more other)
 length_decides o files named seen (Shared (PastLimit limit)) told long other = inl refl
@@ -298,7 +298,7 @@ one_for_other_words o words e status none (inr (stop, stops, says)) = usage_or_m
 -- memory is the one fault without a cause
 is_memory : (stop : Stop) → (stop ≡ Shared Memory) ⊎ (stop ≢ Shared Memory)
 is_memory (Shared Usage) = inr (λ e. cc)
-is_memory (Shared (Rules line column why)) = inr (λ e. cc)
+is_memory (Shared (Rules which line column why)) = inr (λ e. cc)
 is_memory (Shared (ChangeLine line why)) = inr (λ e. cc)
 is_memory (Shared (PastLimit limit)) = inr (λ e. cc)
 is_memory (Shared (TooManyBuckets count)) = inr (λ e. cc)

@@ -16,7 +16,7 @@ use Rattle.ps_syncing.specs.Inputs.{changes_of}
 abbrev pub LoadsSo : {X : Type 0} → Option Contents → List ℕ → ℕ → ℕ → (X → List ℕ → Type 0) → (Stop → List ℕ → Type 0) → Result X Stop → Type 0
 LoadsSo held name before now Finds Refuses (Ok x) = (bytes : List ℕ) × HoldsWithin held name file_limit bytes × Finds x bytes
 LoadsSo held name before now Finds Refuses (Err (Shared Usage)) = ⊥
-LoadsSo held name before now Finds Refuses (Err (Shared (Rules line column why))) = ⊥
+LoadsSo held name before now Finds Refuses (Err (Shared (Rules which line column why))) = ⊥
 LoadsSo held name before now Finds Refuses (Err (Shared (ChangeLine line why))) =
     (bytes : List ℕ) × HoldsWithin held name file_limit bytes × Refuses (Shared (ChangeLine line why)) bytes
 LoadsSo held name before now Finds Refuses (Err (Shared (PastLimit limit))) =

@@ -93,7 +93,7 @@ pub record ExceedsFile (held : Option Contents) (named : Named) (seen : ℕ) : T
 -- why words that are read lead to no request, where the faults of the files were so many before, and are so many now
 abbrev pub RefusesShared : Option Contents → ℕ → ℕ → Named → Fault → Type 0
 RefusesShared held before now named Usage = ⊥
-RefusesShared held before now named (Rules line column why) = ⊥
+RefusesShared held before now named (Rules which line column why) = ⊥
 RefusesShared held before now named (ChangeLine line why) = RefusesUpload held named (ChangeLine line why)
 RefusesShared held before now named (PastLimit limit) = RefusesUpload held named (PastLimit limit)
 RefusesShared held before now named (TooManyBuckets count) = ⊥
@@ -169,7 +169,7 @@ FailsToPrint o named = (text : List ℕ) × IsDone o named text × GainsFront o.
 -- why words that are read end so
 abbrev pub CausesShared : Outside → Named → Fault → Type 0
 CausesShared o named Usage = ⊥
-CausesShared o named (Rules line column why) = ⊥
+CausesShared o named (Rules which line column why) = ⊥
 CausesShared o named (ChangeLine line why) = Unasked o × RefusesUpload o.held named (ChangeLine line why)
 CausesShared o named (PastLimit limit) = Unprinted o × ExceedsLimit o named limit
 CausesShared o named (TooManyBuckets count) = ⊥

@@ -19,6 +19,8 @@ pub struct Marks {
     pub passed: bool,
     /// Whether a bucket was removed from a client.
     pub removed: bool,
+    /// Whether new rules came into force.
+    pub switched: bool,
     /// How many checkpoints were applied.
     pub applied: u64,
     /// How many were held.
@@ -28,7 +30,13 @@ pub struct Marks {
 /// What is known of a store.
 #[derive(Drop)]
 pub struct Beside {
+    // The first rules, and those of each later generation.
     rules: Rules,
+    next: Rules,
+    // The generation that is being built, if one is.
+    building: Option<u32>,
+    /// The generation in force.
+    pub force: u32,
     // The transactions that are not fed yet.
     left: VecDeque<Transaction>,
     // Those that are fed, uploads among them.
@@ -53,11 +61,20 @@ fn queue_of(alloc: Global, transactions: &[Transaction]) -> Result<VecDeque<Tran
 
 impl Beside {
     /// What is known before the first event.
-    pub fn new(alloc: Global, rules: &Rules, transactions: &[Transaction]) -> Result<Beside, Stop> {
+    pub fn new(
+        alloc: Global,
+        rules: &Rules,
+        next: &Rules,
+        transactions: &[Transaction],
+    ) -> Result<Beside, Stop> {
         let left = queue_of(alloc, transactions)?;
         let rules = rules.copy(alloc)?;
+        let next = next.copy(alloc)?;
         Ok(Beside {
             rules,
+            next,
+            building: None,
+            force: 1,
             left,
             fed: Vec::new(alloc),
             written: 0,
@@ -66,6 +83,7 @@ impl Beside {
                 gave_up: false,
                 passed: false,
                 removed: false,
+                switched: false,
                 applied: 0,
                 held: 0,
             },
@@ -133,6 +151,53 @@ impl Beside {
         )
     }
 
+    /// A generation began.
+    pub fn deploy(&mut self, generation: u32) -> Result<(), Stop> {
+        expect(self.building.is_none(), "two generations are built")?;
+        self.building = Some(generation);
+        Ok(())
+    }
+
+    /// A generation is being built.
+    pub fn is_building(&self) -> Result<(), Stop> {
+        expect(self.building.is_some(), "no generation is built")
+    }
+
+    /// No generation is being built.
+    pub fn builds_none(&self) -> Result<(), Stop> {
+        expect(self.building.is_none(), "a generation is built")
+    }
+
+    /// The generation that was being built came into force, at a position.
+    pub fn switch(&mut self, position: Position) -> Result<(), Stop> {
+        match self.building {
+            Some(generation) => self.force = generation,
+            None => expect(false, "no generation was built")?,
+        }
+        self.building = None;
+        self.marks.switched = true;
+        self.commit(position)
+    }
+
+    /// The generation that was being built was dropped.
+    pub fn abandon(&mut self, generation: u32) -> Result<(), Stop> {
+        expect(
+            self.building == Some(generation),
+            "another generation was dropped",
+        )?;
+        self.building = None;
+        Ok(())
+    }
+
+    // The rules of a generation.
+    fn rules_of(&self, generation: u32) -> &Rules {
+        if generation == 1 {
+            &self.rules
+        } else {
+            &self.next
+        }
+    }
+
     /// The totals are those of what was fed and written.
     pub fn are_totals(&self, totals: &Totals) -> Result<(), Stop> {
         expect(
@@ -145,15 +210,16 @@ impl Beside {
         )
     }
 
-    /// The rows that are due to an asker at a position.
+    /// The rows that are due to an asker at a position, by the rules of a generation.
     pub fn due(
         &self,
         alloc: Global,
         asker: &Asker,
         position: Position,
+        generation: u32,
     ) -> Result<Items<Shown>, Memory> {
         let source = source_at(alloc, self.fed.as_slice(), position)?;
-        let copies = grants_of(alloc, &self.rules, asker, &source)?;
+        let copies = grants_of(alloc, self.rules_of(generation), asker, &source)?;
         rows_of(alloc, copies.as_slice())
     }
 }

@@ -63,6 +63,12 @@ fn note(beside: &mut Beside, effect: &Effect) -> Result<(), Stop> {
         Effect::Committed { checkpoint } => beside.commit(checkpoint.position),
         Effect::NothingToCommit => beside.has_committed(),
         Effect::Totals { totals } => beside.are_totals(totals),
+        Effect::Generation { generation } => beside.deploy(*generation),
+        Effect::Abandoned { generation } => beside.abandon(*generation),
+        Effect::Building { .. } | Effect::Built { .. } | Effect::NothingToBuild => {
+            beside.is_building()
+        }
+        Effect::NothingBuilding => beside.builds_none(),
         Effect::Closed
         | Effect::NothingToWrite
         | Effect::Compacted { .. }
@@ -78,6 +84,23 @@ fn note(beside: &mut Beside, effect: &Effect) -> Result<(), Stop> {
 pub fn play(alloc: Global, stage: &mut Stage, beside: &mut Beside, line: &str) -> Result<(), Stop> {
     let effect = effect(alloc, stage, beside, line)?;
     note(beside, &effect)
+}
+
+fn note_switch(beside: &mut Beside, effect: &Effect) -> Result<(), Stop> {
+    match effect {
+        Effect::Committed { checkpoint } => beside.switch(checkpoint.position),
+        Effect::NotBuilt { .. } | Effect::HalfWritten { .. } => beside.is_building(),
+        Effect::NothingBuilding => beside.builds_none(),
+        _ => Err(Stop::Differs {
+            what: "no effect of a switch",
+        }),
+    }
+}
+
+/// The generation that is being built comes into force, where it may.
+pub fn switch(alloc: Global, stage: &mut Stage, beside: &mut Beside) -> Result<(), Stop> {
+    let effect = effect(alloc, stage, beside, "switch")?;
+    note_switch(beside, &effect)
 }
 
 // ---- rows
@@ -96,16 +119,17 @@ fn shown(
     }
 }
 
-/// A client shows exactly the rows that are due to it at a position.
+/// A client shows exactly the rows that are due to it at a position, by the rules of a generation.
 pub fn shows_what_is_due(
     alloc: Global,
     stage: &mut Stage,
     beside: &mut Beside,
     reader: &Reader,
     position: Position,
+    generation: u32,
 ) -> Result<(), Stop> {
     let shown = shown(alloc, stage, beside, reader)?;
-    let due = beside.due(alloc, &reader.asker, position)?;
+    let due = beside.due(alloc, &reader.asker, position, generation)?;
     expect(
         shown.as_slice() == due.as_slice(),
         "a client shows other rows than are due",
@@ -141,6 +165,7 @@ fn begin(
 ) -> Result<(), Stop> {
     let begun = Begun {
         position: beside.checkpoint,
+        generation: beside.force,
         op,
         number: number.unwrap_or(0),
     };
@@ -217,8 +242,15 @@ fn note_applied(
 ) -> Result<(), Stop> {
     beside.marks.applied = beside.marks.applied.wrapping_add(1);
     reader.take()?;
-    let position = reader.applied(op)?;
-    shows_what_is_due(alloc, stage, beside, reader, position)
+    let begun = reader.applied(op)?;
+    shows_what_is_due(
+        alloc,
+        stage,
+        beside,
+        reader,
+        begun.position,
+        begun.generation,
+    )
 }
 
 // Whether there was a line.

@@ -12,6 +12,8 @@ use std::collections::VecDeque;
 pub struct Begun {
     /// Its position, which no line has.
     pub position: Position,
+    /// The generation in force there.
+    pub generation: u32,
     /// Its op.
     pub op: OpId,
     /// The number of a write checkpoint that it covers, 0 where there is none.
@@ -181,7 +183,7 @@ impl Reader {
     }
 
     /// The checkpoint that the client applied, which is the one that it took, has its op, and covers its own uploads.
-    pub fn applied(&self, op: OpId) -> Result<Position, Stop> {
+    pub fn applied(&self, op: OpId) -> Result<Begun, Stop> {
         self.waits_for_none()?;
         match self.begun {
             Some(begun) => {
@@ -190,7 +192,7 @@ impl Reader {
                     self.covers(begun.number, begun.position),
                     "an own upload is missing",
                 )?;
-                Ok(begun.position)
+                Ok(begun)
             }
             None => Err(Stop::Differs {
                 what: "applied no checkpoint",

@@ -3,7 +3,10 @@
 use crate::beside::{Beside, Marks};
 use crate::chance::Chance;
 use crate::changes::{push_change, transactions};
-use crate::playing::{cut, number, open, play, shows_what_is_due, take, turn, upload, write};
+use crate::kinds::Kind;
+use crate::playing::{
+    cut, number, open, play, shows_what_is_due, switch, take, turn, upload, write,
+};
 use crate::readers::Reader;
 use crate::stages::Stage;
 use crate::stops::Stop;
@@ -34,13 +37,8 @@ pub struct Played {
 
 // ---- clients
 
-fn reader(
-    alloc: Global,
-    name: &'static str,
-    user: &str,
-    has_uploads: bool,
-) -> Result<Reader, Memory> {
-    if has_uploads {
+fn reader(alloc: Global, name: &'static str, user: &str, kind: Kind) -> Result<Reader, Memory> {
+    if kind.has_uploads() {
         let client = Text::from_str(alloc, name)?;
         Reader::new(alloc, name, user, Some(client))
     } else {
@@ -53,16 +51,16 @@ fn add_reader(
     readers: &mut Vec<Reader>,
     name: &'static str,
     user: &str,
-    has_uploads: bool,
+    kind: Kind,
 ) -> Result<(), Stop> {
-    Ok(readers.push(reader(alloc, name, user, has_uploads)?)?)
+    Ok(readers.push(reader(alloc, name, user, kind)?)?)
 }
 
-fn readers(alloc: Global, has_uploads: bool) -> Result<Vec<Reader>, Stop> {
+fn readers(alloc: Global, kind: Kind) -> Result<Vec<Reader>, Stop> {
     let mut readers = Vec::new(alloc);
-    add_reader(alloc, &mut readers, "a", "ann", has_uploads)?;
-    add_reader(alloc, &mut readers, "b", "ann", has_uploads)?;
-    add_reader(alloc, &mut readers, "c", "bob", has_uploads)?;
+    add_reader(alloc, &mut readers, "a", "ann", kind)?;
+    add_reader(alloc, &mut readers, "b", "ann", kind)?;
+    add_reader(alloc, &mut readers, "c", "bob", kind)?;
     Ok(readers)
 }
 
@@ -70,9 +68,9 @@ fn play_clients(
     alloc: Global,
     stage: &mut Stage,
     beside: &mut Beside,
-    has_uploads: bool,
+    kind: Kind,
 ) -> Result<(), Stop> {
-    let (a, b, c) = if has_uploads {
+    let (a, b, c) = if kind.has_uploads() {
         (
             "client a {\"token\":{\"sub\":\"ann\"},\"client_id\":\"a\"}",
             "client b {\"token\":{\"sub\":\"ann\"},\"client_id\":\"b\"}",
@@ -109,7 +107,12 @@ fn compact(
     beside: &mut Beside,
     bucket: &str,
 ) -> Result<(), Stop> {
-    let line = format!(in alloc; "compact {bucket}")?;
+    let force = beside.force;
+    let line = if force == 1 {
+        format!(in alloc; "compact {bucket}")?
+    } else {
+        format!(in alloc; "compact {force}#{bucket}")?
+    };
     play(alloc, stage, beside, line.as_str())
 }
 
@@ -173,6 +176,46 @@ fn change_store(
             compact_one(alloc, stage, beside, place)
         }
         _ => overtake(alloc, stage, beside, few),
+    }
+}
+
+// ---- new rules
+
+// Builds a batch of one of the sizes, from one change to all.
+fn build_some(
+    alloc: Global,
+    stage: &mut Stage,
+    beside: &mut Beside,
+    chance: &mut Chance,
+) -> Result<(), Stop> {
+    let limit = match chance.below(3) {
+        0 => 1000000,
+        _ => chance.below(3).wrapping_add(1),
+    };
+    play_number(alloc, stage, beside, "build", limit)
+}
+
+// A generation is built to its end, and comes into force where no transaction is written in part.
+fn take_over(alloc: Global, stage: &mut Stage, beside: &mut Beside) -> Result<(), Stop> {
+    play(alloc, stage, beside, "deploy")?;
+    play(alloc, stage, beside, "write 1000000")?;
+    play(alloc, stage, beside, "build 1000000")?;
+    switch(alloc, stage, beside)
+}
+
+// An event of new rules, or some.
+fn renew_some(
+    alloc: Global,
+    stage: &mut Stage,
+    beside: &mut Beside,
+    chance: &mut Chance,
+) -> Result<(), Stop> {
+    match chance.below(12) {
+        0 | 1 | 2 => play(alloc, stage, beside, "deploy"),
+        3 | 4 | 5 | 6 => build_some(alloc, stage, beside, chance),
+        7 | 8 | 9 => switch(alloc, stage, beside),
+        10 => play(alloc, stage, beside, "abandon"),
+        _ => take_over(alloc, stage, beside),
     }
 }
 
@@ -262,9 +305,9 @@ fn use_client(
     beside: &mut Beside,
     reader: &mut Reader,
     chance: &mut Chance,
-    has_uploads: bool,
+    kind: Kind,
 ) -> Result<(), Stop> {
-    if has_uploads && chance.below(4) == 0 {
+    if kind.has_uploads() && chance.below(4) == 0 {
         upload_some(alloc, stage, beside, reader, chance)
     } else {
         stream_some(alloc, stage, beside, reader, chance)
@@ -277,11 +320,11 @@ fn use_one(
     beside: &mut Beside,
     readers: &mut [Reader],
     chance: &mut Chance,
-    has_uploads: bool,
+    kind: Kind,
 ) -> Result<(), Stop> {
     let place = chance.below(3);
     match readers.get_mut(place as usize) {
-        Some(reader) => use_client(alloc, stage, beside, reader, chance, has_uploads),
+        Some(reader) => use_client(alloc, stage, beside, reader, chance, kind),
         None => Err(Stop::Broken),
     }
 }
@@ -293,14 +336,16 @@ fn play_some(
     beside: &mut Beside,
     readers: &mut [Reader],
     chance: &mut Chance,
-    has_uploads: bool,
+    kind: Kind,
 ) -> Result<(), Stop> {
     let count = chance.below(40).wrapping_add(10);
     'events: for _ in 0..count {
-        if chance.below(5) == 0 {
+        if kind.has_deploys() && chance.below(6) == 0 {
+            renew_some(alloc, stage, beside, chance)?;
+        } else if chance.below(5) == 0 {
             change_store(alloc, stage, beside, chance)?;
         } else {
-            use_one(alloc, stage, beside, readers, chance, has_uploads)?;
+            use_one(alloc, stage, beside, readers, chance, kind)?;
         }
     }
     Ok(())
@@ -375,8 +420,15 @@ fn catch_up(
     }
     turn_all(alloc, stage, beside, reader)?;
     take_all(alloc, stage, beside, reader)?;
-    let position = beside.checkpoint;
-    shows_what_is_due(alloc, stage, beside, reader, position)
+    let (position, generation) = (beside.checkpoint, beside.force);
+    shows_what_is_due(alloc, stage, beside, reader, position, generation)
+}
+
+// New rules come into force once all is written.
+fn take_over_last(alloc: Global, stage: &mut Stage, beside: &mut Beside) -> Result<(), Stop> {
+    play(alloc, stage, beside, "deploy")?;
+    play(alloc, stage, beside, "build 1000000")?;
+    switch(alloc, stage, beside)
 }
 
 // All is fed, uploaded, written and committed, and each client takes it.
@@ -385,15 +437,18 @@ fn finish(
     stage: &mut Stage,
     beside: &mut Beside,
     readers: &mut [Reader],
-    has_uploads: bool,
+    kind: Kind,
 ) -> Result<(), Stop> {
     play(alloc, stage, beside, "feed 1000000")?;
-    if has_uploads {
+    if kind.has_uploads() {
         upload_everything(alloc, stage, beside, readers)?;
     }
     play(alloc, stage, beside, "close")?;
     play(alloc, stage, beside, "write 1000000")?;
     play(alloc, stage, beside, "commit")?;
+    if kind.has_deploys() {
+        take_over_last(alloc, stage, beside)?;
+    }
     play(alloc, stage, beside, "totals")?;
     'readers: for reader in readers {
         catch_up(alloc, stage, beside, reader)?;
@@ -407,11 +462,11 @@ fn play_all(
     beside: &mut Beside,
     readers: &mut [Reader],
     chance: &mut Chance,
-    has_uploads: bool,
+    kind: Kind,
 ) -> Result<(), Stop> {
-    play_clients(alloc, stage, beside, has_uploads)?;
-    play_some(alloc, stage, beside, readers, chance, has_uploads)?;
-    finish(alloc, stage, beside, readers, has_uploads)
+    play_clients(alloc, stage, beside, kind)?;
+    play_some(alloc, stage, beside, readers, chance, kind)?;
+    finish(alloc, stage, beside, readers, kind)
 }
 
 // Plays a script on a stage.
@@ -420,10 +475,10 @@ fn play_on(
     stage: &mut Stage,
     beside: &mut Beside,
     chance: &mut Chance,
-    has_uploads: bool,
+    kind: Kind,
 ) -> Result<Played, Stop> {
-    let mut readers = readers(alloc, has_uploads)?;
-    let played = play_all(alloc, stage, beside, &mut readers, chance, has_uploads);
+    let mut readers = readers(alloc, kind)?;
+    let played = play_all(alloc, stage, beside, &mut readers, chance, kind);
     let stopped = match played {
         Ok(()) => None,
         Err(Stop::Differs { what }) => Some(what),
@@ -440,14 +495,16 @@ fn play_on(
 pub fn play_script(
     alloc: Global,
     rules: &Rules,
+    next: &Rules,
     chance: &mut Chance,
-    has_uploads: bool,
+    kind: Kind,
 ) -> Result<Played, Stop> {
     let count = chance.below(20).wrapping_add(2);
-    let gap = if has_uploads { 12 } else { 3 };
+    let gap = if kind.has_uploads() { 12 } else { 3 };
     let file = transactions(alloc, chance, count, gap)?;
-    let mut beside = Beside::new(alloc, rules, file.as_slice())?;
+    let mut beside = Beside::new(alloc, rules, next, file.as_slice())?;
     let rules = rules.copy(alloc)?;
-    let mut stage = Stage::new(alloc, rules, file)?;
-    play_on(alloc, &mut stage, &mut beside, chance, has_uploads)
+    let next = next.copy(alloc)?;
+    let mut stage = Stage::new(alloc, rules, file, next)?;
+    play_on(alloc, &mut stage, &mut beside, chance, kind)
 }

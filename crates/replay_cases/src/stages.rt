@@ -29,11 +29,16 @@ impl Model for Stage {
 }
 
 impl Stage {
-    /// A world before its first event.
-    pub fn new(alloc: Global, rules: Rules, transactions: Vec<Transaction>) -> Result<Stage, Memory>
+    /// A world before its first event, whose deploys take the next rules.
+    pub fn new(
+        alloc: Global,
+        rules: Rules,
+        transactions: Vec<Transaction>,
+        next: Rules,
+    ) -> Result<Stage, Memory>
         requires { AreLow transactions.items }
     {
-        let world = World::new(alloc, rules, transactions)?;
+        let world = World::new(alloc, rules, transactions, Some(next))?;
         Ok(Stage { world })
     }
 

@@ -27,6 +27,10 @@ pub fn show_event(out: &mut String, event: &ScriptEvent) -> Result<(), Memory> {
         ScriptEvent::Number { name } => push_named(out, "number", name),
         ScriptEvent::Rows { name } => push_named(out, "rows", name),
         ScriptEvent::Totals => out.push_str("totals"),
+        ScriptEvent::Deploy => out.push_str("deploy"),
+        ScriptEvent::Build { limit } => write!(out, "build {limit}"),
+        ScriptEvent::Switch => out.push_str("switch"),
+        ScriptEvent::Abandon => out.push_str("abandon"),
     };
     Ok(written?)
 }

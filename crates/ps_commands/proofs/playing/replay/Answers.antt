@@ -6,4 +6,4 @@ use Rattle.ps_commands.proofs.playing.replay.Goals as goal
 pub returns : goal.returns
 returns g c =
     let fixed : Fixed = record { rules = c.args.rules; limits = usual_limits } in
-    c.play_lines.ensures fixed (first_play c.args.transactions.items) c.in_ok-world.ensures (c.plays_begin_led.ensures fixed c.args.transactions.items)
+    c.play_lines.ensures fixed (first_play c.args.transactions.items c.args.next) c.in_ok-world.ensures (c.plays_begin_led.ensures fixed c.args.transactions.items c.args.next)

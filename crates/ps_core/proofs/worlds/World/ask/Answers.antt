@@ -17,7 +17,7 @@ returns-in-None c = λ fixed play it.
 
 pub returns-in-Some : goal.returns-in-Some
 returns-in-Some c = λ fixed play it.
-    acted c.places_are_fronts.ensures.stay fixed c.args.self.now _ play (event_of c.args.name.now c.args.asked) c.args.name.now c.act.new.reader c.act.result it refl refl
+    acted c.places_are_fronts.ensures.stay fixed c.args.self.now _ play (event_of c.args.name.now c.args.asked) c.args.name.now c.act.new.reader c.act.result it refl refl refl
     (is_put c.args.self.now.readers (c.get_mut.follows.lender c.act.new.reader) c.args.name.now c.act.new.reader
     ((c.get_mut.follows.holds c.act.new.reader).3 (subst IsSome c.in-Some.ensures.value refl)).0)
     (c.act.ensures fixed play (is_at_name fixed c.args.self.now play c.args.name.now c.in-Some.reader.now it (sym c.in-Some.ensures.value)))

@@ -12,7 +12,7 @@ returns-in-Some c = λ fixed play it.
 
 pub returns-in-Ok : goal.returns-in-Ok
 returns-in-Ok c = λ fixed play it.
-    began c.places_are_fronts.ensures.stay fixed c.args.self.now _ play c.args.name.now c.args.asker.now c.in-Ok.effect it refl refl refl (ap is_some (sym c.in-None.ensures.value)) c.in-Ok.ensures
+    began c.places_are_fronts.ensures.stay fixed c.args.self.now _ play c.args.name.now c.args.asker.now c.in-Ok.effect it refl refl refl refl (ap is_some (sym c.in-None.ensures.value)) c.in-Ok.ensures
 
 pub returns-in-Err : goal.returns-in-Err
 returns-in-Err c = λ fixed play it. may_begin fixed c.args.self.now play c.args.name.now c.args.asker.now it (ap is_some (sym c.in-None.ensures.value))

@@ -4,4 +4,4 @@ use Rattle.ps_core.proofs.WorldSteps.{went_still}
 use Rattle.ps_core.proofs.worlds.World.close.Goals as goal
 
 pub returns : goal.returns
-returns c = λ fixed play it. went_still c.places_are_fronts.ensures.stay fixed c.args.self.now _ play events.Close c.close.result it (c.close.ensures fixed play it.stands) refl refl refl
+returns c = λ fixed play it. went_still c.places_are_fronts.ensures.stay fixed c.args.self.now _ play events.Close c.close.result it (c.close.ensures fixed play it.stands) refl refl refl refl

@@ -4,4 +4,4 @@ use Rattle.ps_core.proofs.WorldSteps.{went_still}
 use Rattle.ps_core.proofs.worlds.World.commit.Goals as goal
 
 pub returns : goal.returns
-returns c = λ fixed play it. went_still c.places_are_fronts.ensures.stay fixed c.args.self.now _ play events.Commit c.commit.result it (c.commit.ensures fixed play it.stands) refl refl refl
+returns c = λ fixed play it. went_still c.places_are_fronts.ensures.stay fixed c.args.self.now _ play events.Commit c.commit.result it (c.commit.ensures fixed play it.stands) refl refl refl refl

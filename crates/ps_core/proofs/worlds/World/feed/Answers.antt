@@ -9,7 +9,7 @@ feed-requires c = let r = c.requires in (r.0, r.1, left_of r.0 c.args.self.now r
 pub returns-in-Ok : goal.returns-in-Ok
 returns-in-Ok c = λ fixed play it.
     went_feeding c.places_are_fronts.ensures.stay fixed c.args.self.now _ play c.args.count c.in-Ok.effect it (c.in-Ok.ensures fixed play (left_of fixed c.args.self.now play it))
-    (counted c.args.count (omega arith) (omega arith)) refl refl
+    (counted c.args.count (omega arith) (omega arith)) refl refl refl
 
 pub returns-in-Err : goal.returns-in-Err
 returns-in-Err c = λ fixed play it. counted c.args.count (omega arith) (omega arith)

@@ -6,7 +6,7 @@ use Rattle.ps_core.proofs.worlds.World.write.Goals as goal
 
 pub returns-in-Ok : goal.returns-in-Ok
 returns-in-Ok c = λ fixed play it.
-    went_still c.places_are_fronts.ensures.stay fixed c.args.self.now _ play (events.Write c.args.limit) c.in-Ok.effect it (c.in-Ok.ensures fixed play it.stands) refl refl refl
+    went_still c.places_are_fronts.ensures.stay fixed c.args.self.now _ play (events.Write c.args.limit) c.in-Ok.effect it (c.in-Ok.ensures fixed play it.stands) refl refl refl refl
 
 pub returns-in-Err : goal.returns-in-Err
 returns-in-Err c = λ fixed play it. counted c.args.limit (omega arith) (omega arith)
