@@ -11,6 +11,7 @@ use Rattle.std.specs.Cmp.Lexicographic.{slice_cmp, nat_list_cmp_total}
 use Rattle.std.specs.declared.cmp.Ordering.{Ordering}
 use Rattle.std.specs.declared.cmp.Ordering.TheVariants.{Less, Equal}
 use Rattle.std.proofs.lemmas.Slice.Eq.{bytes_eq-Decides}
+use Rattle.std.proofs.lemmas.Map.Lookups.{exact_bytes}
 use Rattle.ps_data.specs.declared.ids.Position.{Position}
 use Rattle.ps_bucket_log.specs.declared.ops.Key.{Key}
 use Rattle.ps_bucket_log.specs.declared.ops.Op.{Op}
@@ -113,7 +114,7 @@ module _ (op : ℕ) (log : List ℕ → List Op) where
   none_told name (q ∷ names) h = by (bytes_eq name q) refl (none_told name names (λ y i. h y (inr i)))
     where
       by : (b : Bool) → bytes_eq name q ≡ b → bucket_in name (told names) ≡ None → (if b then Some (bucket_upto op q (log q)) else bucket_in name (told names)) ≡ None
-      by true e rest = absurd (never name_cmp nat_list_cmp_total name (subst (λ (z : List ℕ). slice_cmp nat_cmp name z ≡ Less) (sym ((bytes_eq-Decides name q).0 e)) (h q (inl refl))))
+      by true e rest = absurd (never name_cmp nat_list_cmp_total exact_bytes name (subst (λ (z : List ℕ). slice_cmp nat_cmp name z ≡ Less) (sym ((bytes_eq-Decides name q).0 e)) (h q (inl refl))))
       by false e rest = rest
 
   told_apart : (names : List (List ℕ)) → Rises name_cmp names → AreApart (told names)
