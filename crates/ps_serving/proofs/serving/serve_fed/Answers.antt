@@ -46,8 +46,8 @@ returns g c =
       alone = λ same.
           let taken = c.in_ok-seat.ensures.taken.opened_is in
           let none : c.in_ok-seat.ends.connections.connections ≡ 0 = omega (arith, same, taken) in
-          let count : c.totals_in_turn-seat.totals.transactions ≡ c.args.fed = ? in
-          let told : c.totals_in_turn-seat.totals.transactions ≡ length (fed_in history) =
+          let count : c.totals_in_turn-seat.result.2.transactions ≡ c.args.fed = c.in_ok-fed_by_connections.ensures none in
+          let told : c.totals_in_turn-seat.result.2.transactions ≡ length (fed_in history) =
           ap (λ (t : Totals). t.transactions) turn.1.totals_are ∙ ap length (c.ledgers_tell_events.ensures.feeds fixed.rules history).fed in
           fed_same start history begins (sym told ∙ (count ∙ c.requires.fed));
     } in
