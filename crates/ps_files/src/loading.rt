@@ -55,7 +55,7 @@ pub fn load_rules<'a, F: Files>(
 
 // A fault of rules as one of the next rules.
 fn of_next<'a>(fault: Fault<'a>) -> Fault<'a>
-    ensures { result ≡ next_fault fault }
+    ensures { result ≡ next_fault fault.entry }
 {
     match fault {
         Fault::Rules {
