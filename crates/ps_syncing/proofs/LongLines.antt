@@ -7,7 +7,6 @@ use Rattle.std.proofs.lemmas.List.Elements.{All-append, All-contains, All-cons, 
 use Rattle.std.proofs.Math.ListN.{get_or-append}
 use Rattle.std.proofs.Math.Seq.{drop-append_seam, get_or-append_right, get_or-append_seam}
 use Rattle.httparse.specs.Grammar.{LineEnd, ResponseHead, crlf, lf, print_blank, print_end, print_field, print_reason, print_response, print_version}
-use Rattle.ps_io.specs.Counts.{Rose}
 use Rattle.ps_rows.specs.declared.changes.Change.{Change}
 use Rattle.ps_doors.specs.Connections.{Connection}
 use Rattle.ps_answers.specs.Heads.{IsAnswerHead}
@@ -18,20 +17,18 @@ use Rattle.ps_client_log.specs.Kept.{Kept}
 use Rattle.ps_client.specs.Clients.{PlainClient, asked, is_pending}
 use Rattle.ps_client.specs.LocalWrites.{keeping}
 use Rattle.ps_client.specs.declared.events.Event.{Event}
-use Rattle.ps_files.specs.Saying.{Told}
 use Rattle.ps_files.specs.declared.faults.Fault.TheVariants.{Usage, Rules, Change as ChangeLine, PastLimit, TooManyBuckets, Claims, Keys, TooLong, CannotRead, CannotWrite, Script, Memory}
 use Rattle.ps_syncing.specs.declared.services.Service.{Service}
 use Rattle.ps_syncing.specs.declared.stops.Stop.{Stop}
 use Rattle.ps_syncing.specs.declared.stops.Stop.TheVariants.{Shared, Token, ConnectionFailed, NoCheckpoint, Answered, Altered}
 use Rattle.ps_syncing.specs.declared.words.Named.{Named}
-use Rattle.ps_syncing.specs.Exchanges.{Closes, Exchange, HasHead, HasNoHead, IsRefused, exchange_of}
+use Rattle.ps_syncing.specs.Exchanges.{Closes, Exchange, HasNoHead, IsRefused, exchange_of}
 use Rattle.ps_syncing.specs.Laws.{EndsAtFive, FiveForALongLine, HasLongStream}
-use Rattle.ps_syncing.specs.Numbers.{IsNumber, IsUpload}
-use Rattle.ps_syncing.specs.Runs.{AimsWhere, AreRefused, AreShort, AreStreams, AreUploads, ClosesLast, ClosesRefused, IsLongStream, IsLost, IsLostStream, IsShort, IsStreamWith, emptied, next, none, written_all}
+use Rattle.ps_syncing.specs.Runs.{AimsWhere, AreRefused, AreShort, AreStreams, AreUploads, ClosesLast, ClosesRefused, IsLost, IsShort, IsStreamWith, emptied, next, none, written_all}
 use Rattle.ps_syncing.specs.Saying.{status_of}
 use Rattle.ps_syncing.specs.Steps.{AimsAt, IsSynced, UploadsAll}
-use Rattle.ps_syncing.specs.Streams.{EndsApplied, EndsBy, EndsOpen, EndsRefused, Flows, IsAltered, Passes, next_line, no_lines}
-use Rattle.ps_syncing.specs.Syncing.{Causes, EndsSo, IsDone, Outside, StopsBy}
+use Rattle.ps_syncing.specs.Streams.{EndsBy, EndsOpen, Flows, IsAltered, Passes, next_line, no_lines}
+use Rattle.ps_syncing.specs.Syncing.{Causes, IsDone, Outside, StopsBy}
 use Rattle.ps_syncing.proofs.Failing.{Closes-none}
 
 -- ---- bytes
@@ -254,7 +251,7 @@ not_unasked o has same = not_short o has (closes_none o.closed_before o.closed_n
 
 cause_decides : (o : Outside) (named : Named) (stop : Stop) → HasLongStream o → Causes o named stop → EndsAtFive o (status_of stop)
 cause_decides o named (Shared Usage) has causes = absurd causes
-cause_decides o named (Shared (Rules line column why)) has causes = absurd causes
+cause_decides o named (Shared (Rules which line column why)) has causes = absurd causes
 cause_decides o named (Shared (ChangeLine line why)) has causes = absurd (not_unasked o has causes.0.1)
 cause_decides o named (Shared (PastLimit limit)) has causes = inl refl
 cause_decides o named (Shared (TooManyBuckets count)) has causes = absurd causes
