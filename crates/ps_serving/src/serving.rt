@@ -154,7 +154,7 @@ fn serve<
         until_drained: words.until_drained,
     };
     let stack = stack_of(&rules);
-    let fed = transactions.len() as u64;
+    let fed = transactions.as_slice().len() as u64;
     let (lock, seat) = open_fed(
         tools.rt,
         tools.alloc,

@@ -1,9 +1,13 @@
-use Rattle.std.proofs.Common.{◌≡◌, rules}
+use Rattle.std.proofs.Common.{◌≡◌, ◌∙◌, length, ap, arith, rules}
+use Rattle.std.proofs.lemmas.Grind.{common_steps}
 use Rattle.std.proofs.lemmas.Result.{err_from_is_err_and}
 use Rattle.ps_lock.specs.Words.{seen_by}
 use Rattle.ps_serve.specs.declared.sites.Site.{Site}
+use Rattle.ps_store.specs.LedgerLaws.{fed_in}
 use Rattle.ps_workers.specs.Sharing.{fixed_of}
+use Rattle.ps_serving.specs.Openings.{opening}
 use Rattle.ps_serving.specs.Serving.{FilesAt, DoorsAt, SinkAt, ServesFed, fixed_by, site_by, opening_by, most_of}
+use Rattle.ps_serving.proofs.Closing.{fed_opening}
 use Rattle.ps_serving.proofs.Whole.{serves_so, listen_failed, same_doors, moved}
 use Rattle.ps_serving.proofs.serving.serve.Goals as goal
 
@@ -73,4 +77,10 @@ returns-clause-serves g c =
     c.in_ok-rules.ensures.loads c.in_ok-listen.ensures.listens.0 c.in_ok-listen.ensures.faults c.serve_fed.result fed
 
 pub serve_fed-requires-fed : goal.serve_fed-requires-fed
-serve_fed-requires-fed g c = ?
+serve_fed-requires-fed g c =
+    let drained = c.args.words.now.until_drained in
+    let transactions = c.in_ok-rules.transactions.items in
+    let start = seen_by c.in_ok-lock.seat in
+    let seen : start ≡ opening drained transactions = c.in_ok-lock.ensures.seen in
+    let count : length (fed_in start) ≡ length transactions = ap length (ap fed_in seen ∙ fed_opening drained transactions) in
+    first_of (cc, grind (arith, common_steps), search rules)
