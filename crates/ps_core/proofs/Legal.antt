@@ -15,7 +15,8 @@ use Rattle.ps_store.specs.Deploys.{as_force, run_of}
 use Rattle.ps_store.specs.Generations.{Coming, Lane, is_of, lane_next, queue_in, step_lane}
 use Rattle.ps_store.specs.Ledgers.{Ledger, CanCome, IsLegal, IsLegalFrom, build_next, build_with, entries_after, force_ops, fresh, head_of, last_number, ledger_after, ledger_of, next_ops, taken_by, unwritten, write_next}
 use Rattle.ps_store.specs.Limits.{AreWithin, greatest}
-use Rattle.ps_store.specs.Originals.{Entered, Timed, in_bucket}
+use Rattle.ps_store.specs.declared.entered.Entered.{Entered}
+use Rattle.ps_store.specs.Originals.{Timed, in_bucket}
 use Rattle.ps_store.specs.Readings.{building_of}
 use Rattle.ps_store.specs.Runs.{Run, run_from}
 use Rattle.ps_store.specs.Stores.{next_run}

@@ -1,6 +1,9 @@
 use Rattle.std.proofs.Common.{Err, ap, ◌∙◌}
-use Rattle.ps_core.proofs.StoreSteps.{nothing_to_write, ops_full, too_wide}
+use Rattle.ps_core.proofs.StoreSteps.{nothing_to_write, ops_full, too_wide, wrote_so}
 use Rattle.ps_core.proofs.storing.write.Goals as goal
+
+pub returns-in-Ok : goal.returns-in-Ok
+returns-in-Ok c = λ fixed play stands. wrote_so fixed play c.write_batch.new.self c.args.limit c.in-Ok.wrote c.requires.some c.requires.limit (c.in-Ok.ensures fixed play.history stands)
 
 pub returns-in-Err-TooWide : goal.returns-in-Err-TooWide
 returns-in-Err-TooWide c = λ fixed play stands.
