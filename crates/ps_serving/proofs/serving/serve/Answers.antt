@@ -76,11 +76,11 @@ returns-clause-serves g c =
     serves_so c.ledgers_tell_histories.ensures c.ledgers_tell_ops.ensures.one c.ledgers_tell_events.ensures.feeds c.totals_are_one.ensures may_give said files files' doors doors' out out1 out' inputs
     c.in_ok-rules.ensures.loads c.in_ok-listen.ensures.listens.0 c.in_ok-listen.ensures.faults c.serve_fed.result fed
 
-pub serve_fed-requires-fed : goal.serve_fed-requires-fed
-serve_fed-requires-fed g c =
+pub serve_fed-requires-clause-fed : goal.serve_fed-requires-clause-fed
+serve_fed-requires-clause-fed g c =
     let drained = c.args.words.now.until_drained in
-    let transactions = c.in_ok-rules.transactions.items in
+    let transactions = c.in_ok-rules.field-0.transactions.items in
     let start = seen_by c.in_ok-lock.seat in
     let seen : start ≡ opening drained transactions = c.in_ok-lock.ensures.seen in
     let count : length (fed_in start) ≡ length transactions = ap length (ap fed_in seen ∙ fed_opening drained transactions) in
-    first_of (cc, grind (arith, common_steps), search rules)
+    first_of (cc, search rules, grind (arith, common_steps))
