@@ -22,8 +22,7 @@ use std::alloc::Global;
 use std::sync::Wait;
 use std::thread::{Threads, join};
 
-/// Feeds transactions.
-pub fn feed_all<R: Wait>(
+fn feed_all<R: Wait>(
     rt: &R,
     alloc: Global,
     lock: &StoreLock<Store>,

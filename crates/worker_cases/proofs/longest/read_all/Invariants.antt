@@ -1,6 +1,0 @@
-use Rattle.ps_lock.specs.Words.{IsSeatOf}
-use Rattle.worker_cases.proofs.longest.read_all.Given as goal
-
--- the seat stays the lock's
-abbrev pub invariant-turns : goal.invariant-turns
-invariant-turns g l = IsSeatOf l.fn.lock l.seat

@@ -1,6 +1,0 @@
-use Rattle.ps_lock.specs.Words.{IsSeatOf}
-use Rattle.worker_cases.proofs.watches.read_bucket.Given as goal
-
--- the seat stays the lock's
-abbrev pub invariant-batches : goal.invariant-batches
-invariant-batches g l = IsSeatOf l.fn.lock l.seat
