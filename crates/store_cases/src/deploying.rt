@@ -5,9 +5,7 @@ ghost use Rattle.case_stores.specs.Histories.{HasHistory};
 use case_stores::rules_of;
 use case_words::{Stop, short_number_in};
 use ps_definitions::Rules;
-use ps_store::{
-    BuildFault, Built, Checkpoint, DeployFault, NothingBuilding, Store, SwitchFault,
-};
+use ps_store::{BuildFault, Built, Checkpoint, DeployFault, NothingBuilding, Store, SwitchFault};
 use std::alloc::Global;
 
 // Begins a generation.
