@@ -26,5 +26,6 @@ pub fn write_refusal(alloc: Global, word: &str, out: &mut String) -> Result<(), 
     let mut err = MemorySink::new(alloc, ROOM, Items::new(alloc))?;
     let status = store_status(&fault_in(word)?, &mut err);
     write!(out, "{status} ")?;
-    push_escaped(out, str::from_utf8(err.bytes())?)
+    push_escaped(out, str::from_utf8(err.bytes())?)?;
+    Ok(())
 }
