@@ -125,6 +125,30 @@ fn show(
     Ok(true)
 }
 
+// Does the call that a word names; false where it names none.
+fn act(
+    alloc: Global,
+    texts: &Texts,
+    store: &mut Store,
+    word: &str,
+    rest: &str,
+    out: &mut String,
+) -> Result<bool, Stop>
+    requires { HasHistory store.old }
+    ensures { HasHistory store.new }
+{
+    if change(alloc, texts, store, word, rest, out)? {
+        return Ok(true);
+    }
+    if renew(alloc, texts, store, word, rest, out)? {
+        return Ok(true);
+    }
+    if ask(alloc, store, word, rest, out)? {
+        return Ok(true);
+    }
+    show(alloc, store, word, rest, out)
+}
+
 // Answers a line, or takes what it adds to a file.
 fn answer(
     alloc: Global,
@@ -144,11 +168,7 @@ fn answer(
         *store = changing::store_of(alloc, texts.rules(), rest)?;
         return Ok(());
     }
-    if change(alloc, texts, store, word, rest, out)?
-        || renew(alloc, texts, store, word, rest, out)?
-        || ask(alloc, store, word, rest, out)?
-        || show(alloc, store, word, rest, out)?
-    {
+    if act(alloc, texts, store, word, rest, out)? {
         Ok(out.push_str("\n")?)
     } else {
         Err("no such case")?
