@@ -3,7 +3,7 @@ use Rattle.std.proofs.Common.{◌≡◌, ℕ, List, Option, Some, None, refl, ap
 use Rattle.std.specs.Prelude.{Result, Ok, option_and_then, slice_get}
 use Rattle.std.specs.Str.Parse.{ParsesUnsigned}
 use Rattle.clap.specs.Matches.{ReadsOne, first_value, one_text}
-use Rattle.clap.specs.Walk.{Row, first_of, one_of, row_text, rows_of}
+use Rattle.clap.specs.Walk.{Row, first_of, row_text, rows_of}
 use Rattle.clap.specs.declared.parser.matches.Found.{Found}
 use Rattle.clap.proofs.WalkLemmas.{first_value-rows, one_text-rows}
 use Rattle.ps_serve_words.specs.Words.{number_of, number_at}
@@ -19,14 +19,14 @@ none_at (Some r) h = rw h refl
 pub none_in : (f : Found) (id : List ℕ) → None ≡ first_value f id → number_at id (rows_of f) ≡ None
 none_in f id h = ap (option_map number_of) (none_at _ (first_in f id ∙ sym h))
 
-parsed_at : {E : Type 0} (gives : List ℕ → Result ℕ E → Type 0) (o : Option (List ℕ)) (n : ℕ)
-    → ((t : List ℕ) (x : Result ℕ E) → gives t x → ParsesUnsigned 32 10 t x)
+parsed_at : {E : Type 0} (gives : List ℕ → Result ℕ E → Type 0) (bits : ℕ) (o : Option (List ℕ)) (n : ℕ)
+    → ((t : List ℕ) (x : Result ℕ E) → gives t x → ParsesUnsigned bits 10 t x)
     → (o ≡ None → Some n ≡ None) → ((t : List ℕ) → o ≡ Some t → ReadsOne gives t (Some n)) → option_map number_of o ≡ Some n
-parsed_at gives None n only none reads = let no = none refl in cc
-parsed_at gives (Some t) n only none reads = ap Some (sym (only t (Ok n) (reads t refl)).1)
+parsed_at gives bits None n only none reads = let no = none refl in cc
+parsed_at gives bits (Some t) n only none reads = ap Some (sym (only t (Ok n) (reads t refl)).1)
 
 -- a number that a typed getter gave is that of the text
-pub number_in : {E : Type 0} (gives : List ℕ → Result ℕ E → Type 0) (f : Found) (id : List ℕ) (n : ℕ)
-    → ((t : List ℕ) (x : Result ℕ E) → gives t x → ParsesUnsigned 32 10 t x)
+pub number_in : {E : Type 0} (gives : List ℕ → Result ℕ E → Type 0) (bits : ℕ) (f : Found) (id : List ℕ) (n : ℕ)
+    → ((t : List ℕ) (x : Result ℕ E) → gives t x → ParsesUnsigned bits 10 t x)
     → (one_text f id ≡ None → Some n ≡ None) → ((t : List ℕ) → one_text f id ≡ Some t → ReadsOne gives t (Some n)) → number_at id (rows_of f) ≡ Some n
-number_in gives f id n only none reads = ap (option_map number_of) (sym (one_text-rows f id)) ∙ parsed_at gives (one_text f id) n only none reads
+number_in gives bits f id n only none reads = ap (option_map number_of) (sym (one_text-rows f id)) ∙ parsed_at gives bits (one_text f id) n only none reads

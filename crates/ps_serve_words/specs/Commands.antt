@@ -9,6 +9,10 @@ use Rattle.clap.specs.declared.builder.value_parser.ValueParser.TheVariants as p
 abbrev pub needed : List ℕ → Rule
 needed name = record (new_rule name) { long = Some name; action = Some Set; required = true }
 
+-- `--NAME TEXT`, which may be left out
+abbrev pub choice : List ℕ → Rule
+choice name = record (new_rule name) { long = Some name; action = Some Set }
+
 -- `--NAME N`, with N from 1 to 1,000,000
 abbrev pub number : List ℕ → Rule
 number name = record (new_rule name) { long = Some name; action = Some Set; parser = Some (parsers.Signed (pos 1) (pos 1000000)) }
@@ -16,6 +20,10 @@ number name = record (new_rule name) { long = Some name; action = Some Set; pars
 -- which is 1,000 where it is left out
 abbrev pub with_thousand : Rule → Rule
 with_thousand rule = record rule { defaults = codes "1000" ∷ [] }
+
+-- `--NAME N`, with N from 0 to 9223372036854775807, which is 0 where it is left out
+abbrev pub with_none : List ℕ → Rule
+with_none name = record (choice name) { parser = Some (parsers.Unsigned 0 9223372036854775807); defaults = codes "0" ∷ [] }
 
 -- `--NAME`
 abbrev pub flag : List ℕ → Rule
@@ -34,6 +42,10 @@ with_choices app = with_rule (with_rule app (number (codes "connections"))) (fla
 abbrev pub with_paces : App → App
 with_paces app = with_rule (with_rule app (with_thousand (number (codes "batch")))) (with_thousand (number (codes "compact-at")))
 
--- `serve --rules FILE --changes FILE --keys FILE --listen ADDRESS [--connections N] [--until-drained] [--batch N] [--compact-at N]`
+-- the rules that come next, and once how many transactions are committed
+abbrev pub with_next : App → App
+with_next app = with_rule (with_rule app (choice (codes "next"))) (with_none (codes "next-after"))
+
+-- `serve --rules FILE --changes FILE --keys FILE --listen ADDRESS [--connections N] [--until-drained] [--batch N] [--compact-at N] [--next FILE] [--next-after N]`
 unfoldable pub serve_app : App
-serve_app = with_paces (with_choices (with_texts (new_app (codes "serve"))))
+serve_app = with_next (with_paces (with_choices (with_texts (new_app (codes "serve")))))

@@ -1,5 +1,5 @@
 -- What the words of `serve` say, by the matches that clap has for them.
-use Rattle.std.specs.Prelude.{◌≡◌, ◌≢◌, ℕ, ◌≤◌, Bool, false, List, [], codes, Option, Some, None, option_map, Result, Ok, Err, IfSome}
+use Rattle.std.specs.Prelude.{◌≡◌, ◌≢◌, ℕ, ◌≤◌, Bool, false, List, [], codes, Option, Some, option_map, Result, Ok, Err, IfSome}
 use Rattle.std.specs.Option.{option_map_or}
 use Rattle.std.specs.Str.{bytes_eq}
 use Rattle.std.specs.Str.Parse.{digits_value, without_leading_plus}
@@ -30,6 +30,10 @@ flag_at name rows = option_map_or (λ text. bytes_eq text (codes "true")) (first
 abbrev pub IsInMillion : ℕ → Type 0
 IsInMillion n = (1 ≤ n) × (n ≤ 1000000)
 
+-- it is at most 9223372036854775807
+abbrev pub IsCount : ℕ → Type 0
+IsCount n = n ≤ 9223372036854775807
+
 -- what the matches of `serve` say
 pub record AreSaidBy (rows : List Row) (words : ServeWords) : Type 0 where
   pub rules : text_at (codes "rules") rows ≡ Some words.rules
@@ -40,12 +44,15 @@ pub record AreSaidBy (rows : List Row) (words : ServeWords) : Type 0 where
   pub until_drained : flag_at (codes "until-drained") rows ≡ words.until_drained
   pub batch : number_at (codes "batch") rows ≡ Some words.batch
   pub compact_at : number_at (codes "compact-at") rows ≡ Some words.compact_at
+  pub next : text_at (codes "next") rows ≡ words.next
+  pub next_after : number_at (codes "next-after") rows ≡ Some words.next_after
 
--- its numbers are from 1 to 1,000,000
+-- its numbers are from 1 to 1,000,000, and that of transactions is at most 9223372036854775807
 pub record AreInRange (words : ServeWords) : Type 0 where
   pub connections : IfSome words.connections IsInMillion
   pub batch : IsInMillion words.batch
   pub compact_at : IsInMillion words.compact_at
+  pub next_after : IsCount words.next_after
 
 -- clap refuses the words, for another cause than memory
 abbrev pub AreRefused : List (List ℕ) → Type 0

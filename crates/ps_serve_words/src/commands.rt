@@ -2,9 +2,9 @@
 
 ghost use Rattle.std.specs.Prelude.{◌≡◌, IfOk};
 ghost use Rattle.clap.specs.Simple.{app_of};
-ghost use Rattle.ps_serve_words.specs.Commands.{serve_app, with_texts, with_choices, with_paces};
+ghost use Rattle.ps_serve_words.specs.Commands.{serve_app, with_texts, with_choices, with_paces, with_next};
 
-use crate::arguments::{needed_text, set_flag, some_number, thousand};
+use crate::arguments::{needed_text, none_yet, set_flag, some_number, some_text, thousand};
 use clap::Command;
 use std::alloc::{AllocError, Global};
 
@@ -37,11 +37,21 @@ fn add_paces<'a>(alloc: Global, command: Command<'a>) -> Result<Command<'a>, All
         .arg(thousand(alloc, "compact-at"))
 }
 
+// Adds the arguments that say which rules come next.
+fn add_next<'a>(alloc: Global, command: Command<'a>) -> Result<Command<'a>, AllocError>
+    ensures { IfOk result (λ made. app_of made ≡ with_next (app_of command.entry)) }
+{
+    command
+        .arg(some_text(alloc, "next"))?
+        .arg(none_yet(alloc, "next-after"))
+}
+
 /// The command `serve`, which skips its first word.
 #[tactic(auto, unfolding(crate::specs::Commands::serve_app))]
 pub(crate) fn serve_command<'a>(alloc: Global) -> Result<Command<'a>, AllocError>
     ensures { IfOk result (λ made. app_of made ≡ serve_app) }
 {
     let command = add_texts(alloc, Command::new(alloc, "serve"))?;
-    add_paces(alloc, add_choices(alloc, command)?)
+    let command = add_paces(alloc, add_choices(alloc, command)?)?;
+    add_next(alloc, command)
 }

@@ -3,7 +3,7 @@
 ghost use Rattle.std.specs.Prelude.{◌≡◌, Some, IfOk, IfSome};
 ghost use Rattle.clap.specs.Matches.{found_of};
 ghost use Rattle.clap.specs.Walk.{rows_of};
-ghost use Rattle.ps_serve_words.specs.Words.{text_at, number_at, flag_at, IsInMillion, AreSaidBy, AreInRange};
+ghost use Rattle.ps_serve_words.specs.Words.{text_at, number_at, flag_at, IsInMillion, IsCount, AreSaidBy, AreInRange};
 
 use crate::words::ServeWords;
 use clap::ArgMatches;
@@ -18,6 +18,20 @@ fn text_under(alloc: Global, matches: &ArgMatches<'_>, name: &str) -> Result<Tex
         Some(text) => Text::from_str(alloc, text),
         // Words without it are refused, so this never comes.
         None => Err(Memory),
+    }
+}
+
+// The text under a name, if there is one.
+fn some_text_under(
+    alloc: Global,
+    matches: &ArgMatches<'_>,
+    name: &str,
+) -> Result<Option<Text>, Memory>
+    ensures { IfOk result (λ text. text_at name.now (rows_of (found_of matches.now)) ≡ text) }
+{
+    match matches.get_str(name) {
+        Some(text) => Ok(Some(Text::from_str(alloc, text)?)),
+        None => Ok(None),
     }
 }
 
@@ -48,6 +62,18 @@ fn sure_number_under(matches: &ArgMatches<'_>, name: &str) -> Result<u32, Memory
     }
 }
 
+// The number of transactions under a name that has one, given or not.
+fn count_under(matches: &ArgMatches<'_>, name: &str) -> Result<u64, Memory>
+    ensures number { IfOk result (λ number. number_at name.now (rows_of (found_of matches.now)) ≡ Some number) }
+    ensures range { IfOk result IsCount }
+{
+    match matches.get_one::<u64>(name) {
+        Some(number) if number <= 9223372036854775807 => Ok(number),
+        // It has a default, and words with anything else there are refused, so this never comes.
+        _ => Err(Memory),
+    }
+}
+
 // Whether the flag of a name is there.
 fn is_set(matches: &ArgMatches<'_>, name: &str) -> bool
     ensures { flag_at name.now (rows_of (found_of matches.now)) ≡ result }
@@ -66,10 +92,12 @@ pub(crate) fn words_of(alloc: Global, matches: &ArgMatches<'_>) -> Result<ServeW
     let connections = number_under(matches, "connections")?;
     let batch = sure_number_under(matches, "batch")?;
     let compact_at = sure_number_under(matches, "compact-at")?;
+    let next_after = count_under(matches, "next-after")?;
     let rules = text_under(alloc, matches, "rules")?;
     let changes = text_under(alloc, matches, "changes")?;
     let keys = text_under(alloc, matches, "keys")?;
     let listen = text_under(alloc, matches, "listen")?;
+    let next = some_text_under(alloc, matches, "next")?;
     Ok(ServeWords {
         rules,
         changes,
@@ -79,5 +107,7 @@ pub(crate) fn words_of(alloc: Global, matches: &ArgMatches<'_>) -> Result<ServeW
         until_drained: is_set(matches, "until-drained"),
         batch,
         compact_at,
+        next,
+        next_after,
     })
 }

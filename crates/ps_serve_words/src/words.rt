@@ -2,7 +2,7 @@
 
 use ps_data::Text;
 
-/// What the words of `serve` say: docs/FORMATS.md, "Commands". Each number is from 1 to 1,000,000.
+/// What the words of `serve` say: docs/FORMATS.md, "Commands". Each number but `next_after` is from 1 to 1,000,000.
 #[derive(Debug, Drop)]
 pub struct ServeWords {
     /// The name of the rules file.
@@ -21,4 +21,8 @@ pub struct ServeWords {
     pub batch: u32,
     /// How many operations a bucket gets until it is compacted again.
     pub compact_at: u32,
+    /// The name of the file of the rules that come next; none where the rules stay.
+    pub next: Option<Text>,
+    /// Once how many transactions are committed the next rules are deployed, from 0 to 9223372036854775807. Without next rules it says nothing.
+    pub next_after: u64,
 }
