@@ -1,4 +1,4 @@
-//! What `serve` reads before it serves: its rules, its keys and its transactions; and what is said of its faults.
+//! What `serve` reads before it serves: its rules, those that come next, its keys and its transactions; and what is said of its faults.
 #![tactic(auto)]
 
 mod faults;

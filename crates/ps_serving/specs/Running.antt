@@ -11,15 +11,16 @@ use Rattle.ps_store.specs.declared.events.Event.{Event}
 use Rattle.ps_store.specs.declared.fixed.Fixed.{Fixed}
 use Rattle.ps_streams.specs.Serving.{IsValid}
 use Rattle.ps_workers.specs.declared.ends.WorkEnd.{WorkEnd}
+use Rattle.ps_workers.specs.declared.stages.NextRules.{NextRules}
 use Rattle.ps_workers.specs.Work.{EndsWriting}
 
--- a writer that was given no transactions ended so, at a history between these two
-pub record WroteTo (fixed : Fixed) (before after : List Event) (end : WorkEnd) : Type 0 where
+-- a writer that was given no transactions, and next rules or none, ended so, at a history between these two
+pub record WroteTo (fixed : Fixed) (next : Option NextRules) (before after : List Event) (end : WorkEnd) : Type 0 where
   pub seen : List Event
   pub later : IsPrefix before seen
   pub earlier : IsPrefix seen after
   pub fed : List Transaction
-  pub ends : EndsWriting fixed seen [] fed end
+  pub ends : EndsWriting fixed next seen [] fed end
 
 -- the connections of doors were served, as it is in this history; what they added to it are own entries
 pub record HaveAnswers (fixed : Fixed) (site : Site) (may_give : ℕ → Type 0) (low : ℕ) (history : List Event) (first : ℕ) (before after : Option (List Connection)) (ended : Ended) : Type 0 where

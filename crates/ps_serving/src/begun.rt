@@ -6,30 +6,34 @@ ghost use Rattle.ps_workers.specs.Sharing.{fixed_of};
 ghost use Rattle.ps_serving.specs.Running.{WroteTo};
 
 use ps_lock::{Seat, StoreLock};
-use ps_store::Store;
-use ps_workers::WorkEnd;
+use ps_workers::{NextRules, SharedStore, WorkEnd};
 use std::snapshot::Snapshot;
 use std::thread::{Promise, PromisedHandle, SpawnError, Threads};
 
 /// What the writer was given, for the proofs alone: it takes no bytes.
 pub(crate) struct ToWrite {
-    pub(crate) lock: Snapshot<StoreLock<Store>>,
-    pub(crate) seat: Snapshot<Seat<Store>>,
+    pub(crate) lock: Snapshot<StoreLock<SharedStore>>,
+    pub(crate) seat: Snapshot<Seat<SharedStore>>,
+    pub(crate) next: Snapshot<Option<NextRules>>,
 }
 
 impl Drop for ToWrite {
     fn drop(self) {
-        let ToWrite { lock: _, seat: _ } = self;
+        let ToWrite {
+            lock: _,
+            seat: _,
+            next: _,
+        } = self;
     }
 }
 
-impl Promise<(Seat<Store>, WorkEnd)> for ToWrite {
-    ghost kept_by = { λ t done. IsSeatOf t.lock.value done.0 × WroteTo (fixed_of t.lock.value) (seen_by t.seat.value) (seen_by done.0) done.1 };
+impl Promise<(Seat<SharedStore>, WorkEnd)> for ToWrite {
+    ghost kept_by = { λ t done. IsSeatOf t.lock.value done.0 × WroteTo (fixed_of t.lock.value) t.next.value (seen_by t.seat.value) (seen_by done.0) done.1 };
 }
 
 /// What the compactor was given, for the proofs alone.
 pub(crate) struct ToCompact {
-    pub(crate) lock: Snapshot<StoreLock<Store>>,
+    pub(crate) lock: Snapshot<StoreLock<SharedStore>>,
 }
 
 impl Drop for ToCompact {
@@ -38,7 +42,7 @@ impl Drop for ToCompact {
     }
 }
 
-impl Promise<(Seat<Store>, WorkEnd)> for ToCompact {
+impl Promise<(Seat<SharedStore>, WorkEnd)> for ToCompact {
     ghost kept_by = { λ t done. IsSeatOf t.lock.value done.0 };
 }
 

@@ -2,7 +2,7 @@
 
 use ps_lock::StoreLock;
 use ps_serve::Site;
-use ps_store::Store;
+use ps_workers::SharedStore;
 use std::alloc::Global;
 
 /// The runtime, the memory and the clock of a service.
@@ -22,7 +22,7 @@ pub(crate) struct Ground<'g, R, C> {
     /// The runtime, the memory and the clock.
     pub(crate) tools: &'g Tools<'g, R, C>,
     /// The lock of the store.
-    pub(crate) lock: &'g StoreLock<Store>,
+    pub(crate) lock: &'g StoreLock<SharedStore>,
     /// The keys that tokens are signed with, and when a stream ends.
     pub(crate) site: &'g Site,
     /// The bytes of a thread's stack.

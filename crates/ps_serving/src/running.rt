@@ -5,7 +5,8 @@ ghost use mathlib.Core.List.{IsPrefix};
 ghost use Rattle.ps_lock.specs.Words.{IsSeatOf, seen_by};
 ghost use Rattle.ps_connections.specs.Taken.{HasTaken};
 ghost use Rattle.ps_serve_words.specs.Words.{IsInMillion};
-ghost use Rattle.ps_workers.specs.Sharing.{fixed_of};
+ghost use Rattle.ps_workers.specs.Sharing.{fixed_of, terms_of};
+ghost use Rattle.ps_workers.specs.Work.{AreNext};
 ghost use Rattle.ps_serving.specs.Running.{WroteTo, ServesUpTo, none_taken};
 
 use crate::begun::{ToCompact, ToWrite, finish};
@@ -16,23 +17,24 @@ use ps_doors::{Bell, Doors};
 use ps_io::{Clock, Sink, Source};
 use ps_lock::{Seat, StoreLock};
 use ps_sockets::{Rings, RungBell};
-use ps_store::Store;
-use ps_workers::{OpenGate, WorkEnd, close_in_turn, compact_all, feed_and_write};
+use ps_workers::{NextRules, OpenGate, SharedStore, WorkEnd, close_in_turn, compact_all, feed_and_write};
 use std::alloc::Global;
 use std::snapshot::Snapshot;
 use std::sync::Wait;
 use std::thread::{Scope, Threads};
 use std::{thread, time};
 
-/// The seats that the threads of a service begin with.
+/// What the threads of a service begin with.
 #[derive(Drop)]
-pub(crate) struct Seats {
-    /// That of the loop that takes connections.
-    pub(crate) connections: Seat<Store>,
-    /// That of the writer.
-    pub(crate) writer: Seat<Store>,
-    /// That of the compactor.
-    pub(crate) compactor: Seat<Store>,
+pub(crate) struct Starts {
+    /// The seat of the loop that takes connections.
+    pub(crate) connections: Seat<SharedStore>,
+    /// The writer's seat.
+    pub(crate) writer: Seat<SharedStore>,
+    /// The rules that the writer deploys, if there are any.
+    pub(crate) next: Option<NextRules>,
+    /// The compactor's seat.
+    pub(crate) compactor: Seat<SharedStore>,
 }
 
 /// How much the threads of a service do at once.
@@ -46,34 +48,36 @@ pub(crate) struct Pace {
     pub(crate) compact_at: u32,
 }
 
-// Writes what is fed, until it is refused or all is written that will ever be.
+// Writes what is fed, and brings the next rules into force, until a change is refused or all is written that will ever be.
 fn write<R: Wait + time::Clock>(
     rt: &R,
     alloc: Global,
-    lock: &StoreLock<Store>,
+    lock: &StoreLock<SharedStore>,
     rings: &Rings,
-    seat: Seat<Store>,
+    seat: Seat<SharedStore>,
     batch: u32,
-) -> (Seat<Store>, WorkEnd)
+    next: Option<NextRules>,
+) -> (Seat<SharedStore>, WorkEnd)
     requires seat { IsSeatOf lock.now seat }
     requires batch { IsInMillion batch }
+    requires next { AreNext (terms_of lock.now) next }
     ensures lock { IsSeatOf lock.now result.0 }
-    ensures wrote { WroteTo (fixed_of lock.now) (seen_by seat) (seen_by result.0) result.1 }
+    ensures wrote { WroteTo (fixed_of lock.now) next (seen_by seat) (seen_by result.0) result.1 }
 {
     let mut bell = RungBell::new(rt, rings);
     let nothing = Vec::new(alloc);
-    feed_and_write(rt, alloc, lock, seat, nothing, batch, &OpenGate, &mut bell)
+    feed_and_write(rt, alloc, lock, seat, nothing, batch, &OpenGate, &mut bell, next)
 }
 
 // Compacts buckets that have grown by so many operations, until the store is drained.
 fn compact<R: Wait + time::Clock>(
     rt: &R,
     alloc: Global,
-    lock: &StoreLock<Store>,
+    lock: &StoreLock<SharedStore>,
     rings: &Rings,
-    seat: Seat<Store>,
+    seat: Seat<SharedStore>,
     at: u32,
-) -> (Seat<Store>, WorkEnd)
+) -> (Seat<SharedStore>, WorkEnd)
     requires { IsSeatOf lock.now seat }
     ensures { IsSeatOf lock.now result.0 }
 {
@@ -82,7 +86,7 @@ fn compact<R: Wait + time::Clock>(
 }
 
 // Closes the feed, where that was not done, and rings: the writer waits for it.
-fn close_behind<R: Wait + time::Clock, C>(service: &Service<R, C>, seat: Seat<Store>) -> Seat<Store>
+fn close_behind<R: Wait + time::Clock, C>(service: &Service<R, C>, seat: Seat<SharedStore>) -> Seat<SharedStore>
     requires { IsSeatOf service.now.lock.now seat }
     ensures lock { IsSeatOf service.now.lock.now result }
     ensures saw { IsPrefix (seen_by seat) (seen_by result) }
@@ -103,7 +107,7 @@ fn take<
     K: Sink + Send + Drop,
     C: Clock + Sync,
     D: Doors<In = S, Out = K> + Drop,
->(service: &Service<R, C>, seat: Seat<Store>, doors: D, most: u64) -> (Seat<Store>, D, Ended)
+>(service: &Service<R, C>, seat: Seat<SharedStore>, doors: D, most: u64) -> (Seat<SharedStore>, D, Ended)
     requires { IsSeatOf service.now.lock.now seat }
     ensures lock { IsSeatOf service.now.lock.now result.0 }
     ensures saw { IsPrefix (seen_by seat) (seen_by result.0) }
@@ -121,8 +125,8 @@ fn take<
 // Takes no connection, for out of memory, and closes the feed.
 fn take_none<R: Wait + time::Clock, C>(
     service: &Service<R, C>,
-    seat: Seat<Store>,
-) -> (Seat<Store>, Ended)
+    seat: Seat<SharedStore>,
+) -> (Seat<SharedStore>, Ended)
     requires { IsSeatOf service.now.lock.now seat }
     ensures lock { IsSeatOf service.now.lock.now result.0 }
     ensures saw { IsPrefix (seen_by seat) (seen_by result.0) }
@@ -150,10 +154,10 @@ fn take_beside<
     scope: &'s Scope<'s, E>,
     service: &'s Service<'s, R, C>,
     rings: &'s Rings,
-    seats: (Seat<Store>, Seat<Store>),
+    seats: (Seat<SharedStore>, Seat<SharedStore>),
     doors: D,
     pace: Pace,
-) -> ((Seat<Store>, WorkEnd), (Seat<Store>, D, Ended))
+) -> ((Seat<SharedStore>, WorkEnd), (Seat<SharedStore>, D, Ended))
     requires connections { IsSeatOf service.now.lock.now seats.0 }
     requires compactor { IsSeatOf service.now.lock.now seats.1 }
     ensures compactor { IsSeatOf service.now.lock.now result.0.0 }
@@ -173,7 +177,7 @@ fn take_beside<
     let to_compact = ToCompact {
         lock: Snapshot::of(lock),
     };
-    let compacting = move || -> (Seat<Store>, WorkEnd)
+    let compacting = move || -> (Seat<SharedStore>, WorkEnd)
         requires { IsSeatOf lock.now compactor }
         ensures { IsSeatOf lock.entry.now result.0 }
     { compact(rt, alloc, lock, rings, compactor, at) };
@@ -199,10 +203,10 @@ fn take_if_written<
     service: &'s Service<'s, R, C>,
     rings: &'s Rings,
     has_writer: bool,
-    seats: (Seat<Store>, Seat<Store>),
+    seats: (Seat<SharedStore>, Seat<SharedStore>),
     doors: D,
     pace: Pace,
-) -> ((Seat<Store>, WorkEnd), (Seat<Store>, D, Ended))
+) -> ((Seat<SharedStore>, WorkEnd), (Seat<SharedStore>, D, Ended))
     requires connections { IsSeatOf service.now.lock.now seats.0 }
     requires compactor { IsSeatOf service.now.lock.now seats.1 }
     ensures compactor { IsSeatOf service.now.lock.now result.0.0 }
@@ -237,35 +241,37 @@ fn run_beside<
     scope: &'s Scope<'s, E>,
     service: &'s Service<'s, R, C>,
     rings: &'s Rings,
-    seats: Seats,
+    starts: Starts,
     doors: D,
     pace: Pace,
 ) -> (
     bool,
-    (Seat<Store>, WorkEnd),
-    ((Seat<Store>, WorkEnd), (Seat<Store>, D, Ended)),
+    (Seat<SharedStore>, WorkEnd),
+    ((Seat<SharedStore>, WorkEnd), (Seat<SharedStore>, D, Ended)),
 )
-    requires connections { IsSeatOf service.now.lock.now seats.connections }
-    requires writer { IsSeatOf service.now.lock.now seats.writer }
-    requires compactor { IsSeatOf service.now.lock.now seats.compactor }
+    requires connections { IsSeatOf service.now.lock.now starts.connections }
+    requires writer { IsSeatOf service.now.lock.now starts.writer }
+    requires compactor { IsSeatOf service.now.lock.now starts.compactor }
     requires batch { IsInMillion pace.batch }
+    requires next { AreNext (terms_of service.now.lock.now) starts.next }
     ensures writer { IsSeatOf service.now.lock.now result.1.0 }
-    ensures wrote { WroteTo (fixed_of service.now.lock.now) (seen_by seats.writer) (seen_by result.1.0) result.1.1 }
+    ensures wrote { WroteTo (fixed_of service.now.lock.now) starts.next (seen_by starts.writer) (seen_by result.1.0) result.1.1 }
     ensures compactor { IsSeatOf service.now.lock.now result.2.0.0 }
     ensures connections { IsSeatOf service.now.lock.now result.2.1.0 }
-    ensures saw { IsPrefix (seen_by seats.connections) (seen_by result.2.1.0) }
+    ensures saw { IsPrefix (seen_by starts.connections) (seen_by result.2.1.0) }
     ensures place { D.place result.2.1.1 ≡ D.place doors }
     ensures none { result.0 ≡ false → D.opened result.2.1.1 ≡ D.opened doors }
     ensures taken { HasTaken pace.most (D.opened doors) (D.opened result.2.1.1) (D.coming doors) (D.coming result.2.1.1)
         (D.faults doors) (D.faults result.2.1.1) result.2.1.2.stop result.2.1.2.connections }
     ensures served { ServesUpTo (fixed_of service.now.lock.now) service.now.site.now (C.may_give service.now.clock.now)
-        (seen_by seats.connections) (seen_by result.2.1.0) (D.opened doors) (D.closed doors) (D.closed result.2.1.1) result.2.1.2 }
+        (seen_by starts.connections) (seen_by result.2.1.0) (D.opened doors) (D.closed doors) (D.closed result.2.1.1) result.2.1.2 }
 {
-    let Seats {
+    let Starts {
         connections,
         writer,
+        next,
         compactor,
-    } = seats;
+    } = starts;
     let rt = service.rt;
     let alloc = service.alloc;
     let lock = service.lock;
@@ -273,13 +279,15 @@ fn run_beside<
     let to_write = ToWrite {
         lock: Snapshot::of(lock),
         seat: Snapshot::of(&writer),
+        next: Snapshot::of(&next),
     };
-    let writing = move || -> (Seat<Store>, WorkEnd)
+    let writing = move || -> (Seat<SharedStore>, WorkEnd)
         requires seat { IsSeatOf lock.now writer }
         requires batch { IsInMillion batch }
+        requires next { AreNext (terms_of lock.now) next }
         ensures lock { IsSeatOf lock.entry.now result.0 }
-        ensures wrote { WroteTo (fixed_of lock.entry.now) (seen_by writer) (seen_by result.0) result.1 }
-    { write(rt, alloc, lock, rings, writer, batch) };
+        ensures wrote { WroteTo (fixed_of lock.entry.now) next (seen_by writer) (seen_by result.0) result.1 }
+    { write(rt, alloc, lock, rings, writer, batch, next) };
     let begun = Stack::new()
         .stack_size(service.stack)
         .spawn_scoped_with(scope, to_write, writing);
@@ -299,54 +307,56 @@ fn run_threads<
 >(
     service: &Service<R, C>,
     rings: &Rings,
-    seats: Seats,
+    starts: Starts,
     doors: D,
     pace: Pace,
 ) -> (
     bool,
-    (Seat<Store>, WorkEnd),
-    ((Seat<Store>, WorkEnd), (Seat<Store>, D, Ended)),
+    (Seat<SharedStore>, WorkEnd),
+    ((Seat<SharedStore>, WorkEnd), (Seat<SharedStore>, D, Ended)),
 )
-    requires connections { IsSeatOf service.now.lock.now seats.connections }
-    requires writer { IsSeatOf service.now.lock.now seats.writer }
-    requires compactor { IsSeatOf service.now.lock.now seats.compactor }
+    requires connections { IsSeatOf service.now.lock.now starts.connections }
+    requires writer { IsSeatOf service.now.lock.now starts.writer }
+    requires compactor { IsSeatOf service.now.lock.now starts.compactor }
     requires batch { IsInMillion pace.batch }
+    requires next { AreNext (terms_of service.now.lock.now) starts.next }
     ensures writer { IsSeatOf service.now.lock.now result.1.0 }
-    ensures wrote { WroteTo (fixed_of service.now.lock.now) (seen_by seats.writer) (seen_by result.1.0) result.1.1 }
+    ensures wrote { WroteTo (fixed_of service.now.lock.now) starts.next (seen_by starts.writer) (seen_by result.1.0) result.1.1 }
     ensures compactor { IsSeatOf service.now.lock.now result.2.0.0 }
     ensures connections { IsSeatOf service.now.lock.now result.2.1.0 }
-    ensures saw { IsPrefix (seen_by seats.connections) (seen_by result.2.1.0) }
+    ensures saw { IsPrefix (seen_by starts.connections) (seen_by result.2.1.0) }
     ensures place { D.place result.2.1.1 ≡ D.place doors }
     ensures none { result.0 ≡ false → D.opened result.2.1.1 ≡ D.opened doors }
     ensures taken { HasTaken pace.most (D.opened doors) (D.opened result.2.1.1) (D.coming doors) (D.coming result.2.1.1)
         (D.faults doors) (D.faults result.2.1.1) result.2.1.2.stop result.2.1.2.connections }
     ensures served { ServesUpTo (fixed_of service.now.lock.now) service.now.site.now (C.may_give service.now.clock.now)
-        (seen_by seats.connections) (seen_by result.2.1.0) (D.opened doors) (D.closed doors) (D.closed result.2.1.1) result.2.1.2 }
+        (seen_by starts.connections) (seen_by result.2.1.0) (D.opened doors) (D.closed doors) (D.closed result.2.1.1) result.2.1.2 }
 {
     thread::scope(
         thread::scope_env(),
         service.rt,
         move |scope| -> (
             bool,
-            (Seat<Store>, WorkEnd),
-            ((Seat<Store>, WorkEnd), (Seat<Store>, D, Ended)),
+            (Seat<SharedStore>, WorkEnd),
+            ((Seat<SharedStore>, WorkEnd), (Seat<SharedStore>, D, Ended)),
         )
-            requires connections { IsSeatOf service.now.lock.now seats.connections }
-            requires writer { IsSeatOf service.now.lock.now seats.writer }
-            requires compactor { IsSeatOf service.now.lock.now seats.compactor }
+            requires connections { IsSeatOf service.now.lock.now starts.connections }
+            requires writer { IsSeatOf service.now.lock.now starts.writer }
+            requires compactor { IsSeatOf service.now.lock.now starts.compactor }
             requires batch { IsInMillion pace.batch }
+            requires next { AreNext (terms_of service.now.lock.now) starts.next }
             ensures writer { IsSeatOf service.entry.now.lock.now result.1.0 }
-            ensures wrote { WroteTo (fixed_of service.entry.now.lock.now) (seen_by seats.writer) (seen_by result.1.0) result.1.1 }
+            ensures wrote { WroteTo (fixed_of service.entry.now.lock.now) starts.next (seen_by starts.writer) (seen_by result.1.0) result.1.1 }
             ensures compactor { IsSeatOf service.entry.now.lock.now result.2.0.0 }
             ensures connections { IsSeatOf service.entry.now.lock.now result.2.1.0 }
-            ensures saw { IsPrefix (seen_by seats.connections) (seen_by result.2.1.0) }
+            ensures saw { IsPrefix (seen_by starts.connections) (seen_by result.2.1.0) }
             ensures place { D.place result.2.1.1 ≡ D.place doors }
             ensures none { result.0 ≡ false → D.opened result.2.1.1 ≡ D.opened doors }
             ensures taken { HasTaken pace.most (D.opened doors) (D.opened result.2.1.1) (D.coming doors) (D.coming result.2.1.1)
                 (D.faults doors) (D.faults result.2.1.1) result.2.1.2.stop result.2.1.2.connections }
             ensures served { ServesUpTo (fixed_of service.entry.now.lock.now) service.entry.now.site.now (C.may_give service.entry.now.clock.now)
-                (seen_by seats.connections) (seen_by result.2.1.0) (D.opened doors) (D.closed doors) (D.closed result.2.1.1) result.2.1.2 }
-        { run_beside(scope, service, rings, seats, doors, pace) },
+                (seen_by starts.connections) (seen_by result.2.1.0) (D.opened doors) (D.closed doors) (D.closed result.2.1.1) result.2.1.2 }
+        { run_beside(scope, service, rings, starts, doors, pace) },
     )
 }
 
@@ -360,26 +370,27 @@ pub(crate) fn run_all<
 >(
     service: &Service<R, C>,
     rings: &Rings,
-    seats: Seats,
+    starts: Starts,
     doors: D,
     pace: Pace,
-) -> (Seat<Store>, D, Ends)
-    requires connections { IsSeatOf service.now.lock.now seats.connections }
-    requires writer { IsSeatOf service.now.lock.now seats.writer }
-    requires compactor { IsSeatOf service.now.lock.now seats.compactor }
+) -> (Seat<SharedStore>, D, Ends)
+    requires connections { IsSeatOf service.now.lock.now starts.connections }
+    requires writer { IsSeatOf service.now.lock.now starts.writer }
+    requires compactor { IsSeatOf service.now.lock.now starts.compactor }
     requires batch { IsInMillion pace.batch }
+    requires next { AreNext (terms_of service.now.lock.now) starts.next }
     ensures lock { IsSeatOf service.now.lock.now result.0 }
-    ensures wrote { WroteTo (fixed_of service.now.lock.now) (seen_by seats.writer) (seen_by result.0) result.2.writer }
-    ensures saw { IsPrefix (seen_by seats.connections) (seen_by result.0) }
+    ensures wrote { WroteTo (fixed_of service.now.lock.now) starts.next (seen_by starts.writer) (seen_by result.0) result.2.writer }
+    ensures saw { IsPrefix (seen_by starts.connections) (seen_by result.0) }
     ensures place { D.place result.1 ≡ D.place doors }
     ensures none { result.2.has_writer ≡ false → D.opened result.1 ≡ D.opened doors }
     ensures taken { HasTaken pace.most (D.opened doors) (D.opened result.1) (D.coming doors) (D.coming result.1)
         (D.faults doors) (D.faults result.1) result.2.connections.stop result.2.connections.connections }
     ensures served { ServesUpTo (fixed_of service.now.lock.now) service.now.site.now (C.may_give service.now.clock.now)
-        (seen_by seats.connections) (seen_by result.0) (D.opened doors) (D.closed doors) (D.closed result.1) result.2.connections }
+        (seen_by starts.connections) (seen_by result.0) (D.opened doors) (D.closed doors) (D.closed result.1) result.2.connections }
 {
     let (has_writer, (written, writer), ((compacted, compactor), (mut seat, doors, connections))) =
-        run_threads(service, rings, seats, doors, pace);
+        run_threads(service, rings, starts, doors, pace);
     service.lock.join_in(&mut seat, written);
     service.lock.join_in(&mut seat, compacted);
     let ends = Ends {

@@ -60,11 +60,20 @@ fn depth_of_definition(definition: &Definition) -> usize {
     depth
 }
 
-/// The bytes of a stack that evaluates the queries of rules, with room to spare by what was measured.
-pub(crate) fn stack_of(rules: &Rules) -> usize {
+// How deep the queries of rules nest.
+fn depth_of_rules(rules: &Rules) -> usize {
     let mut depth = 0usize;
     'definitions: for definition in rules.definitions() {
         depth = depth.max(depth_of_definition(definition));
+    }
+    depth
+}
+
+/// The bytes of a stack that evaluates the queries of rules, and of the next ones where there are any, with room to spare by what was measured.
+pub(crate) fn stack_for(rules: &Rules, next: &Option<Rules>) -> usize {
+    let mut depth = depth_of_rules(rules);
+    if let Some(next) = next {
+        depth = depth.max(depth_of_rules(next));
     }
     depth.saturating_mul(LEVEL).saturating_add(BASE)
 }
