@@ -8,19 +8,19 @@ use Rattle.ps_store.specs.declared.events.Event.{Event}
 use Rattle.ps_store.specs.declared.events.Event.TheVariants.{Compact}
 use Rattle.ps_store.specs.declared.faults.CompactFault.{CompactFault}
 use Rattle.ps_store.specs.declared.faults.CompactFault.TheVariants.{NoBucket, Memory}
-use Rattle.ps_store.specs.declared.fixed.Fixed.{Fixed}
-use Rattle.ps_store.specs.declared.stores.Store.{Store}
 use Rattle.ps_store.specs.Ledgers.{ledger_of, force_ops}
+use Rattle.ps_workers.specs.declared.shared.SharedStore.{SharedStore}
+use Rattle.ps_workers.specs.declared.shared.Terms.{Terms}
 use Rattle.ps_workers.specs.Gains.{LooksAt, AddsTo}
-use Rattle.ps_workers.specs.Looks.{IsStoodFor}
+use Rattle.ps_workers.specs.Terms.{IsStoodFor}
 
-module _ {d : Ghosts Store Event Fixed} (fixed : Fixed) (history : List Event) where
+module _ {d : Ghosts SharedStore Event Terms} (terms : Terms) (history : List Event) where
   -- the log of a bucket was compacted at the checkpoint's op, or why it was not: at this history it is no bucket of the generation in force
   -- that has an operation
-  abbrev pub CompactsIn : List ℕ → Seat Store Event Fixed d → Seat Store Event Fixed d → Result Report CompactFault → Type 0
+  abbrev pub CompactsIn : List ℕ → Seat SharedStore Event Terms d → Seat SharedStore Event Terms d → Result Report CompactFault → Type 0
   CompactsIn bucket before after (Ok report) =
-      AddsTo history (Compact bucket) before after × IsStoodFor fixed (history ++ Compact bucket ∷ [])
-      × (report ≡ report_of (ledger_of fixed.rules history).op ((ledger_of fixed.rules history).log bucket))
+      AddsTo history (Compact bucket) before after × IsStoodFor terms (history ++ Compact bucket ∷ [])
+      × (report ≡ report_of (ledger_of terms.fixed.rules history).op ((ledger_of terms.fixed.rules history).log bucket))
   CompactsIn bucket before after (Err NoBucket) =
-      LooksAt history before after × IsStoodFor fixed history × (force_ops (ledger_of fixed.rules history) bucket ≡ [])
+      LooksAt history before after × IsStoodFor terms history × (force_ops (ledger_of terms.fixed.rules history) bucket ≡ [])
   CompactsIn bucket before after (Err Memory) = LooksAt history before after

@@ -8,16 +8,15 @@ use Rattle.ps_kept.specs.declared.values.Kept.{Ghosts}
 use Rattle.ps_lock.specs.declared.tables.Seat.{Seat}
 use Rattle.ps_queries.specs.declared.askers.Asker.{Asker}
 use Rattle.ps_store.specs.declared.events.Event.{Event}
-use Rattle.ps_store.specs.declared.fixed.Fixed.{Fixed}
 use Rattle.ps_store.specs.declared.readings.TakeFault.{TakeFault}
-use Rattle.ps_store.specs.declared.stores.Store.{Store}
 use Rattle.ps_store.specs.declared.totals.Totals.{Totals}
-use Rattle.ps_store.specs.Keeping.{KeepsHistory}
 use Rattle.ps_store.specs.Ledgers.{Ledger, ledger_of, head_of}
-use Rattle.ps_store.specs.Readings.{Takes, batch_of, log_length_of}
+use Rattle.ps_store.specs.Readings.{Takes, batch_of, log_length_of, building_of, committed_of}
 use Rattle.ps_store.specs.Totals.{totals_of, bucket_names_of}
 use Rattle.ps_workers.specs.declared.looks.Look.{Look}
+use Rattle.ps_workers.specs.declared.shared.Terms.{Terms}
 use Rattle.ps_workers.specs.Gains.{LooksAt}
+use Rattle.ps_workers.specs.Terms.{IsStoodFor}
 
 -- what a ledger shows
 pub record IsLook (l : Ledger) (look : Look) : Type 0 where
@@ -25,39 +24,37 @@ pub record IsLook (l : Ledger) (look : Look) : Type 0 where
   pub op : look.checkpoint.op.0 ≡ l.op
   pub head : look.head.0 ≡ head_of l.fed
   pub closed : look.closed ≡ l.closed
+  pub building : look.building ≡ building_of l
+  pub committed : look.committed ≡ committed_of l
 
--- a store stood for the history, so that it is legal; each of its written changes was narrow, and no new rules came in it
-abbrev pub IsStoodFor : Fixed → List Event → Type 0
-IsStoodFor fixed history = (store : Store) × KeepsHistory fixed store history
-
-module _ {V : Type 0} {d : Ghosts V Event Fixed} (fixed : Fixed) (history : List Event) where
+module _ {V : Type 0} {d : Ghosts V Event Terms} (terms : Terms) (history : List Event) where
   -- the turn came at this history, and this is what it found
-  pub record LooksIn (before after : Seat V Event Fixed d) (look : Look) : Type 0 where
+  pub record LooksIn (before after : Seat V Event Terms d) (look : Look) : Type 0 where
     pub looks : LooksAt history before after
-    pub stood : IsStoodFor fixed history
-    pub found : IsLook (ledger_of fixed.rules history) look
+    pub stood : IsStoodFor terms history
+    pub found : IsLook (ledger_of terms.fixed.rules history) look
 
   -- an asker's checkpoint was taken, or there are too many buckets
-  pub record TakesIn (asker : Asker) (before after : Seat V Event Fixed d) (look : Look) (result : Result Taken TakeFault) : Type 0 where
+  pub record TakesIn (asker : Asker) (before after : Seat V Event Terms d) (look : Look) (result : Result Taken TakeFault) : Type 0 where
     pub looks : LooksIn before after look
-    pub takes : Takes fixed history asker result
+    pub takes : Takes terms.fixed history asker result
 
   -- a batch of a bucket was read
-  pub record ReadsIn (bucket : List ℕ) (low high : OpId) (before after : Seat V Event Fixed d) (look : Look) (result : Result Batch Memory) : Type 0 where
+  pub record ReadsIn (bucket : List ℕ) (low high : OpId) (before after : Seat V Event Terms d) (look : Look) (result : Result Batch Memory) : Type 0 where
     pub looks : LooksIn before after look
-    pub reads : IfOk result (λ batch. batch ≡ batch_of (ledger_of fixed.rules history) bucket low.0 high.0)
+    pub reads : IfOk result (λ batch. batch ≡ batch_of (ledger_of terms.fixed.rules history) bucket low.0 high.0)
 
   -- the names of the buckets were read
-  pub record NamesIn (before after : Seat V Event Fixed d) (look : Look) (result : Result (List (List ℕ)) Memory) : Type 0 where
+  pub record NamesIn (before after : Seat V Event Terms d) (look : Look) (result : Result (List (List ℕ)) Memory) : Type 0 where
     pub looks : LooksIn before after look
-    pub names : IfOk result (λ names. names ≡ bucket_names_of (ledger_of fixed.rules history))
+    pub names : IfOk result (λ names. names ≡ bucket_names_of (ledger_of terms.fixed.rules history))
 
   -- the lengths of the logs of some buckets were read
-  pub record LengthsIn (buckets : List (List ℕ)) (before after : Seat V Event Fixed d) (look : Look) (lengths : List ℕ) : Type 0 where
+  pub record LengthsIn (buckets : List (List ℕ)) (before after : Seat V Event Terms d) (look : Look) (lengths : List ℕ) : Type 0 where
     pub looks : LooksIn before after look
-    pub lengths_are : lengths ≡ map (log_length_of (ledger_of fixed.rules history)) buckets
+    pub lengths_are : lengths ≡ map (log_length_of (ledger_of terms.fixed.rules history)) buckets
 
   -- what is counted was read
-  pub record TotalsIn (before after : Seat V Event Fixed d) (look : Look) (totals : Totals) : Type 0 where
+  pub record TotalsIn (before after : Seat V Event Terms d) (look : Look) (totals : Totals) : Type 0 where
     pub looks : LooksIn before after look
-    pub totals_are : totals ≡ totals_of (ledger_of fixed.rules history)
+    pub totals_are : totals ≡ totals_of (ledger_of terms.fixed.rules history)

@@ -1,5 +1,5 @@
 -- The steps of a writer.
-use Rattle.std.specs.Prelude.{◌≡◌, ℕ, Bool, true, List, [], Result, Ok, Err}
+use Rattle.std.specs.Prelude.{◌≡◌, ℕ, Bool, true, false, List, [], ◌∷◌, ◌++◌, Option, Result, Ok, Err}
 use Rattle.ps_kept.specs.declared.values.Kept.{Ghosts}
 use Rattle.ps_rows.specs.declared.changes.Transaction.{Transaction}
 use Rattle.ps_lock.specs.declared.tables.Seat.{Seat}
@@ -11,16 +11,16 @@ use Rattle.ps_store.specs.declared.faults.FeedFault.TheVariants as feeding
 use Rattle.ps_store.specs.declared.faults.WriteFault.{WriteFault}
 use Rattle.ps_store.specs.declared.faults.WriteFault.TheVariants.{NothingToWrite, TooWide, OpsFull, Memory}
 use Rattle.ps_store.specs.declared.fixed.Fixed.{Fixed}
-use Rattle.ps_store.specs.declared.stores.Checkpoint.{Checkpoint}
-use Rattle.ps_store.specs.declared.stores.Store.{Store}
 use Rattle.ps_store.specs.declared.stores.Wrote.{Wrote}
 use Rattle.ps_store.specs.Ledgers.{ledger_of}
+use Rattle.ps_store.specs.Readings.{committed_of}
 use Rattle.ps_store.specs.Stores.{IsRefused}
 use Rattle.ps_workers.specs.declared.ends.WorkEnd.{WorkEnd}
 use Rattle.ps_workers.specs.declared.ends.WorkEnd.TheVariants as ends
 use Rattle.ps_workers.specs.declared.looks.Look.{Look}
-use Rattle.ps_workers.specs.declared.writers.Pace.{Pace}
-use Rattle.ps_workers.specs.declared.writers.Pace.TheVariants.{On, Rest, Over}
+use Rattle.ps_workers.specs.declared.shared.SharedStore.{SharedStore}
+use Rattle.ps_workers.specs.declared.shared.Terms.{Terms}
+use Rattle.ps_workers.specs.declared.stages.NextRules.{NextRules}
 use Rattle.ps_workers.specs.Gains.{LooksAt, AddsTo}
 use Rattle.ps_workers.specs.Looks.{LooksIn}
 use Rattle.ps_workers.specs.Work.{HasWritten, IsStoreDrained, CannotBeFed, FeedsAndWrites}
@@ -32,17 +32,17 @@ end_for (feeding.NotRising last given) = ends.Stopped
 end_for (feeding.PositionFull head) = ends.Stopped
 end_for feeding.Memory = ends.Memory
 
--- how it goes on after a batch
-abbrev pub pace_of : Result Wrote WriteFault → Pace
-pace_of (Ok wrote) = On
-pace_of (Err NothingToWrite) = Rest
-pace_of (Err (TooWide table id count)) = Over (ends.TooWide count)
-pace_of (Err (OpsFull last)) = Over (ends.OpsFull last)
-pace_of (Err Memory) = Over ends.Memory
+-- whether it wrote a batch, or how it ends
+abbrev pub past_write : Result Wrote WriteFault → Result Bool WorkEnd
+past_write (Ok wrote) = Ok true
+past_write (Err NothingToWrite) = Ok false
+past_write (Err (TooWide table id count)) = Err (ends.TooWide count)
+past_write (Err (OpsFull last)) = Err (ends.OpsFull last)
+past_write (Err Memory) = Err ends.Memory
 
-module _ {d : Ghosts Store Event Fixed} (fixed : Fixed) where
+module _ {d : Ghosts SharedStore Event Terms} (fixed : Fixed) where
   -- a transaction was fed, or why the writer ends
-  abbrev pub FeedsOne : List Event → Transaction → Seat Store Event Fixed d → Seat Store Event Fixed d → Result (Unit {0}) WorkEnd → Type 0
+  abbrev pub FeedsOne : List Event → Transaction → Seat SharedStore Event Terms d → Seat SharedStore Event Terms d → Result (Unit {0}) WorkEnd → Type 0
   FeedsOne history t before after (Ok done) = AddsTo history (Feed t) before after
   FeedsOne history t before after (Err ends.Drained) = ⊥
   FeedsOne history t before after (Err ends.Stopped) = LooksAt history before after × CannotBeFed (ledger_of fixed.rules history) t
@@ -51,28 +51,25 @@ module _ {d : Ghosts Store Event Fixed} (fixed : Fixed) where
   FeedsOne history t before after (Err ends.Memory) = LooksAt history before after
 
   -- transactions were fed, or why the writer ends that was given them
-  abbrev pub FeedsAll : List Transaction → ℕ → Seat Store Event Fixed d → Seat Store Event Fixed d → Result (Unit {0}) WorkEnd → Type 0
-  FeedsAll given batch before after (Ok done) = HasWritten batch given before after
-  FeedsAll given batch before after (Err end) = FeedsAndWrites fixed given batch before after end
+  abbrev pub FeedsAll : Option NextRules → List Transaction → ℕ → Seat SharedStore Event Terms d → Seat SharedStore Event Terms d → Result (Unit {0}) WorkEnd → Type 0
+  FeedsAll next given batch before after (Ok done) = HasWritten next batch given before after
+  FeedsAll next given batch before after (Err end) = FeedsAndWrites fixed next given batch before after end
 
-  -- what was reached is the checkpoint, or it was before, and the store was looked at
-  abbrev pub CommitsOrLooks : List Event → Seat Store Event Fixed d → Seat Store Event Fixed d → Result Checkpoint Look → Type 0
-  CommitsOrLooks history before after (Ok checkpoint) = AddsTo history Commit before after
-  CommitsOrLooks history before after (Err look) = LooksIn fixed history before after look
-
-  -- what was reached is committed; the store may be drained then
-  pub record CommitsReached (batch : ℕ) (before after : Seat Store Event Fixed d) (drained : Bool) : Type 0 where
-    pub written : HasWritten batch [] before after
+  -- what is reached is committed, and so many transactions are; the store may be drained then
+  pub record CommitsReached (next : Option NextRules) (batch : ℕ) (before after : Seat SharedStore Event Terms d) (drained : Bool) (committed : ℕ) : Type 0 where
+    pub written : HasWritten next batch [] before after
     pub drained_is : drained ≡ true → IsStoreDrained (ledger_of fixed.rules (seen_by after))
+    pub committed_is : committed ≡ committed_of (ledger_of fixed.rules (seen_by after))
 
   -- a batch was written, or why none was, at the history that the seat has seen by then
-  abbrev pub WritesNext : ℕ → Seat Store Event Fixed d → Seat Store Event Fixed d → Result Wrote WriteFault → Type 0
-  WritesNext batch before after (Ok wrote) = HasWritten batch [] before after
-  WritesNext batch before after (Err Memory) = HasWritten batch [] before after
-  WritesNext batch before after (Err fault) = HasWritten batch [] before after × IsRefused fixed.limits (ledger_of fixed.rules (seen_by after)) fault
+  abbrev pub WritesNext : Option NextRules → ℕ → Seat SharedStore Event Terms d → Seat SharedStore Event Terms d → Result Wrote WriteFault → Type 0
+  WritesNext next batch before after (Ok wrote) = HasWritten next batch [] before after
+  WritesNext next batch before after (Err Memory) = HasWritten next batch [] before after
+  WritesNext next batch before after (Err fault) = HasWritten next batch [] before after × IsRefused fixed.limits (ledger_of fixed.rules (seen_by after)) fault
 
-  -- what was reached is committed and a batch is written, as far as there is one; or why the writer ends
-  abbrev pub GoesOn : ℕ → Seat Store Event Fixed d → Seat Store Event Fixed d → Pace → Type 0
-  GoesOn batch before after On = HasWritten batch [] before after
-  GoesOn batch before after Rest = HasWritten batch [] before after
-  GoesOn batch before after (Over end) = FeedsAndWrites fixed [] batch before after end
+module _ {d : Ghosts SharedStore Event Terms} (terms : Terms) where
+  -- what was reached is the checkpoint, and so many transactions are committed; or it was before, and the store was looked at
+  abbrev pub CommitsOrLooks : List Event → Seat SharedStore Event Terms d → Seat SharedStore Event Terms d → Result ℕ Look → Type 0
+  CommitsOrLooks history before after (Ok committed) =
+      AddsTo history Commit before after × (committed ≡ committed_of (ledger_of terms.fixed.rules (history ++ Commit ∷ [])))
+  CommitsOrLooks history before after (Err look) = LooksIn terms history before after look

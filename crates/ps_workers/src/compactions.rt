@@ -3,13 +3,14 @@
 ghost use Rattle.std.specs.Prelude.{List};
 ghost use Rattle.ps_lock.specs.Words.{IsSeatOf};
 ghost use Rattle.ps_store.specs.declared.events.Event.{Event as EventSeen};
-ghost use Rattle.ps_workers.specs.Sharing.{fixed_of};
+ghost use Rattle.ps_workers.specs.Sharing.{terms_of};
 ghost use Rattle.ps_workers.specs.Compactions.{CompactsIn};
 
+use crate::shared::SharedStore;
 use ps_compact::Report;
 use ps_data::{Memory, Text};
 use ps_lock::{Seat, StoreLock};
-use ps_store::{CompactFault, Event, Store};
+use ps_store::{CompactFault, Event};
 use std::alloc::Global;
 use std::sync::Wait;
 
@@ -18,20 +19,20 @@ use std::sync::Wait;
 pub fn compact_in_turn<R: Wait>(
     rt: &R,
     alloc: Global,
-    lock: &StoreLock<Store>,
-    seat: Seat<Store>,
+    lock: &StoreLock<SharedStore>,
+    seat: Seat<SharedStore>,
     bucket: &Text,
-) -> (Seat<Store>, Result<Report, CompactFault>)
+) -> (Seat<SharedStore>, Result<Report, CompactFault>)
     requires { IsSeatOf lock.now seat }
     ensures lock { IsSeatOf lock.now result.0 }
-    ensures turn { (history : List EventSeen) × CompactsIn (fixed_of lock.now) history bucket.now seat result.0 result.1 }
+    ensures turn { (history : List EventSeen) × CompactsIn (terms_of lock.now) history bucket.now seat result.0 result.1 }
 {
     let copy = match bucket.copy(alloc) {
         Ok(copy) => copy,
         Err(Memory) => return (seat, Err(CompactFault::Memory)),
     };
     let mut turn = lock.turn(rt, seat);
-    match turn.value().compact(alloc, bucket) {
+    match turn.value().store.compact(alloc, bucket) {
         Ok(report) => (turn.leave_with(Event::Compact { bucket: copy }), Ok(report)),
         Err(fault) => (turn.leave(), Err(fault)),
     }

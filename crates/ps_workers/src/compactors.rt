@@ -1,8 +1,9 @@
 //! The compactor: it compacts buckets after commits, and all of them once the store is drained.
 
-ghost use Rattle.std.specs.Prelude.{◌≡◌, ◌<◌, true, OnOk};
+ghost use Rattle.std.specs.Prelude.{◌≡◌, ◌<◌, true, false, OnOk};
 ghost use Rattle.ps_lock.specs.Words.{IsSeatOf, seen_by};
-ghost use Rattle.ps_workers.specs.Sharing.{fixed_of};
+ghost use Rattle.ps_store.specs.Histories.{has_deploy};
+ghost use Rattle.ps_workers.specs.Sharing.{terms_of, fixed_of};
 ghost use Rattle.ps_workers.specs.Compacting.{IsOver, IsOverWith, HasCompacted, CompactsOn};
 ghost use Rattle.ps_workers.specs.Work.{HasWorked, IsOfCompactor, CompactsAll};
 
@@ -10,12 +11,13 @@ use crate::compactions::compact_in_turn;
 use crate::ends::WorkEnd;
 use crate::gates::Gate;
 use crate::levels::{Buckets, Levels};
-use crate::looks::{lengths_in_turn, names_in_turn, totals_in_turn};
+use crate::looks::{Look, lengths_in_turn, look_in_turn, names_in_turn, totals_in_turn};
+use crate::shared::SharedStore;
 use crate::workplaces::{Passes, Workplace};
-use ps_data::{Memory, OpId, Text};
+use ps_data::{Memory, Text};
 use ps_doors::Bell;
 use ps_lock::{Seat, StoreLock};
-use ps_store::{CompactFault, Store, ledgers_tell_ops, totals_tell_histories};
+use ps_store::{CompactFault, ledgers_tell_ops, totals_tell_histories};
 use std::alloc::Global;
 use std::sync::Wait;
 
@@ -26,10 +28,10 @@ const SLICE: usize = 256;
 fn compact_one<R: Wait, G: Gate>(
     place: &Workplace<R>,
     passes: &mut Passes<G>,
-    seat: Seat<Store>,
+    seat: Seat<SharedStore>,
     name: &Text,
     levels: &mut Levels,
-) -> (Seat<Store>, Result<(), Memory>)
+) -> (Seat<SharedStore>, Result<(), Memory>)
     requires { IsSeatOf place.now.lock.now seat }
     ensures lock { IsSeatOf place.now.lock.now result.0 }
     ensures worked { HasWorked IsOfCompactor seat result.0 }
@@ -48,11 +50,11 @@ fn compact_one<R: Wait, G: Gate>(
 fn compact_grown<R: Wait, G: Gate>(
     place: &Workplace<R>,
     passes: &mut Passes<G>,
-    seat: Seat<Store>,
+    seat: Seat<SharedStore>,
     names: &[Text],
     lengths: &[u64],
     levels: &mut Levels,
-) -> (Seat<Store>, Result<(), Memory>)
+) -> (Seat<SharedStore>, Result<(), Memory>)
     requires { IsSeatOf place.now.lock.now seat }
     ensures lock { IsSeatOf place.now.lock.now result.0 }
     ensures worked { HasWorked IsOfCompactor seat result.0 }
@@ -76,10 +78,10 @@ fn compact_grown<R: Wait, G: Gate>(
 fn sweep_slice<R: Wait, G: Gate>(
     place: &Workplace<R>,
     passes: &mut Passes<G>,
-    seat: Seat<Store>,
+    seat: Seat<SharedStore>,
     names: &[Text],
     levels: &mut Levels,
-) -> (Seat<Store>, Result<(), Memory>)
+) -> (Seat<SharedStore>, Result<(), Memory>)
     requires { IsSeatOf place.now.lock.now seat }
     ensures lock { IsSeatOf place.now.lock.now result.0 }
     ensures worked { HasWorked IsOfCompactor seat result.0 }
@@ -98,10 +100,10 @@ fn sweep_slice<R: Wait, G: Gate>(
 fn sweep<R: Wait, G: Gate>(
     place: &Workplace<R>,
     passes: &mut Passes<G>,
-    seat: Seat<Store>,
+    seat: Seat<SharedStore>,
     names: &[Text],
     levels: &mut Levels,
-) -> (Seat<Store>, Result<(), Memory>)
+) -> (Seat<SharedStore>, Result<(), Memory>)
     requires { IsSeatOf place.now.lock.now seat }
     ensures lock { IsSeatOf place.now.lock.now result.0 }
     ensures worked { HasWorked IsOfCompactor seat result.0 }
@@ -118,19 +120,21 @@ fn sweep<R: Wait, G: Gate>(
     (here, Ok(()))
 }
 
-// Reads the names of the buckets anew, in one turn, where the store counts others than when they were read last.
+// Reads the names of the buckets anew, in one turn, where the store counts others than when they were read last, or what was being built then
+// is not any more: it may have come into force.
 fn learn_names<R: Wait, G: Gate>(
     place: &Workplace<R>,
     passes: &mut Passes<G>,
-    seat: Seat<Store>,
+    seat: Seat<SharedStore>,
     buckets: &mut Buckets,
+    building: Option<u32>,
     counted: u64,
-) -> (Seat<Store>, Result<(), Memory>)
+) -> (Seat<SharedStore>, Result<(), Memory>)
     requires { IsSeatOf place.now.lock.now seat }
     ensures lock { IsSeatOf place.now.lock.now result.0 }
     ensures worked { HasWorked IsOfCompactor seat result.0 }
 {
-    if buckets.counted == counted {
+    if buckets.counted == counted && buckets.building == building {
         return (seat, Ok(()));
     }
     passes.pass();
@@ -139,32 +143,33 @@ fn learn_names<R: Wait, G: Gate>(
         Ok(names) => {
             buckets.names = names;
             buckets.counted = counted;
+            buckets.building = building;
             (seat, Ok(()))
         }
         Err(Memory) => (seat, Err(Memory)),
     }
 }
 
-// Compacts what has grown, where there was a commit since this was done last: the checkpoint's op is another.
+// Compacts what has grown, where there was a commit or a switch since this was done last: the checkpoint's op is another.
 fn compact_after<R: Wait, G: Gate>(
     place: &Workplace<R>,
     passes: &mut Passes<G>,
-    seat: Seat<Store>,
+    seat: Seat<SharedStore>,
     buckets: &mut Buckets,
-    op: OpId,
+    look: &Look,
     counted: u64,
-) -> (Seat<Store>, Result<(), Memory>)
+) -> (Seat<SharedStore>, Result<(), Memory>)
     requires { IsSeatOf place.now.lock.now seat }
     ensures lock { IsSeatOf place.now.lock.now result.0 }
     ensures worked { HasWorked IsOfCompactor seat result.0 }
 {
-    if buckets.op == op {
+    if buckets.op == look.checkpoint.op {
         return (seat, Ok(()));
     }
-    let (seat, learnt) = learn_names(place, passes, seat, buckets, counted);
+    let (seat, learnt) = learn_names(place, passes, seat, buckets, look.building, counted);
     match learnt {
         Ok(()) => {
-            buckets.op = op;
+            buckets.op = look.checkpoint.op;
             sweep(
                 place,
                 passes,
@@ -177,18 +182,19 @@ fn compact_after<R: Wait, G: Gate>(
     }
 }
 
-// Compacts each of the buckets of a drained store, one in a turn.
+// Compacts each of the buckets of a store that was drained, one in a turn. One that the store does not have any more is left out: new rules
+// came since then.
 fn compact_each<R: Wait, G: Gate>(
     place: &Workplace<R>,
     passes: &mut Passes<G>,
-    seat: Seat<Store>,
+    seat: Seat<SharedStore>,
     names: &[Text],
-) -> (Seat<Store>, Result<(), Memory>)
+) -> (Seat<SharedStore>, Result<(), Memory>)
     requires lock { IsSeatOf place.now.lock.now seat }
-    requires over { IsOverWith (fixed_of place.now.lock.now) names.now (seen_by seat) }
+    requires over { IsOverWith (terms_of place.now.lock.now) names.now (seen_by seat) }
     ensures lock { IsSeatOf place.now.lock.now result.0 }
     ensures worked { HasWorked IsOfCompactor seat result.0 }
-    ensures each { OnOk result.1 (HasCompacted (fixed_of place.now.lock.now) (seen_by seat) (seen_by result.0) names.now) }
+    ensures each { OnOk result.1 (has_deploy (seen_by result.0) ≡ false → HasCompacted (terms_of place.now.lock.now) (seen_by seat) (seen_by result.0) names.now) }
 {
     ledgers_tell_ops();
     totals_tell_histories();
@@ -198,51 +204,52 @@ fn compact_each<R: Wait, G: Gate>(
         let (next, compacted) = compact_in_turn(place.rt, place.alloc, place.lock, here, name);
         here = next;
         match compacted {
-            Ok(_) => {}
-            Err(fault) => match fault {
-                CompactFault::Memory => return (here, Err(Memory)),
-                // What is drained loses no bucket.
-                CompactFault::NoBucket => unreachable!(),
-            },
+            Ok(_) | Err(CompactFault::NoBucket) => {}
+            Err(CompactFault::Memory) => return (here, Err(Memory)),
         }
     }
     (here, Ok(()))
 }
 
-// Compacts each bucket of a drained store once more, and ends.
+// Compacts each bucket of a drained store once more. That is the end, where the store is drained still.
 fn compact_last<R: Wait, G: Gate>(
     place: &Workplace<R>,
     passes: &mut Passes<G>,
-    seat: Seat<Store>,
-) -> (Seat<Store>, WorkEnd)
+    seat: Seat<SharedStore>,
+) -> (Seat<SharedStore>, Result<(), WorkEnd>)
     requires lock { IsSeatOf place.now.lock.now seat }
-    requires over { IsOver (fixed_of place.now.lock.now) (seen_by seat) }
+    requires over { IsOver (terms_of place.now.lock.now) (seen_by seat) }
     ensures lock { IsSeatOf place.now.lock.now result.0 }
-    ensures work { CompactsAll (fixed_of place.now.lock.now) ⊥ seat result.0 result.1 }
+    ensures work { CompactsOn (fixed_of place.now.lock.now) ⊥ seat result.0 result.1 }
 {
     ledgers_tell_ops();
     passes.pass();
     let (seat, _look, names) = names_in_turn(place.rt, place.alloc, place.lock, seat);
     let names = match names {
         Ok(names) => names,
-        Err(Memory) => return (seat, WorkEnd::Memory),
+        Err(Memory) => return (seat, Err(WorkEnd::Memory)),
     };
     let (seat, done) = compact_each(place, passes, seat, names.as_slice());
-    match done {
-        Ok(()) => (seat, WorkEnd::Drained),
-        Err(Memory) => (seat, WorkEnd::Memory),
+    if done.is_err() {
+        return (seat, Err(WorkEnd::Memory));
     }
+    passes.pass();
+    let (seat, look) = look_in_turn(place.rt, place.lock, seat);
+    if look.is_drained() {
+        return (seat, Err(WorkEnd::Drained));
+    }
+    (seat, Ok(()))
 }
 
 // One round, before which the bell was closed or not: the store is looked at, and what has grown is compacted, or all where the store is
-// drained, which ends the compactor.
+// drained, which ends the compactor where it is so still.
 fn round<R: Wait, G: Gate>(
     place: &Workplace<R>,
     passes: &mut Passes<G>,
-    seat: Seat<Store>,
+    seat: Seat<SharedStore>,
     buckets: &mut Buckets,
     was_closed: bool,
-) -> (Seat<Store>, Result<(), WorkEnd>)
+) -> (Seat<SharedStore>, Result<(), WorkEnd>)
     requires { IsSeatOf place.now.lock.now seat }
     ensures lock { IsSeatOf place.now.lock.now result.0 }
     ensures goes_on { CompactsOn (fixed_of place.now.lock.now) (was_closed ≡ true) seat result.0 result.1 }
@@ -250,14 +257,12 @@ fn round<R: Wait, G: Gate>(
     passes.pass();
     let (seat, look, totals) = totals_in_turn(place.rt, place.lock, seat);
     if look.is_drained() {
-        let (seat, end) = compact_last(place, passes, seat);
-        return (seat, Err(end));
+        return compact_last(place, passes, seat);
     }
     if was_closed {
         return (seat, Err(WorkEnd::Stopped));
     }
-    let op = look.checkpoint.op;
-    let (seat, done) = compact_after(place, passes, seat, buckets, op, totals.buckets);
+    let (seat, done) = compact_after(place, passes, seat, buckets, &look, totals.buckets);
     match done {
         Ok(()) => (seat, Ok(())),
         Err(Memory) => (seat, Err(WorkEnd::Memory)),
@@ -268,10 +273,10 @@ fn round<R: Wait, G: Gate>(
 fn compact_on<R: Wait, G: Gate, B: Bell>(
     place: &Workplace<R>,
     passes: &mut Passes<G>,
-    seat: Seat<Store>,
+    seat: Seat<SharedStore>,
     buckets: &mut Buckets,
     bell: &mut B,
-) -> (Seat<Store>, WorkEnd)
+) -> (Seat<SharedStore>, WorkEnd)
     requires { IsSeatOf place.now.lock.now seat }
     ensures lock { IsSeatOf place.now.lock.now result.0 }
     ensures work { CompactsAll (fixed_of place.now.lock.now) (B.closings bell.old < B.closings bell.new) seat result.0 result.1 }
@@ -293,19 +298,19 @@ fn compact_on<R: Wait, G: Gate, B: Bell>(
     unreachable!()
 }
 
-/// After each commit that it hears, compacts, one in a turn, each bucket whose log has at least `at` operations more than after its last
-/// compaction. Where the store is drained it compacts each bucket once more and ends `Drained`: the feed is closed and the checkpoint is at
-/// the head. Where the bell is closed and a later turn finds the store not drained, it ends `Stopped`. The seat is one of the lock's, and the
+/// After each commit and switch that it hears, compacts, one in a turn, each bucket whose log has at least `at` operations more than after its last
+/// compaction. Where the store is drained it compacts each bucket once more and ends `Drained`, if it is drained still: the feed is closed,
+/// the checkpoint is at the head, and no generation is being built. Where the bell is closed and a later turn finds the store not drained, it ends `Stopped`. The seat is one of the lock's, and the
 /// gate is passed before each turn. It never rings or closes the bell.
 pub fn compact_all<R: Wait, G: Gate, B: Bell>(
     rt: &R,
     alloc: Global,
-    lock: &StoreLock<Store>,
-    seat: Seat<Store>,
+    lock: &StoreLock<SharedStore>,
+    seat: Seat<SharedStore>,
     at: u64,
     gate: &G,
     bell: &mut B,
-) -> (Seat<Store>, WorkEnd)
+) -> (Seat<SharedStore>, WorkEnd)
     requires { IsSeatOf lock.now seat }
     ensures lock { IsSeatOf lock.now result.0 }
     ensures work { CompactsAll (fixed_of lock.now) (B.closings bell.old < B.closings bell.new) seat result.0 result.1 }

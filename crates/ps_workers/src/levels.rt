@@ -38,6 +38,8 @@ pub(crate) struct Buckets {
     pub(crate) names: Items<Text>,
     /// How many buckets the store counted before they were read.
     pub(crate) counted: u64,
+    /// The generation that was being built then, if one was.
+    pub(crate) building: Option<u32>,
     /// The op of the last checkpoint after which was compacted what had grown.
     pub(crate) op: OpId,
     /// What was left of their logs.
@@ -50,6 +52,7 @@ impl Buckets {
         Buckets {
             names: Items::new(alloc),
             counted: 0,
+            building: None,
             op: OpId(0),
             levels: Levels {
                 at,

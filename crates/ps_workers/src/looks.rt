@@ -1,15 +1,16 @@
 //! What is read of a shared store, each in one turn that adds nothing to the history.
 
-ghost use Rattle.std.specs.Prelude.{◌≡◌, ◌↔◌, ◌+◌, ◌≤◌, ◌++◌, true, List, IfOk, OnErr, IsTrue, length, map, vec_len, vec_capacity};
+ghost use Rattle.std.specs.Prelude.{◌≡◌, ◌↔◌, ◌+◌, ◌≤◌, ◌++◌, true, List, None, IfOk, OnErr, IsTrue, length, map, vec_len, vec_capacity};
 ghost use Rattle.ps_lock.specs.Words.{IsSeatOf};
 ghost use Rattle.ps_store.specs.declared.events.Event.{Event as EventSeen};
 ghost use Rattle.ps_store.specs.declared.fixed.Fixed.{Fixed as FixedSeen};
 ghost use Rattle.ps_store.specs.Ledgers.{ledger_of};
 ghost use Rattle.ps_store.specs.Readings.{log_length_of};
 ghost use Rattle.ps_store.specs.Stores.{StoreStandsFor};
-ghost use Rattle.ps_workers.specs.Sharing.{fixed_of};
+ghost use Rattle.ps_workers.specs.Sharing.{terms_of};
 ghost use Rattle.ps_workers.specs.Looks.{IsLook, LooksIn, TakesIn, ReadsIn, NamesIn, LengthsIn, TotalsIn};
 
+use crate::shared::SharedStore;
 use ps_bucket_log::{Batch, Taken};
 use ps_data::{Items, Memory, OpId, Position, Text};
 use ps_lock::{Seat, StoreLock};
@@ -27,14 +28,18 @@ pub struct Look {
     pub head: Position,
     /// Whether nothing more is fed.
     pub closed: bool,
+    /// The number of the generation that is being built, if one is.
+    pub building: Option<u32>,
+    /// How many of the fed transactions are at positions up to the checkpoint's.
+    pub committed: u64,
 }
 
 impl Look {
-    /// Whether the store is drained: nothing more is fed, and the checkpoint is at the head.
+    /// Whether the store is drained: nothing more is fed, the checkpoint is at the head, and no generation is being built.
     pub fn is_drained(&self) -> bool
-        ensures { IsTrue result ↔ ((self.now.closed ≡ true) × (self.now.checkpoint.position.0 ≡ self.now.head.0)) }
+        ensures { IsTrue result ↔ ((self.now.closed ≡ true) × (self.now.checkpoint.position.0 ≡ self.now.head.0) × (self.now.building ≡ None)) }
     {
-        self.closed && self.checkpoint.position.0 == self.head.0
+        self.closed && self.checkpoint.position.0 == self.head.0 && self.building.is_none()
     }
 }
 
@@ -46,21 +51,23 @@ pub(crate) fn look_at(store: &Store) -> Look
         checkpoint: store.checkpoint(),
         head: store.head(),
         closed: store.closed(),
+        building: store.building(),
+        committed: store.committed(),
     }
 }
 
 /// Looks at the store in one turn. The seat is one of the lock's.
 pub fn look_in_turn<R: Wait>(
     rt: &R,
-    lock: &StoreLock<Store>,
-    seat: Seat<Store>,
-) -> (Seat<Store>, Look)
+    lock: &StoreLock<SharedStore>,
+    seat: Seat<SharedStore>,
+) -> (Seat<SharedStore>, Look)
     requires { IsSeatOf lock.now seat }
     ensures lock { IsSeatOf lock.now result.0 }
-    ensures turn { (history : List EventSeen) × LooksIn (fixed_of lock.now) history seat result.0 result.1 }
+    ensures turn { (history : List EventSeen) × LooksIn (terms_of lock.now) history seat result.0 result.1 }
 {
     let mut turn = lock.turn(rt, seat);
-    let look = look_at(turn.value());
+    let look = look_at(&turn.value().store);
     (turn.leave(), look)
 }
 
@@ -68,17 +75,17 @@ pub fn look_in_turn<R: Wait>(
 pub fn take_in_turn<R: Wait>(
     rt: &R,
     alloc: Global,
-    lock: &StoreLock<Store>,
-    seat: Seat<Store>,
+    lock: &StoreLock<SharedStore>,
+    seat: Seat<SharedStore>,
     asker: &Asker,
-) -> (Seat<Store>, Look, Result<Taken, TakeFault>)
+) -> (Seat<SharedStore>, Look, Result<Taken, TakeFault>)
     requires { IsSeatOf lock.now seat }
     ensures lock { IsSeatOf lock.now result.0 }
-    ensures turn { (history : List EventSeen) × TakesIn (fixed_of lock.now) history asker.now seat result.0 result.1 result.2 }
+    ensures turn { (history : List EventSeen) × TakesIn (terms_of lock.now) history asker.now seat result.0 result.1 result.2 }
 {
     let mut turn = lock.turn(rt, seat);
-    let look = look_at(turn.value());
-    let taken = turn.value().take_uncounted(alloc, asker);
+    let look = look_at(&turn.value().store);
+    let taken = turn.value().store.take_uncounted(alloc, asker);
     (turn.leave(), look, taken)
 }
 
@@ -86,19 +93,19 @@ pub fn take_in_turn<R: Wait>(
 pub fn read_in_turn<R: Wait>(
     rt: &R,
     alloc: Global,
-    lock: &StoreLock<Store>,
-    seat: Seat<Store>,
+    lock: &StoreLock<SharedStore>,
+    seat: Seat<SharedStore>,
     bucket: &Text,
     after: OpId,
     upto: OpId,
-) -> (Seat<Store>, Look, Result<Batch, Memory>)
+) -> (Seat<SharedStore>, Look, Result<Batch, Memory>)
     requires { IsSeatOf lock.now seat }
     ensures lock { IsSeatOf lock.now result.0 }
-    ensures turn { (history : List EventSeen) × ReadsIn (fixed_of lock.now) history bucket.now after upto seat result.0 result.1 result.2 }
+    ensures turn { (history : List EventSeen) × ReadsIn (terms_of lock.now) history bucket.now after upto seat result.0 result.1 result.2 }
 {
     let mut turn = lock.turn(rt, seat);
-    let look = look_at(turn.value());
-    let batch = turn.value().read_uncounted(alloc, bucket, after, upto);
+    let look = look_at(&turn.value().store);
+    let batch = turn.value().store.read_uncounted(alloc, bucket, after, upto);
     (turn.leave(), look, batch)
 }
 
@@ -107,16 +114,16 @@ pub fn read_in_turn<R: Wait>(
 pub fn names_in_turn<R: Wait>(
     rt: &R,
     alloc: Global,
-    lock: &StoreLock<Store>,
-    seat: Seat<Store>,
-) -> (Seat<Store>, Look, Result<Items<Text>, Memory>)
+    lock: &StoreLock<SharedStore>,
+    seat: Seat<SharedStore>,
+) -> (Seat<SharedStore>, Look, Result<Items<Text>, Memory>)
     requires { IsSeatOf lock.now seat }
     ensures lock { IsSeatOf lock.now result.0 }
-    ensures turn { (history : List EventSeen) × NamesIn (fixed_of lock.now) history seat result.0 result.1 result.2 }
+    ensures turn { (history : List EventSeen) × NamesIn (terms_of lock.now) history seat result.0 result.1 result.2 }
 {
     let mut turn = lock.turn(rt, seat);
-    let look = look_at(turn.value());
-    let names = turn.value().bucket_names(alloc);
+    let look = look_at(&turn.value().store);
+    let names = turn.value().store.bucket_names(alloc);
     (turn.leave(), look, names)
 }
 
@@ -136,13 +143,13 @@ fn lengths_of(store: &Store, buckets: &[Text], lengths: &mut Vec<u64>)
 pub fn lengths_in_turn<R: Wait>(
     rt: &R,
     alloc: Global,
-    lock: &StoreLock<Store>,
-    seat: Seat<Store>,
+    lock: &StoreLock<SharedStore>,
+    seat: Seat<SharedStore>,
     buckets: &[Text],
-) -> (Seat<Store>, Result<(Look, Vec<u64>), Memory>)
+) -> (Seat<SharedStore>, Result<(Look, Vec<u64>), Memory>)
     requires { IsSeatOf lock.now seat }
     ensures lock { IsSeatOf lock.now result.0 }
-    ensures turn { IfOk result.1 (λ found. (history : List EventSeen) × LengthsIn (fixed_of lock.now) history buckets.now seat result.0 found.0 found.1.items) }
+    ensures turn { IfOk result.1 (λ found. (history : List EventSeen) × LengthsIn (terms_of lock.now) history buckets.now seat result.0 found.0 found.1.items) }
     ensures none { OnErr result.1 (result.0 ≡ seat) }
 {
     let mut lengths = match Vec::with_capacity(alloc, buckets.len()) {
@@ -150,23 +157,23 @@ pub fn lengths_in_turn<R: Wait>(
         Err(AllocError) => return (seat, Err(Memory)),
     };
     let mut turn = lock.turn(rt, seat);
-    let look = look_at(turn.value());
-    lengths_of(turn.value(), buckets, &mut lengths);
+    let look = look_at(&turn.value().store);
+    lengths_of(&turn.value().store, buckets, &mut lengths);
     (turn.leave(), Ok((look, lengths)))
 }
 
 /// Reads what a store counts in one turn, and looks at the store in it. The seat is one of the lock's.
 pub fn totals_in_turn<R: Wait>(
     rt: &R,
-    lock: &StoreLock<Store>,
-    seat: Seat<Store>,
-) -> (Seat<Store>, Look, Totals)
+    lock: &StoreLock<SharedStore>,
+    seat: Seat<SharedStore>,
+) -> (Seat<SharedStore>, Look, Totals)
     requires { IsSeatOf lock.now seat }
     ensures lock { IsSeatOf lock.now result.0 }
-    ensures turn { (history : List EventSeen) × TotalsIn (fixed_of lock.now) history seat result.0 result.1 result.2 }
+    ensures turn { (history : List EventSeen) × TotalsIn (terms_of lock.now) history seat result.0 result.1 result.2 }
 {
     let mut turn = lock.turn(rt, seat);
-    let look = look_at(turn.value());
-    let totals = turn.value().totals();
+    let look = look_at(&turn.value().store);
+    let totals = turn.value().store.totals();
     (turn.leave(), look, totals)
 }

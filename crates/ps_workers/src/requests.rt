@@ -8,10 +8,11 @@ ghost use Rattle.ps_store.specs.declared.events.Event.TheVariants.{WriteCheckpoi
 ghost use Rattle.ps_workers.specs.Sharing.{fixed_of};
 ghost use Rattle.ps_workers.specs.Gains.{UploadsIn, NumbersIn};
 
+use crate::shared::SharedStore;
 use ps_data::{Items, Memory, Position, Text, copy_all};
 use ps_lock::{Seat, StoreLock};
 use ps_rows::{Change, Transaction};
-use ps_store::{Event, FeedFault, Store};
+use ps_store::{Event, FeedFault};
 use ps_write_cp::NumberFault;
 use std::alloc::Global;
 use std::sync::Wait;
@@ -22,10 +23,10 @@ use std::sync::Wait;
 pub fn upload_in_turn<R: Wait>(
     rt: &R,
     alloc: Global,
-    lock: &StoreLock<Store>,
-    seat: Seat<Store>,
+    lock: &StoreLock<SharedStore>,
+    seat: Seat<SharedStore>,
     changes: Items<Change>,
-) -> (Seat<Store>, Result<Position, FeedFault>)
+) -> (Seat<SharedStore>, Result<Position, FeedFault>)
     requires seat { IsSeatOf lock.now seat }
     requires tables { All (λ (change : ChangeSeen). 0 < length change.table) changes }
     ensures lock { IsSeatOf lock.now result.0 }
@@ -36,7 +37,7 @@ pub fn upload_in_turn<R: Wait>(
         Err(_) => return (seat, Err(FeedFault::Memory)),
     };
     let mut turn = lock.turn(rt, seat);
-    match turn.value().upload(alloc, changes) {
+    match turn.value().store.upload(alloc, changes) {
         Ok(position) => (
             turn.leave_with(Event::Feed {
                 transaction: Transaction {
@@ -65,11 +66,11 @@ fn number_event(alloc: Global, user: &Text, client: &Text) -> Result<Event, Memo
 pub fn number_in_turn<R: Wait>(
     rt: &R,
     alloc: Global,
-    lock: &StoreLock<Store>,
-    seat: Seat<Store>,
+    lock: &StoreLock<SharedStore>,
+    seat: Seat<SharedStore>,
     user: &Text,
     client: &Text,
-) -> (Seat<Store>, Result<u64, NumberFault>)
+) -> (Seat<SharedStore>, Result<u64, NumberFault>)
     requires { IsSeatOf lock.now seat }
     ensures lock { IsSeatOf lock.now result.0 }
     ensures turn { (history : List EventSeen) × NumbersIn (fixed_of lock.now) history user.now client.now seat result.0 result.1 }
@@ -79,7 +80,7 @@ pub fn number_in_turn<R: Wait>(
         Err(_) => return (seat, Err(NumberFault::Memory)),
     };
     let mut turn = lock.turn(rt, seat);
-    match turn.value().write_checkpoint(alloc, user, client) {
+    match turn.value().store.write_checkpoint(alloc, user, client) {
         Ok(number) => (turn.leave_with(event), Ok(number)),
         Err(fault) => (turn.leave(), Err(fault)),
     }

@@ -8,9 +8,10 @@ ghost use Rattle.ps_store.specs.Limits.{greatest};
 ghost use Rattle.ps_workers.specs.Sharing.{fixed_of};
 ghost use Rattle.ps_workers.specs.Gains.{AddsTo, FeedsIn, WritesIn, CommitsIn};
 
+use crate::shared::SharedStore;
 use ps_lock::{Seat, StoreLock};
 use ps_rows::Transaction;
-use ps_store::{Checkpoint, Event, FeedFault, NothingToCommit, Store, WriteFault, Wrote};
+use ps_store::{Checkpoint, Event, FeedFault, NothingToCommit, WriteFault, Wrote};
 use std::alloc::Global;
 use std::sync::Wait;
 
@@ -20,10 +21,10 @@ use std::sync::Wait;
 pub fn feed_in_turn<R: Wait>(
     rt: &R,
     alloc: Global,
-    lock: &StoreLock<Store>,
-    seat: Seat<Store>,
+    lock: &StoreLock<SharedStore>,
+    seat: Seat<SharedStore>,
     transaction: Transaction,
-) -> (Seat<Store>, Result<(), FeedFault>)
+) -> (Seat<SharedStore>, Result<(), FeedFault>)
     requires seat { IsSeatOf lock.now seat }
     requires position { transaction.position.0 ≤ greatest }
     ensures lock { IsSeatOf lock.now result.0 }
@@ -34,20 +35,20 @@ pub fn feed_in_turn<R: Wait>(
         Err(_) => return (seat, Err(FeedFault::Memory)),
     };
     let mut turn = lock.turn(rt, seat);
-    match turn.value().feed(alloc, transaction) {
+    match turn.value().store.feed(alloc, transaction) {
         Ok(()) => (turn.leave_with(Event::Feed { transaction: copy }), Ok(())),
         Err(fault) => (turn.leave(), Err(fault)),
     }
 }
 
 /// Closes the feed in one turn. The seat is one of the lock's.
-pub fn close_in_turn<R: Wait>(rt: &R, lock: &StoreLock<Store>, seat: Seat<Store>) -> Seat<Store>
+pub fn close_in_turn<R: Wait>(rt: &R, lock: &StoreLock<SharedStore>, seat: Seat<SharedStore>) -> Seat<SharedStore>
     requires { IsSeatOf lock.now seat }
     ensures lock { IsSeatOf lock.now result }
     ensures turn { (history : List EventSeen) × AddsTo history Close seat result }
 {
     let mut turn = lock.turn(rt, seat);
-    turn.value().close_feed();
+    turn.value().store.close_feed();
     turn.leave_with(Event::Close)
 }
 
@@ -56,10 +57,10 @@ pub fn close_in_turn<R: Wait>(rt: &R, lock: &StoreLock<Store>, seat: Seat<Store>
 pub fn write_in_turn<R: Wait>(
     rt: &R,
     alloc: Global,
-    lock: &StoreLock<Store>,
-    seat: Seat<Store>,
+    lock: &StoreLock<SharedStore>,
+    seat: Seat<SharedStore>,
     limit: u32,
-) -> (Seat<Store>, Result<Wrote, WriteFault>)
+) -> (Seat<SharedStore>, Result<Wrote, WriteFault>)
     requires seat { IsSeatOf lock.now seat }
     requires some { 1 ≤ limit }
     requires limit { limit ≤ 1000000 }
@@ -67,7 +68,7 @@ pub fn write_in_turn<R: Wait>(
     ensures turn { (history : List EventSeen) × WritesIn (fixed_of lock.now) history limit seat result.0 result.1 }
 {
     let mut turn = lock.turn(rt, seat);
-    match turn.value().write_batch(alloc, limit) {
+    match turn.value().store.write_batch(alloc, limit) {
         Ok(wrote) => {
             let changes = u64::from(wrote.changes);
             (turn.leave_with(Event::Write { changes }), Ok(wrote))
@@ -80,15 +81,15 @@ pub fn write_in_turn<R: Wait>(
 /// is added to the history. The seat is one of the lock's.
 pub fn commit_in_turn<R: Wait>(
     rt: &R,
-    lock: &StoreLock<Store>,
-    seat: Seat<Store>,
-) -> (Seat<Store>, Result<Checkpoint, NothingToCommit>)
+    lock: &StoreLock<SharedStore>,
+    seat: Seat<SharedStore>,
+) -> (Seat<SharedStore>, Result<Checkpoint, NothingToCommit>)
     requires { IsSeatOf lock.now seat }
     ensures lock { IsSeatOf lock.now result.0 }
     ensures turn { (history : List EventSeen) × CommitsIn (fixed_of lock.now) history seat result.0 result.1 }
 {
     let mut turn = lock.turn(rt, seat);
-    match turn.value().commit() {
+    match turn.value().store.commit() {
         Ok(checkpoint) => (turn.leave_with(Event::Commit), Ok(checkpoint)),
         Err(nothing) => (turn.leave(), Err(nothing)),
     }

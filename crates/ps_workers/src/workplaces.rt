@@ -1,8 +1,8 @@
 //! Where workers work: at the store's lock, behind a gate.
 
 use crate::gates::Gate;
+use crate::shared::SharedStore;
 use ps_lock::StoreLock;
-use ps_store::Store;
 use std::alloc::Global;
 
 /// The store's lock, and what its use takes.
@@ -13,7 +13,7 @@ pub(crate) struct Workplace<'a, R> {
     /// The allocator.
     pub(crate) alloc: Global,
     /// The lock.
-    pub(crate) lock: &'a StoreLock<Store>,
+    pub(crate) lock: &'a StoreLock<SharedStore>,
 }
 
 /// A worker's gate, and how often it was passed.

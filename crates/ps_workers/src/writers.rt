@@ -1,77 +1,76 @@
-//! The writer: it feeds transactions, and writes and commits what is fed.
+//! The writer: it feeds transactions, writes and commits what is fed, and brings new rules.
 
-ghost use Rattle.std.specs.Prelude.{◌≡◌, ℕ, ◌≤◌, List, []};
+ghost use Rattle.std.specs.Prelude.{◌≡◌, ℕ, ◌≤◌, List, [], Option};
 ghost use Rattle.std.specs.List.{All};
-ghost use Rattle.ps_lock.specs.Words.{IsSeatOf};
+ghost use Rattle.ps_lock.specs.Words.{IsSeatOf, seen_by};
 ghost use Rattle.ps_rows.specs.declared.changes.Transaction.{Transaction as TransactionSeen};
 ghost use Rattle.ps_store.specs.declared.events.Event.{Event as EventSeen};
 ghost use Rattle.ps_store.specs.Limits.{greatest};
-ghost use Rattle.ps_workers.specs.Sharing.{fixed_of};
+ghost use Rattle.ps_workers.specs.declared.stages.NextRules.{NextRules as NextRulesSeen};
+ghost use Rattle.ps_workers.specs.Renewing.{AreNext, IsUnder, IsAt, GoesOn};
+ghost use Rattle.ps_workers.specs.Sharing.{terms_of, fixed_of};
 ghost use Rattle.ps_workers.specs.Work.{FeedsAndWrites};
-ghost use Rattle.ps_workers.specs.Writing.{CommitsOrLooks, CommitsReached, FeedsOne, FeedsAll, WritesNext, GoesOn, end_for, pace_of};
+ghost use Rattle.ps_workers.specs.Writing.{CommitsOrLooks, CommitsReached, FeedsOne, FeedsAll, WritesNext, end_for, past_write};
 
 use crate::ends::WorkEnd;
 use crate::gates::Gate;
 use crate::looks::{Look, look_at};
+use crate::renewing::{build_on, deploy_on, first_stage, pace_after, when_due};
+use crate::shared::SharedStore;
+use crate::stages::{NextRules, Pace, Stage};
 use crate::turns::{feed_in_turn, write_in_turn};
 use crate::workplaces::{Passes, Workplace};
 use ps_doors::Bell;
 use ps_lock::{Seat, StoreLock};
 use ps_rows::Transaction;
-use ps_store::{Checkpoint, Event, FeedFault, Store, WriteFault, Wrote, runs_are_the_longest};
+use ps_store::{Event, FeedFault, WriteFault, Wrote, runs_are_the_longest};
 use std::alloc::Global;
 use std::sync::Wait;
 
-/// How a writer goes on after a step.
-#[derive(Clone, Copy, Debug)]
-pub(crate) enum Pace {
-    /// It wrote, so there may be more.
-    On,
-    /// There was nothing to write.
-    Rest,
-    /// It is at its end.
-    Over(WorkEnd),
-}
-
-// Makes what is reached the checkpoint in one turn. Where it is that already, it looks at the store instead.
+// Makes what is reached the checkpoint in one turn, and tells how many transactions are committed then. Where it is that already, it looks
+// at the store instead.
 fn commit_or_look<R: Wait>(
     rt: &R,
-    lock: &StoreLock<Store>,
-    seat: Seat<Store>,
-) -> (Seat<Store>, Result<Checkpoint, Look>)
+    lock: &StoreLock<SharedStore>,
+    seat: Seat<SharedStore>,
+) -> (Seat<SharedStore>, Result<u64, Look>)
     requires { IsSeatOf lock.now seat }
     ensures lock { IsSeatOf lock.now result.0 }
-    ensures turn { (history : List EventSeen) × CommitsOrLooks (fixed_of lock.now) history seat result.0 result.1 }
+    ensures turn { (history : List EventSeen) × CommitsOrLooks (terms_of lock.now) history seat result.0 result.1 }
 {
     let mut turn = lock.turn(rt, seat);
-    match turn.value().commit() {
-        Ok(checkpoint) => (turn.leave_with(Event::Commit), Ok(checkpoint)),
+    match turn.value().store.commit() {
+        Ok(_checkpoint) => {
+            let committed = turn.value().store.committed();
+            (turn.leave_with(Event::Commit), Ok(committed))
+        }
         Err(_nothing) => {
-            let look = look_at(turn.value());
+            let look = look_at(&turn.value().store);
             (turn.leave(), Err(look))
         }
     }
 }
 
-// Makes what is reached the checkpoint in one turn, and rings; or tells whether the store is drained.
+// Makes what is reached the checkpoint in one turn, and rings; or tells whether the store is drained. Tells how many transactions are
+// committed then.
 fn commit_reached<R: Wait, G: Gate, B: Bell>(
     place: &Workplace<R>,
     passes: &mut Passes<G>,
-    seat: Seat<Store>,
+    seat: Seat<SharedStore>,
     bell: &mut B,
-) -> (Seat<Store>, bool)
+) -> (Seat<SharedStore>, bool, u64)
     requires { IsSeatOf place.now.lock.now seat }
     ensures lock { IsSeatOf place.now.lock.now result.0 }
-    ensures commits { (batch : ℕ) → CommitsReached (fixed_of place.now.lock.now) batch seat result.0 result.1 }
+    ensures commits { (next : Option NextRulesSeen) (batch : ℕ) → CommitsReached (fixed_of place.now.lock.now) next batch seat result.0 result.1 result.2 }
 {
     passes.pass();
     let (seat, found) = commit_or_look(place.rt, place.lock, seat);
     match found {
-        Ok(_) => {
+        Ok(committed) => {
             bell.ring();
-            (seat, false)
+            (seat, false, committed)
         }
-        Err(look) => (seat, look.is_drained()),
+        Err(look) => (seat, look.is_drained(), look.committed),
     }
 }
 
@@ -79,75 +78,94 @@ fn commit_reached<R: Wait, G: Gate, B: Bell>(
 fn write_next<R: Wait, G: Gate>(
     place: &Workplace<R>,
     passes: &mut Passes<G>,
-    seat: Seat<Store>,
+    seat: Seat<SharedStore>,
     batch: u32,
-) -> (Seat<Store>, Result<Wrote, WriteFault>)
+) -> (Seat<SharedStore>, Result<Wrote, WriteFault>)
     requires seat { IsSeatOf place.now.lock.now seat }
     requires some { 1 ≤ batch }
     requires limit { batch ≤ 1000000 }
     ensures lock { IsSeatOf place.now.lock.now result.0 }
-    ensures writes { WritesNext (fixed_of place.now.lock.now) batch seat result.0 result.1 }
+    ensures writes { (next : Option NextRulesSeen) → WritesNext (fixed_of place.now.lock.now) next batch seat result.0 result.1 }
 {
     runs_are_the_longest();
     passes.pass();
     write_in_turn(place.rt, place.alloc, place.lock, seat, batch)
 }
 
-// How the writer goes on after a batch.
-fn pace_after(wrote: Result<Wrote, WriteFault>) -> Pace
-    ensures { result ≡ pace_of wrote }
+// Whether a batch was written, or how the writer ends.
+fn after_write(wrote: Result<Wrote, WriteFault>) -> Result<bool, WorkEnd>
+    ensures { result ≡ past_write wrote }
 {
     match wrote {
-        Ok(_) => Pace::On,
-        Err(WriteFault::NothingToWrite) => Pace::Rest,
-        Err(WriteFault::TooWide { count, .. }) => Pace::Over(WorkEnd::TooWide { count }),
-        Err(WriteFault::OpsFull { last }) => Pace::Over(WorkEnd::OpsFull { last }),
-        Err(WriteFault::Memory) => Pace::Over(WorkEnd::Memory),
+        Ok(_) => Ok(true),
+        Err(WriteFault::NothingToWrite) => Ok(false),
+        Err(WriteFault::TooWide { count, .. }) => Err(WorkEnd::TooWide { count }),
+        Err(WriteFault::OpsFull { last }) => Err(WorkEnd::OpsFull { last }),
+        Err(WriteFault::Memory) => Err(WorkEnd::Memory),
     }
 }
 
-// Commits what is reached, and writes the next batch.
+// Commits what is reached. Then it deploys new rules that are due; or it writes the next batch, and lets what is being built take one.
 fn step<R: Wait, G: Gate, B: Bell>(
     place: &Workplace<R>,
     passes: &mut Passes<G>,
-    seat: Seat<Store>,
+    seat: Seat<SharedStore>,
+    stage: Stage,
     batch: u32,
     bell: &mut B,
-) -> (Seat<Store>, Pace)
+) -> (Seat<SharedStore>, Stage, Pace)
     requires seat { IsSeatOf place.now.lock.now seat }
+    requires under { IsUnder (terms_of place.now.lock.now) stage }
     requires some { 1 ≤ batch }
     requires limit { batch ≤ 1000000 }
     ensures lock { IsSeatOf place.now.lock.now result.0 }
-    ensures goes_on { GoesOn (fixed_of place.now.lock.now) batch seat result.0 result.1 }
+    ensures under { IsUnder (terms_of place.now.lock.now) result.1 }
+    ensures goes_on { (next : Option NextRulesSeen) → IsAt (fixed_of place.now.lock.now) next (seen_by seat) stage
+        → GoesOn (fixed_of place.now.lock.now) next batch seat result.0 result.1 result.2 }
 {
-    let (seat, drained) = commit_reached(place, passes, seat, bell);
+    let (seat, drained, committed) = commit_reached(place, passes, seat, bell);
+    let stage = match when_due(stage, committed) {
+        Ok(next) => return deploy_on(place, passes, seat, next),
+        Err(stage) => stage,
+    };
     if drained {
-        return (seat, Pace::Over(WorkEnd::Drained));
+        return (seat, stage, Pace::Over(WorkEnd::Drained));
     }
     let (seat, wrote) = write_next(place, passes, seat, batch);
-    (seat, pace_after(wrote))
+    let wrote = match after_write(wrote) {
+        Ok(wrote) => wrote,
+        Err(end) => return (seat, stage, Pace::Over(end)),
+    };
+    if let Stage::Building = stage {
+        return build_on(place, passes, seat, wrote, batch, bell);
+    }
+    (seat, stage, pace_after(wrote))
 }
 
-// Writes and commits until the store is drained, or a change cannot be written.
+// Writes and commits until the store is drained, or a change cannot be written, and brings new rules.
 fn write_all<R: Wait, G: Gate, B: Bell>(
     place: &Workplace<R>,
     passes: &mut Passes<G>,
-    seat: Seat<Store>,
+    seat: Seat<SharedStore>,
+    next: Option<NextRules>,
     batch: u32,
     bell: &mut B,
-) -> (Seat<Store>, WorkEnd)
+) -> (Seat<SharedStore>, WorkEnd)
     requires seat { IsSeatOf place.now.lock.now seat }
+    requires next { AreNext (terms_of place.now.lock.now) next }
     requires some { 1 ≤ batch }
     requires limit { batch ≤ 1000000 }
     ensures lock { IsSeatOf place.now.lock.now result.0 }
-    ensures writes { FeedsAndWrites (fixed_of place.now.lock.now) [] batch seat result.0 result.1 }
+    ensures writes { FeedsAndWrites (fixed_of place.now.lock.now) next [] batch seat result.0 result.1 }
 {
     let mut here = seat;
+    let mut stage = first_stage(next);
     'steps: for _ in place.rt.forever() {
         // Heard before the step: a ring in it or behind it is not slept over, its own among them.
         let heard = bell.heard();
-        let (next, pace) = step(place, passes, here, batch, bell);
-        here = next;
+        let (later, reached, pace) = step(place, passes, here, stage, batch, bell);
+        here = later;
+        stage = reached;
         match pace {
             Pace::On => {}
             Pace::Rest => {
@@ -175,9 +193,9 @@ fn end_after(fault: FeedFault) -> WorkEnd
 fn feed_one<R: Wait, G: Gate>(
     place: &Workplace<R>,
     passes: &mut Passes<G>,
-    seat: Seat<Store>,
+    seat: Seat<SharedStore>,
     transaction: Transaction,
-) -> (Seat<Store>, Result<(), WorkEnd>)
+) -> (Seat<SharedStore>, Result<(), WorkEnd>)
     requires seat { IsSeatOf place.now.lock.now seat }
     requires position { transaction.position.0 ≤ greatest }
     ensures lock { IsSeatOf place.now.lock.now result.0 }
@@ -195,13 +213,13 @@ fn feed_one<R: Wait, G: Gate>(
 fn feed_all<R: Wait, G: Gate>(
     place: &Workplace<R>,
     passes: &mut Passes<G>,
-    seat: Seat<Store>,
+    seat: Seat<SharedStore>,
     transactions: Vec<Transaction>,
-) -> (Seat<Store>, Result<(), WorkEnd>)
+) -> (Seat<SharedStore>, Result<(), WorkEnd>)
     requires seat { IsSeatOf place.now.lock.now seat }
     requires positions { All (λ (t : TransactionSeen). t.position.0 ≤ greatest) transactions.items }
     ensures lock { IsSeatOf place.now.lock.now result.0 }
-    ensures feeds { (batch : ℕ) → FeedsAll (fixed_of place.now.lock.now) transactions.items batch seat result.0 result.1 }
+    ensures feeds { (next : Option NextRulesSeen) (batch : ℕ) → FeedsAll (fixed_of place.now.lock.now) next transactions.items batch seat result.0 result.1 }
 {
     let mut here = seat;
     'transactions: for transaction in transactions {
@@ -215,32 +233,40 @@ fn feed_all<R: Wait, G: Gate>(
 }
 
 /// Feeds transactions, none of whose positions is above 9223372036854775807, then writes one batch of at most `batch` changes, from 1 to
-/// 1,000,000, in a turn, and commits whenever something can be committed, ringing the bell after each commit. Where nothing can be written
-/// or committed and the feed is open, it waits on the bell. At its end it rings and closes the bell. `Drained` where the feed is closed and
-/// all is written and committed, `Stopped` where a transaction cannot be fed, since the feed is closed or it is not past the head; else it
-/// ends by the store's refusal of the next change. The seat is one of the lock's, and the gate is passed before each turn.
+/// 1,000,000, in a turn, and commits whenever something can be committed. Once `next.after` transactions are written and committed it
+/// deploys the next rules, which are those that may come to the lock's store; a deploy that is refused for another cause than memory is left
+/// out. Then after each batch that it writes it builds one of at most `batch` changes in a turn, and the rest in such batches at the end. It
+/// switches where that is allowed. It rings the bell after each commit and switch. Where nothing can be written, committed or built and the
+/// store is not drained, it waits on the bell. At its end it rings and closes the bell.
+///
+/// `Drained` where the feed is closed, all is written and committed, no generation is being built, and no new rules are due that were not
+/// deployed. `Stopped` where a transaction cannot be fed, since the feed is closed or it is not past the head; else it ends by the store's
+/// refusal of the next change, of the next change that is to be built, or of a switch that finds no id. The seat is one of the lock's, and
+/// the gate is passed before each turn.
 pub fn feed_and_write<R: Wait, G: Gate, B: Bell>(
     rt: &R,
     alloc: Global,
-    lock: &StoreLock<Store>,
-    seat: Seat<Store>,
+    lock: &StoreLock<SharedStore>,
+    seat: Seat<SharedStore>,
     transactions: Vec<Transaction>,
     batch: u32,
     gate: &G,
     bell: &mut B,
-) -> (Seat<Store>, WorkEnd)
+    next: Option<NextRules>,
+) -> (Seat<SharedStore>, WorkEnd)
     requires seat { IsSeatOf lock.now seat }
     requires some { 1 ≤ batch }
     requires limit { batch ≤ 1000000 }
     requires positions { All (λ (t : TransactionSeen). t.position.0 ≤ greatest) transactions.items }
+    requires next { AreNext (terms_of lock.now) next }
     ensures lock { IsSeatOf lock.now result.0 }
-    ensures work { FeedsAndWrites (fixed_of lock.now) transactions.items batch seat result.0 result.1 }
+    ensures work { FeedsAndWrites (fixed_of lock.now) next transactions.items batch seat result.0 result.1 }
 {
     let place = Workplace { rt, alloc, lock };
     let mut passes = Passes::new(gate);
     let (seat, fed) = feed_all(&place, &mut passes, seat, transactions);
     let (seat, end) = match fed {
-        Ok(()) => write_all(&place, &mut passes, seat, batch, bell),
+        Ok(()) => write_all(&place, &mut passes, seat, next, batch, bell),
         Err(end) => (seat, end),
     };
     bell.ring();
