@@ -4,6 +4,9 @@ mod FedSoFar
 mod Fronts
 mod NoneTaken
 mod Passing
+mod Renewed
+mod RulesSent
 mod Statuses
+mod Taken
 mod Verdicts
 mod Whole

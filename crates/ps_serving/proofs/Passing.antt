@@ -1,5 +1,5 @@
 -- Which limit a change file passes, by the change that the writer could not write.
-use Rattle.std.proofs.Common.{◌≡◌, ℕ, zero, suc, ◌+◌, ◌-◌, ◌≤◌, true, false, List, [], ◌∷◌, ◌++◌, Option, Some, None, refl, sym, ap, ◌∙◌, subst, length, take, drop, arith, append_assoc, append-nil, length-append}
+use Rattle.std.proofs.Common.{◌≡◌, ℕ, zero, suc, ◌+◌, ◌-◌, ◌≤◌, inl, inr, true, false, List, [], ◌∷◌, ◌++◌, Option, Some, None, refl, sym, ap, ◌∙◌, subst, length, take, drop, arith, append_assoc, append-nil, length-append}
 use Rattle.std.specs.Prelude.{nat_lt}
 use Rattle.std.specs.List.{AllByRecursion}
 use Rattle.std.proofs.lemmas.Bool.Decides.{nat_tests}
@@ -21,6 +21,8 @@ use Rattle.ps_files.specs.declared.faults.Limit.TheVariants.{LineBytes, Entries,
 use Rattle.ps_files.specs.ChangeFiles.{operations_of, passed_by, first_passed, first_of}
 use Rattle.ps_files.specs.ReadingChanges.{usual}
 use Rattle.ps_files.proofs.Pending.{take_on, known, passes_entries, passes_ops}
+use Rattle.ps_workers.specs.declared.shared.Terms.{Terms}
+use Rattle.ps_workers.specs.Terms.{DeploysOnly}
 use Rattle.ps_serving.specs.Serving.{DoorsAt, HasRun, IsPast}
 use Rattle.ps_serving.proofs.Closing.{legal_front, written_both}
 
@@ -44,6 +46,20 @@ plain_front (Deploy rules ∷ front) back h = h
 plain_front (Build n ∷ front) back h = plain_front front back h
 plain_front (Switch ∷ front) back h = plain_front front back h
 plain_front (Abandon ∷ front) back h = plain_front front back h
+
+-- where no new rules may come, none came
+pub none_deployed : (history : List Event) → AllByRecursion (DeploysOnly None) history → has_deploy history ≡ false
+none_deployed [] only = refl
+none_deployed (Feed t ∷ history) only = none_deployed history only.1
+none_deployed (Close ∷ history) only = none_deployed history only.1
+none_deployed (Write n ∷ history) only = none_deployed history only.1
+none_deployed (Commit ∷ history) only = none_deployed history only.1
+none_deployed (Compact bucket ∷ history) only = none_deployed history only.1
+none_deployed (WriteCheckpoint user client ∷ history) only = none_deployed history only.1
+none_deployed (Deploy rules ∷ history) only = let no = only.0 in absurd (cc)
+none_deployed (Build n ∷ history) only = none_deployed history only.1
+none_deployed (Switch ∷ history) only = none_deployed history only.1
+none_deployed (Abandon ∷ history) only = none_deployed history only.1
 
 -- ---- changes that pass no limit
 
@@ -94,7 +110,8 @@ module _ (rules : RuleSet) where
 -- ---- the writer's end
 
 module _ (tells : LedgersTellHistories) (one : LedgersTellOneGeneration) (feeds : LedgersTellFeeds) (rules : RuleSet) (ts : List Transaction) (start : List Event) (doors doors' : DoorsAt)
-    (run : HasRun (usual rules) start doors doors') (fed_seen : fed_in run.seen ≡ ts) (fed_history : fed_in run.history ≡ ts) where
+    (next : Option RuleSet) (none : next ≡ None) (run : HasRun (record { fixed = usual rules; next = next }) start doors doors') (fed_seen : fed_in run.seen ≡ ts)
+    (fed_history : fed_in run.history ≡ ts) where
   abbrev l : Ledger
   l = ledger_of rules run.seen
 
@@ -105,13 +122,16 @@ module _ (tells : LedgersTellHistories) (one : LedgersTellOneGeneration) (feeds 
   back = run.earlier.0
 
   whole : IsLegal rules (run.seen ++ back)
-  whole = subst (IsLegal rules) (sym run.earlier.1) run.stood.1.0.legal
+  whole = subst (IsLegal rules) (sym run.earlier.1) run.stood.1.stands.legal
 
   legal : IsLegal rules run.seen
   legal = legal_front (fresh rules) run.seen back whole
 
+  plain_history : has_deploy run.history ≡ false
+  plain_history = none_deployed run.history (subst (λ (o : Option RuleSet). AllByRecursion (DeploysOnly o) run.history) none run.stood.1.deploys)
+
   plain : has_deploy run.seen ≡ false
-  plain = plain_front run.seen back (ap has_deploy run.earlier.1 ∙ run.stood.1.1.1)
+  plain = plain_front run.seen back (ap has_deploy run.earlier.1 ∙ plain_history)
 
   fed : l.fed ≡ ts
   fed = (feeds rules run.seen).fed ∙ fed_seen
@@ -122,12 +142,12 @@ module _ (tells : LedgersTellHistories) (one : LedgersTellOneGeneration) (feeds 
   no_less : l.written ≤ last.written
   no_less =
       let both : written_in run.history ≡ written_in run.seen + written_in back = ap written_in (sym run.earlier.1) ∙ written_both run.seen back in
-      omega (arith, both, (tells rules run.seen legal).count, (tells rules run.history run.stood.1.0.legal).count)
+      omega (arith, both, (tells rules run.seen legal).count, (tells rules run.history run.stood.1.stands.legal).count)
 
   narrow : AllByRecursion (IsNarrow (usual rules)) (take l.written (timed ts))
   narrow =
       let all : AllByRecursion (IsNarrow (usual rules)) (take last.written (timed ts)) =
-      subst (λ (us : List Transaction). AllByRecursion (IsNarrow (usual rules)) (take last.written (timed us))) fed_last run.stood.1.1.0 in
+      subst (λ (us : List Transaction). AllByRecursion (IsNarrow (usual rules)) (take last.written (timed us))) fed_last (run.stood.1.narrow none) in
       all_less (IsNarrow (usual rules)) l.written last.written (timed ts) no_less all
 
   few : operations_of rules.definitions (take l.written (timed ts)) ≤ usual_limits.ops
@@ -135,12 +155,12 @@ module _ (tells : LedgersTellHistories) (one : LedgersTellOneGeneration) (feeds 
       let more = take (last.written - l.written) (drop l.written (timed ts)) in
       let size : last.written ≡ l.written + (last.written - l.written) = omega (arith, no_less) in
       let firsts : take last.written (timed ts) ≡ take l.written (timed ts) ++ more = ap (λ n. take n (timed ts)) size ∙ take_on l.written (last.written - l.written) (timed ts) in
-      let told = one rules run.history run.stood.1.0.legal run.stood.1.1.1 in
+      let told = one rules run.history run.stood.1.stands.legal plain_history in
       let ids : last.last ≡ operations_of rules.definitions (take last.written (timed last.fed)) = told.last ∙ ap length told.entered in
       let by_ts : operations_of rules.definitions (take last.written (timed last.fed)) ≡ operations_of rules.definitions (take last.written (timed ts)) =
       ap (λ (us : List Transaction). operations_of rules.definitions (take last.written (timed us))) fed_last in
       let by_parts : operations_of rules.definitions (take last.written (timed ts)) ≡ operations_of rules.definitions (take l.written (timed ts) ++ more) = ap (operations_of rules.definitions) firsts in
-      let within : last.last ≤ usual_limits.ops = subst (λ (f : Fixed). last.last ≤ f.limits.ops) run.stood.1.0.fixed_is run.stood.1.0.stands.kept.last in
+      let within : last.last ≤ usual_limits.ops = subst (λ (f : Fixed). last.last ≤ f.limits.ops) run.stood.1.stands.fixed_is run.stood.1.stands.stands.kept.last in
       omega (arith, ids, by_ts, by_parts, within, ops_grow rules.definitions [] 1 (take l.written (timed ts)) more)
 
   -- the limit that the changes pass is the one that those pass which the writer has not written
@@ -158,13 +178,16 @@ module _ (tells : LedgersTellHistories) (one : LedgersTellOneGeneration) (feeds 
       sym left_decide ∙ ap (first_passed rules.definitions (take l.written (timed l.fed))) is
       ∙ ap (λ p. first_of p (first_passed rules.definitions (take l.written (timed l.fed) ++ t ∷ []) us)) passed
 
-  pub limit_passed : (limit : Limit) → IsPast (usual rules) l limit → first_passed rules.definitions [] (timed ts) ≡ Some limit
+  pub limit_passed : (limit : Limit) → IsPast (usual rules) None l limit → first_passed rules.definitions [] (timed ts) ≡ Some limit
   limit_passed (LineBytes count) past = absurd past
-  limit_passed (Entries count) past =
-      let why = past.refused in
-      next_decides why.0 why.1 (Entries count) why.2
-      (passes_entries rules (take l.written (timed l.fed)) l (known rules l (one rules run.seen legal plain)) why.0 why.3 ∙ ap (λ n. Some (Entries n)) (sym why.6))
-  limit_passed (Operations id) past =
-      let why = past.2 in
-      next_decides why.0 why.1 (Operations id) why.2
-      (passes_ops rules (take l.written (timed l.fed)) l (known rules l (one rules run.seen legal plain)) why.0 why.3 why.4 ∙ ap (λ n. Some (Operations n)) (sym why.5 ∙ past.1))
+  limit_passed (Entries count) past = elim past [
+    | inl own ↦ (let why = own.refused in
+    next_decides why.0 why.1 (Entries count) why.2
+    (passes_entries rules (take l.written (timed l.fed)) l (known rules l (one rules run.seen legal plain)) why.0 why.3 ∙ ap (λ n. Some (Entries n)) (sym why.6)))
+    | inr taken ↦ absurd (let wrong : false ≡ true = taken.0 in cc)
+  ]
+  limit_passed (Operations id) past = elim past.2 [
+    | inl why ↦ next_decides why.0 why.1 (Operations id) why.2
+    (passes_ops rules (take l.written (timed l.fed)) l (known rules l (one rules run.seen legal plain)) why.0 why.3 why.4 ∙ ap (λ n. Some (Operations n)) (sym why.5 ∙ past.1))
+    | inr taken ↦ absurd (let wrong : false ≡ true = taken.0 in cc)
+  ]

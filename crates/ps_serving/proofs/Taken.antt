@@ -26,7 +26,7 @@ module _ {X : Type 0} (P : X → Type 0) where
   all_both [] ys p q = q
   all_both (x ∷ xs) ys p q = (p.0, all_both xs ys p.1 q)
 
-  all_first : (xs ys : List X) → AllByRecursion P (xs ++ ys) → AllByRecursion P xs
+  pub all_first : (xs ys : List X) → AllByRecursion P (xs ++ ys) → AllByRecursion P xs
   all_first [] ys p = tt
   all_first (x ∷ xs) ys p = (p.0, all_first xs ys p.1)
 

@@ -108,7 +108,7 @@ pub(crate) fn open_fed<R: Wait>(
     ensures lock { IfOk result (λ opened. IsSeatOf opened.0 opened.1) }
     ensures seen { IfOk result (λ opened. seen_by opened.1 ≡ opening closed transactions.items) }
 {
-    let (lock, seat) = open_store(alloc, rules, Limits::usual(), next)?;
+    let (lock, seat) = open_store(alloc, rules, next, Limits::usual())?;
     let seat = feed_all(rt, alloc, &lock, seat, transactions)?;
     let seat = if closed {
         close_feed(rt, &lock, seat)?

@@ -6,7 +6,7 @@ ghost use Rattle.ps_lock.specs.Words.{IsSeatOf, seen_by};
 ghost use Rattle.ps_connections.specs.Taken.{HasTaken};
 ghost use Rattle.ps_serve_words.specs.Words.{IsInMillion};
 ghost use Rattle.ps_workers.specs.Sharing.{fixed_of, terms_of};
-ghost use Rattle.ps_workers.specs.Work.{AreNext};
+ghost use Rattle.ps_workers.specs.Renewing.{AreNext};
 ghost use Rattle.ps_serving.specs.Running.{WroteTo, ServesUpTo, none_taken};
 
 use crate::begun::{ToCompact, ToWrite, finish};
@@ -17,7 +17,9 @@ use ps_doors::{Bell, Doors};
 use ps_io::{Clock, Sink, Source};
 use ps_lock::{Seat, StoreLock};
 use ps_sockets::{Rings, RungBell};
-use ps_workers::{NextRules, OpenGate, SharedStore, WorkEnd, close_in_turn, compact_all, feed_and_write};
+use ps_workers::{
+    NextRules, OpenGate, SharedStore, WorkEnd, close_in_turn, compact_all, feed_and_write,
+};
 use std::alloc::Global;
 use std::snapshot::Snapshot;
 use std::sync::Wait;
@@ -66,7 +68,9 @@ fn write<R: Wait + time::Clock>(
 {
     let mut bell = RungBell::new(rt, rings);
     let nothing = Vec::new(alloc);
-    feed_and_write(rt, alloc, lock, seat, nothing, batch, &OpenGate, &mut bell, next)
+    feed_and_write(
+        rt, alloc, lock, seat, nothing, batch, &OpenGate, &mut bell, next,
+    )
 }
 
 // Compacts buckets that have grown by so many operations, until the store is drained.
@@ -86,7 +90,10 @@ fn compact<R: Wait + time::Clock>(
 }
 
 // Closes the feed, where that was not done, and rings: the writer waits for it.
-fn close_behind<R: Wait + time::Clock, C>(service: &Service<R, C>, seat: Seat<SharedStore>) -> Seat<SharedStore>
+fn close_behind<R: Wait + time::Clock, C>(
+    service: &Service<R, C>,
+    seat: Seat<SharedStore>,
+) -> Seat<SharedStore>
     requires { IsSeatOf service.now.lock.now seat }
     ensures lock { IsSeatOf service.now.lock.now result }
     ensures saw { IsPrefix (seen_by seat) (seen_by result) }
@@ -107,7 +114,12 @@ fn take<
     K: Sink + Send + Drop,
     C: Clock + Sync,
     D: Doors<In = S, Out = K> + Drop,
->(service: &Service<R, C>, seat: Seat<SharedStore>, doors: D, most: u64) -> (Seat<SharedStore>, D, Ended)
+>(
+    service: &Service<R, C>,
+    seat: Seat<SharedStore>,
+    doors: D,
+    most: u64,
+) -> (Seat<SharedStore>, D, Ended)
     requires { IsSeatOf service.now.lock.now seat }
     ensures lock { IsSeatOf service.now.lock.now result.0 }
     ensures saw { IsPrefix (seen_by seat) (seen_by result.0) }

@@ -5,7 +5,7 @@ ghost use Rattle.ps_lock.specs.Words.{IsSeatOf, seen_by};
 ghost use Rattle.ps_serve_words.specs.Words.{IsInMillion, AreInRange};
 ghost use Rattle.ps_store.specs.LedgerLaws.{fed_in};
 ghost use Rattle.ps_workers.specs.Sharing.{terms_of};
-ghost use Rattle.ps_workers.specs.Work.{AreNext};
+ghost use Rattle.ps_workers.specs.Renewing.{AreNext};
 ghost use Rattle.ps_serving.specs.Serving.{most_of, rules_after, Listens, ServesFed, ServesSo};
 ghost use Rattle.ps_serving.specs.Answers.{AnswersServe, MissesServe, SaysWhy, words_fault_of};
 
@@ -27,7 +27,9 @@ use ps_lock::Seat;
 use ps_serve::Site;
 use ps_serve_inputs::{Inputs, ServeFault, load_inputs, say_serve};
 use ps_serve_words::{ServeWords, WordsFault, read_serve_words};
-use ps_store::{Totals, ledgers_tell_events, ledgers_tell_histories, ledgers_tell_ops, ledgers_tell_reach};
+use ps_store::{
+    Totals, ledgers_tell_events, ledgers_tell_histories, ledgers_tell_ops, ledgers_tell_reach,
+};
 use ps_workers::{NextRules, SharedStore, totals_in_turn};
 use std::alloc::Global;
 use std::sync::Wait;

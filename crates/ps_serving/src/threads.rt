@@ -6,7 +6,7 @@ ghost use Rattle.ps_lock.specs.Words.{IsSeatOf, seen_by};
 ghost use Rattle.ps_connections.specs.Taken.{HasTaken};
 ghost use Rattle.ps_serve_words.specs.Words.{IsInMillion};
 ghost use Rattle.ps_workers.specs.Sharing.{fixed_of, terms_of};
-ghost use Rattle.ps_workers.specs.Work.{AreNext};
+ghost use Rattle.ps_workers.specs.Renewing.{AreNext};
 ghost use Rattle.ps_serving.specs.Running.{WroteTo, ServesUpTo};
 
 use crate::ends::Ends;

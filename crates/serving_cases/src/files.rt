@@ -14,6 +14,7 @@ const ROOM: usize = 65536;
 #[derive(Drop)]
 pub struct Given {
     rules: Vec<u8>,
+    next: Vec<u8>,
     changes: Vec<u8>,
     keys: Vec<u8>,
     /// The connections.
@@ -24,6 +25,7 @@ pub struct Given {
 pub fn new_given(alloc: Global) -> Given {
     Given {
         rules: Vec::new(alloc),
+        next: Vec::new(alloc),
         changes: Vec::new(alloc),
         keys: Vec::new(alloc),
         peers: Vec::new(alloc),
@@ -84,10 +86,12 @@ fn peer_of(alloc: Global, given: &Given, rest: &str) -> Result<Peer, Stop> {
 pub fn take_word(alloc: Global, given: &mut Given, word: &str, rest: &str) -> Result<(), Stop> {
     match word {
         "rules" => push_line(rest, &mut given.rules)?,
+        "next" => push_line(rest, &mut given.next)?,
         "change" => push_line(rest, &mut given.changes)?,
         "keys" => given.keys.extend_from_slice(rest.as_bytes())?,
         "forget" => {
             given.rules.clear();
+            given.next.clear();
             given.changes.clear();
             given.keys.clear();
         }
@@ -107,10 +111,11 @@ fn file(alloc: Global, name: &str, content: &[u8]) -> Result<MemoryFile, Stop> {
     })
 }
 
-/// The files, under the names `rules`, `changes` and `keys`.
+/// The files, under the names `rules`, `next`, `changes` and `keys`.
 pub fn files_of(alloc: Global, given: &Given) -> Result<MemoryFiles, Stop> {
     let mut files = Vec::new(alloc);
     files.push(file(alloc, "rules", given.rules.as_slice())?)?;
+    files.push(file(alloc, "next", given.next.as_slice())?)?;
     files.push(file(alloc, "changes", given.changes.as_slice())?)?;
     files.push(file(alloc, "keys", given.keys.as_slice())?)?;
     Ok(MemoryFiles::new(alloc, Items::from_vec(files), Items::new(alloc)))

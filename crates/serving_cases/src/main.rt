@@ -1,7 +1,7 @@
 //! Each line is a step of a service over files, doors and sinks in memory, whose connections are threads.
 //!
-//! - `# TEXT` is a heading. `rules TEXT` and `change TEXT` add bytes and a line feed to the rules file and to the change file, `keys TEXT` is the keys file, and
-//!   `forget` empties all three. In a text `\r`, `\n` and `\b` stand for CR, LF and a backslash.
+//! - `# TEXT` is a heading. `rules TEXT`, `next TEXT` and `change TEXT` add bytes and a line feed to the rules file, to that of the next rules and to the change file,
+//!   `keys TEXT` is the keys file, and `forget` empties all four. In a text `\r`, `\n` and `\b` stand for CR, LF and a backslash.
 //! - `peer WRITES PATH PAYLOAD BODY` has one connection more come to the next service: a POST of the body with a token of the payload that the key `k1` signs. The writes
 //!   of these numbers fail (`-` for none).
 //! - `serve FAILING WORDS` runs `serve` with these words. The calls of its doors of these numbers fail. It prints the status, what standard output took, what standard

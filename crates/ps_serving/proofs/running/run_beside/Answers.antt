@@ -19,11 +19,11 @@ spawn_scoped_with-begun-requires-send-T g c κs within = search (sendable, cross
 pub returns-clause-writer : goal.returns-clause-writer
 returns-clause-writer g c =
     let begun = c.spawn_scoped_with-begun in
-    let said = c.finish.ensures _ begun.ensures.ok (IfErr-weaker begun.result _ _ (λ refused same r done. rw (c.of.ensures, c.of-2.ensures) (rw same at done)) begun.ensures.err) in
-    (rw (c.of.ensures, c.of-2.ensures) at said).0
+    let said = c.finish.ensures _ begun.ensures.ok (IfErr-weaker begun.result _ _ (λ refused same r done. rw (c.of.ensures, c.of-2.ensures, c.of-3.ensures) (rw same at done)) begun.ensures.err) in
+    (rw (c.of.ensures, c.of-2.ensures, c.of-3.ensures) at said).0
 
 pub returns-clause-wrote : goal.returns-clause-wrote
 returns-clause-wrote g c =
     let begun = c.spawn_scoped_with-begun in
-    let said = c.finish.ensures _ begun.ensures.ok (IfErr-weaker begun.result _ _ (λ refused same r done. rw (c.of.ensures, c.of-2.ensures) (rw same at done)) begun.ensures.err) in
-    (rw (c.of.ensures, c.of-2.ensures) at said).1
+    let said = c.finish.ensures _ begun.ensures.ok (IfErr-weaker begun.result _ _ (λ refused same r done. rw (c.of.ensures, c.of-2.ensures, c.of-3.ensures) (rw same at done)) begun.ensures.err) in
+    (rw (c.of.ensures, c.of-2.ensures, c.of-3.ensures) at said).1

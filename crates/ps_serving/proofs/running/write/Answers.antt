@@ -13,6 +13,6 @@ returns-clause-wrote g c =
       later = work.written.worked.saw;
       earlier = ([], append-nil (seen_by c.feed_and_write.result.0));
       fed = work.fed;
-      ends = subst (λ (given : List Transaction). EndsWriting (fixed_of c.args.lock.now) (seen_by c.feed_and_write.result.0) given work.fed c.feed_and_write.result.1)
+      ends = subst (λ (given : List Transaction). EndsWriting (fixed_of c.args.lock.now) c.args.next (seen_by c.feed_and_write.result.0) given work.fed c.feed_and_write.result.1)
           c.new-nothing.ensures.items work.ends;
     }

@@ -4,11 +4,11 @@ use Rattle.std.proofs.lemmas.Result.{err_from_is_err_and}
 use Rattle.ps_lock.specs.Words.{seen_by}
 use Rattle.ps_serve.specs.declared.sites.Site.{Site}
 use Rattle.ps_store.specs.LedgerLaws.{fed_in}
-use Rattle.ps_workers.specs.Sharing.{fixed_of}
+use Rattle.ps_workers.specs.Sharing.{terms_of}
 use Rattle.ps_serving.specs.Openings.{opening}
-use Rattle.ps_serving.specs.Serving.{FilesAt, DoorsAt, SinkAt, ServesFed, fixed_by, site_by, opening_by, most_of}
+use Rattle.ps_serving.specs.Serving.{FilesAt, DoorsAt, SinkAt, ServesFed, terms_by, next_by, site_by, opening_by, most_of}
 use Rattle.ps_serving.proofs.Closing.{fed_opening}
-use Rattle.ps_serving.proofs.Whole.{serves_so, listen_failed, same_doors, moved}
+use Rattle.ps_serving.proofs.Whole.{are_next, serves_so, listen_failed, same_doors, moved}
 use Rattle.ps_serving.proofs.serving.serve.Goals as goal
 
 pub returns-in_err-listen-clause-serves : goal.returns-in_err-listen-clause-serves
@@ -64,16 +64,18 @@ returns-clause-serves g c =
     let out' : SinkAt = record { taken = g.O.Sink.taken c.serve_fed.new.out; faults = g.O.Sink.faults c.serve_fed.new.out } in
     let site : Site = record { keys = c.in_ok-rules.keys; until_drained = said.until_drained } in
     let start = seen_by c.in_ok-lock.seat in
-    let fixed_is : fixed_of c.in_ok-lock.lock ≡ fixed_by inputs = c.in_ok-lock.ensures.fixed in
+    let terms_is : terms_of c.in_ok-lock.lock ≡ terms_by inputs = c.in_ok-lock.ensures.terms in
+    let next = c.next_after.result in
+    let next_is : next ≡ next_by said inputs = c.next_after.ensures in
     let site_is : site ≡ site_by said inputs = cc in
     let start_is : start ≡ opening_by said inputs = c.in_ok-lock.ensures.seen in
-    let given : ServesFed (fixed_of c.in_ok-lock.lock) site may_give start c.pace_of.result.most mid doors' out1 out' c.serve_fed.result = search rules in
+    let given : ServesFed (terms_of c.in_ok-lock.lock) next site may_give start c.pace_of.result.most mid doors' out1 out' c.serve_fed.result = search rules in
     let doors_are : mid ≡ doors =
     same_doors mid.opened doors.opened mid.coming doors.coming mid.closed doors.closed mid.faults doors.faults c.in_ok-listen.ensures.opened c.in_ok-listen.ensures.coming
     c.in_ok-listen.ensures.closed c.in_ok-listen.ensures.listens.1 in
-    let fed = moved may_give (fixed_of c.in_ok-lock.lock) (fixed_by inputs) site (site_by said inputs) start (opening_by said inputs) c.pace_of.result.most (most_of said) mid doors doors' out1 out'
-    c.serve_fed.result fixed_is site_is start_is c.pace_of.ensures.most doors_are given in
-    serves_so c.ledgers_tell_histories.ensures c.ledgers_tell_ops.ensures.one c.ledgers_tell_events.ensures.feeds c.totals_are_one.ensures may_give said files files' doors doors' out out1 out' inputs
+    let fed = moved may_give (terms_of c.in_ok-lock.lock) (terms_by inputs) next (next_by said inputs) site (site_by said inputs) start (opening_by said inputs) c.pace_of.result.most (most_of said) mid doors doors' out1 out'
+    c.serve_fed.result terms_is next_is site_is start_is c.pace_of.ensures.most doors_are given in
+    serves_so c.ledgers_tell_histories.ensures c.ledgers_tell_ops.ensures.one c.ledgers_tell_events.ensures.feeds c.ledgers_tell_reach.ensures c.totals_are_one.ensures may_give said files files' doors doors' out out1 out' inputs
     c.in_ok-rules.ensures.loads c.in_ok-listen.ensures.listens.0 c.in_ok-listen.ensures.faults c.serve_fed.result fed
 
 pub serve_fed-requires-clause-fed : goal.serve_fed-requires-clause-fed
@@ -84,3 +86,9 @@ serve_fed-requires-clause-fed g c =
     let seen : start ≡ opening drained transactions = c.in_ok-lock.ensures.seen in
     let count : length (fed_in start) ≡ length transactions = ap length (ap fed_in seen ∙ fed_opening drained transactions) in
     first_of (cc, search rules, grind (arith, common_steps))
+
+pub serve_fed-requires-clause-next : goal.serve_fed-requires-clause-next
+serve_fed-requires-clause-next g c =
+    let inputs = c.in_ok-rules.field-0 in
+    let terms_is : terms_of c.in_ok-lock.lock ≡ terms_by inputs = c.in_ok-lock.ensures.terms in
+    rw (c.next_after.ensures, terms_is) (are_next c.args.words.now.next_after inputs.rules inputs.next)
