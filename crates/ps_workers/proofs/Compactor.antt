@@ -185,8 +185,8 @@ module _ {d : Ghosts SharedStore Event Terms} (terms : Terms) where
       let here = over_by history before after look it shows in (
         here.drained,
         λ plain.
-        is_compacted terms start (seen_by after) names over
-        (compacted_still terms start (seen_by before) (seen_by after) names more here.stood (one (plain_by before after more plain))) plain,
+            is_compacted terms start (seen_by after) names over
+            (compacted_still terms start (seen_by before) (seen_by after) names more here.stood (one (plain_by before after more plain))) plain,
       )
 
 ends_at : (WasClosed : Type 0) (fixed : Fixed) (history : List Event) (end : WorkEnd) → EndsCompacting ⊥ fixed history end → EndsCompacting WasClosed fixed history end

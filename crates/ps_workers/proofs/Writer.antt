@@ -205,6 +205,6 @@ commits_by_look terms next batch history before after found look drained same it
     record {
       written = written_looking next batch history before after looked.looks;
       drained_is = λ yes.
-      subst (λ (h : List Event). IsStoreDrained (ledger_of terms.fixed.rules h)) (sym looked.looks.seen) (drained_by terms history looked.stood look looked.found (shows yes));
+          subst (λ (h : List Event). IsStoreDrained (ledger_of terms.fixed.rules h)) (sym looked.looks.seen) (drained_by terms history looked.stood look looked.found (shows yes));
       committed_is = subst (λ (h : List Event). look.committed ≡ committed_of (ledger_of terms.fixed.rules h)) (sym looked.looks.seen) looked.found.committed;
     }

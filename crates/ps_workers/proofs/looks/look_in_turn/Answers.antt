@@ -5,8 +5,7 @@ use Rattle.ps_workers.proofs.looks.look_in_turn.Goals as goal
 
 pub returns-clause-turn : goal.returns-clause-turn
 returns-clause-turn g c =
-    let turn = c.turn-turn.result in
-    (
+    let turn = c.turn-turn.result in (
       history_of turn,
       record {
         looks = looks c.args.seat c.leave.result turn c.turn-turn.ensures.seen c.turn-turn.ensures.own c.leave.ensures.seen c.leave.ensures.own;

@@ -2,6 +2,7 @@ use Rattle.std.proofs.Common.{◌≡◌, ℕ, ◌≤◌, ◌++◌, All, Option}
 use Rattle.ps_lock.specs.Words.{IsSeatOf}
 use Rattle.ps_rows.specs.declared.changes.Transaction.{Transaction}
 use Rattle.ps_store.specs.Limits.{greatest}
+use Rattle.ps_workers.specs.declared.stages.NextRules.{NextRules}
 use Rattle.ps_workers.specs.Work.{HasWritten}
 use Rattle.ps_workers.proofs.writers.feed_all.Given as goal
 
