@@ -11,7 +11,7 @@ use ps_doors::QuietBell;
 use ps_io::{MemoryClock, MemorySink, MemorySource};
 use ps_lock::{Seat, StoreLock};
 use ps_serve::{End, Outcome, Site, answer_connection};
-use ps_store::Store;
+use ps_workers::SharedStore;
 use std::alloc::Global;
 use std::sync::Wait;
 
@@ -110,13 +110,13 @@ fn push_answer(
 pub fn ask<R: Wait>(
     rt: &R,
     alloc: Global,
-    lock: &StoreLock<Store>,
-    seat: Seat<Store>,
+    lock: &StoreLock<SharedStore>,
+    seat: Seat<SharedStore>,
     service: &Service,
     rest: &str,
     shown: Shown,
     out: &mut String,
-) -> (Seat<Store>, Result<(), Stop>)
+) -> (Seat<SharedStore>, Result<(), Stop>)
     requires { IsSeatOf lock.now seat }
     ensures { IsSeatOf lock.now result.0 }
 {
@@ -180,14 +180,14 @@ fn broken_ends(
 fn is_cut<R: Wait>(
     rt: &R,
     alloc: Global,
-    lock: &StoreLock<Store>,
-    seat: Seat<Store>,
+    lock: &StoreLock<SharedStore>,
+    seat: Seat<SharedStore>,
     site: &Site,
     request: &[u8],
     place: usize,
     way: Break,
     moment: u64,
-) -> (Seat<Store>, Result<bool, Stop>)
+) -> (Seat<SharedStore>, Result<bool, Stop>)
     requires seat { IsSeatOf lock.now seat }
     requires place { place < length request.now }
     ensures { IsSeatOf lock.now result.0 }
@@ -213,13 +213,13 @@ fn push_cuts(cuts: u64, others: u64, out: &mut String) -> Result<(), Stop> {
 fn ask_each<R: Wait>(
     rt: &R,
     alloc: Global,
-    lock: &StoreLock<Store>,
-    seat: Seat<Store>,
+    lock: &StoreLock<SharedStore>,
+    seat: Seat<SharedStore>,
     service: &Service,
     way: Break,
     moment: u64,
     out: &mut String,
-) -> (Seat<Store>, Result<(), Stop>)
+) -> (Seat<SharedStore>, Result<(), Stop>)
     requires { IsSeatOf lock.now seat }
     ensures { IsSeatOf lock.now result.0 }
 {
@@ -253,13 +253,13 @@ fn ask_each<R: Wait>(
 pub fn ask_broken<R: Wait>(
     rt: &R,
     alloc: Global,
-    lock: &StoreLock<Store>,
-    seat: Seat<Store>,
+    lock: &StoreLock<SharedStore>,
+    seat: Seat<SharedStore>,
     service: &Service,
     way: Break,
     moment: &str,
     out: &mut String,
-) -> (Seat<Store>, Result<(), Stop>)
+) -> (Seat<SharedStore>, Result<(), Stop>)
     requires { IsSeatOf lock.now seat }
     ensures { IsSeatOf lock.now result.0 }
 {

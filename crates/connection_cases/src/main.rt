@@ -27,7 +27,7 @@ mod stores;
 use asking::{Break, Shown, ask, ask_broken};
 use case_words::{Stop, cut};
 use ps_lock::{Seat, StoreLock};
-use ps_store::Store;
+use ps_workers::SharedStore;
 use requests::{Service, new_service, take_word};
 use std::alloc::Global;
 use std::sync::Wait;
@@ -37,13 +37,13 @@ use stores::{change, new_store};
 fn answer<R: Wait>(
     rt: &R,
     alloc: Global,
-    lock: &StoreLock<Store>,
-    seat: Seat<Store>,
+    lock: &StoreLock<SharedStore>,
+    seat: Seat<SharedStore>,
     service: &mut Service,
     rest: &str,
     shown: Shown,
     out: &mut String,
-) -> (Seat<Store>, Result<(), Stop>)
+) -> (Seat<SharedStore>, Result<(), Stop>)
     requires { IsSeatOf lock.now seat }
     ensures { IsSeatOf lock.now result.0 }
 {
@@ -56,12 +56,12 @@ fn answer<R: Wait>(
 fn take_line<R: Wait>(
     rt: &R,
     alloc: Global,
-    lock: &StoreLock<Store>,
-    seat: Seat<Store>,
+    lock: &StoreLock<SharedStore>,
+    seat: Seat<SharedStore>,
     service: &mut Service,
     line: &str,
     out: &mut String,
-) -> (Seat<Store>, Result<(), Stop>)
+) -> (Seat<SharedStore>, Result<(), Stop>)
     requires { IsSeatOf lock.now seat }
     ensures { IsSeatOf lock.now result.0 }
 {
@@ -86,8 +86,8 @@ fn answer_lines<R: Wait>(
     rt: &HostRuntime,
     waits: &R,
     service: &mut Service,
-    lock: StoreLock<Store>,
-    seat: Seat<Store>,
+    lock: StoreLock<SharedStore>,
+    seat: Seat<SharedStore>,
 ) -> Result<(), Stop>
     requires { IsSeatOf lock seat }
 {

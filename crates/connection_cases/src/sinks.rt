@@ -7,7 +7,7 @@ use crate::stores::change;
 use case_words::{Stop, cut};
 use ps_io::{Failed, Sink};
 use ps_lock::{Seat, StoreLock};
-use ps_store::Store;
+use ps_workers::SharedStore;
 use std::alloc::Global;
 use std::sync::Wait;
 
@@ -26,8 +26,8 @@ pub struct Deed {
 pub struct BusySink<'a, R, K> {
     rt: &'a R,
     alloc: Global,
-    lock: &'a StoreLock<Store>,
-    seat: Seat<Store>,
+    lock: &'a StoreLock<SharedStore>,
+    seat: Seat<SharedStore>,
     deeds: &'a [Deed],
     sink: K,
     writes: u64,
@@ -39,11 +39,11 @@ pub struct BusySink<'a, R, K> {
 fn do_behind<R: Wait>(
     rt: &R,
     alloc: Global,
-    lock: &StoreLock<Store>,
-    seat: Seat<Store>,
+    lock: &StoreLock<SharedStore>,
+    seat: Seat<SharedStore>,
     deeds: &[Deed],
     write: u64,
-) -> (Seat<Store>, Result<(), Stop>)
+) -> (Seat<SharedStore>, Result<(), Stop>)
     requires { IsSeatOf lock.now seat }
     ensures { IsSeatOf lock.now result.0 }
 {
@@ -67,8 +67,8 @@ impl<'a, R, K> BusySink<'a, R, K> {
     pub fn new(
         rt: &'a R,
         alloc: Global,
-        lock: &'a StoreLock<Store>,
-        seat: Seat<Store>,
+        lock: &'a StoreLock<SharedStore>,
+        seat: Seat<SharedStore>,
         deeds: &'a [Deed],
         sink: K,
     ) -> BusySink<'a, R, K>

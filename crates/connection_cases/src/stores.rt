@@ -7,9 +7,9 @@ use case_stores::{limits_of, rules_of, transaction_of};
 use case_words::{Stop, number_in};
 use ps_data::Text;
 use ps_lock::{Seat, StoreLock};
-use ps_store::Store;
 use ps_workers::{
-    close_in_turn, commit_in_turn, compact_in_turn, feed_in_turn, open_store, write_in_turn,
+    SharedStore, close_in_turn, commit_in_turn, compact_in_turn, feed_in_turn, open_store,
+    write_in_turn,
 };
 use std::alloc::Global;
 use std::sync::Wait;
@@ -19,12 +19,12 @@ pub fn new_store(
     alloc: Global,
     rules: &str,
     limits: &str,
-) -> Result<(StoreLock<Store>, Seat<Store>), Stop>
+) -> Result<(StoreLock<SharedStore>, Seat<SharedStore>), Stop>
     ensures { IfOk result (λ r. IsSeatOf r.0 r.1) }
 {
     let limits = limits_of(limits)?;
     let rules = rules_of(alloc, rules)?;
-    Ok(open_store(alloc, rules, limits)?)
+    Ok(open_store(alloc, rules, &None, limits)?)
 }
 
 // Whether a call was accepted.
@@ -35,10 +35,10 @@ fn accepted(done: bool) -> Result<(), Stop> {
 fn feed<R: Wait>(
     rt: &R,
     alloc: Global,
-    lock: &StoreLock<Store>,
-    seat: Seat<Store>,
+    lock: &StoreLock<SharedStore>,
+    seat: Seat<SharedStore>,
     line: &str,
-) -> (Seat<Store>, Result<(), Stop>)
+) -> (Seat<SharedStore>, Result<(), Stop>)
     requires { IsSeatOf lock.now seat }
     ensures { IsSeatOf lock.now result.0 }
 {
@@ -77,11 +77,11 @@ fn line_of(alloc: Global, word: &str, rest: &str) -> Result<String, Stop> {
 fn feed_line<R: Wait>(
     rt: &R,
     alloc: Global,
-    lock: &StoreLock<Store>,
-    seat: Seat<Store>,
+    lock: &StoreLock<SharedStore>,
+    seat: Seat<SharedStore>,
     word: &str,
     rest: &str,
-) -> (Seat<Store>, Result<(), Stop>)
+) -> (Seat<SharedStore>, Result<(), Stop>)
     requires { IsSeatOf lock.now seat }
     ensures { IsSeatOf lock.now result.0 }
 {
@@ -94,10 +94,10 @@ fn feed_line<R: Wait>(
 fn compact<R: Wait>(
     rt: &R,
     alloc: Global,
-    lock: &StoreLock<Store>,
-    seat: Seat<Store>,
+    lock: &StoreLock<SharedStore>,
+    seat: Seat<SharedStore>,
     name: &str,
-) -> (Seat<Store>, Result<(), Stop>)
+) -> (Seat<SharedStore>, Result<(), Stop>)
     requires { IsSeatOf lock.now seat }
     ensures { IsSeatOf lock.now result.0 }
 {
@@ -113,9 +113,9 @@ fn compact<R: Wait>(
 fn write<R: Wait>(
     rt: &R,
     alloc: Global,
-    lock: &StoreLock<Store>,
-    seat: Seat<Store>,
-) -> (Seat<Store>, Result<(), Stop>)
+    lock: &StoreLock<SharedStore>,
+    seat: Seat<SharedStore>,
+) -> (Seat<SharedStore>, Result<(), Stop>)
     requires { IsSeatOf lock.now seat }
     ensures { IsSeatOf lock.now result.0 }
 {
@@ -125,9 +125,9 @@ fn write<R: Wait>(
 
 fn commit<R: Wait>(
     rt: &R,
-    lock: &StoreLock<Store>,
-    seat: Seat<Store>,
-) -> (Seat<Store>, Result<(), Stop>)
+    lock: &StoreLock<SharedStore>,
+    seat: Seat<SharedStore>,
+) -> (Seat<SharedStore>, Result<(), Stop>)
     requires { IsSeatOf lock.now seat }
     ensures { IsSeatOf lock.now result.0 }
 {
@@ -139,11 +139,11 @@ fn commit<R: Wait>(
 pub fn change<R: Wait>(
     rt: &R,
     alloc: Global,
-    lock: &StoreLock<Store>,
-    seat: Seat<Store>,
+    lock: &StoreLock<SharedStore>,
+    seat: Seat<SharedStore>,
     word: &str,
     rest: &str,
-) -> (Seat<Store>, Result<(), Stop>)
+) -> (Seat<SharedStore>, Result<(), Stop>)
     requires { IsSeatOf lock.now seat }
     ensures { IsSeatOf lock.now result.0 }
 {

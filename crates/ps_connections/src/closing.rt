@@ -13,7 +13,7 @@ use ps_doors::Doors;
 use ps_io::{Clock, Sink, Source};
 use ps_lock::Seat;
 use ps_serve::End;
-use ps_store::Store;
+use ps_workers::SharedStore;
 use std::sync::Wait;
 use std::thread::Threads;
 
@@ -33,7 +33,7 @@ pub(crate) fn close_all<
     D: Doors<In = S, Out = K>,
 >(
     service: &Service<R, C>,
-    seat: &mut Seat<Store>,
+    seat: &mut Seat<SharedStore>,
     doors: &mut D,
     workers: Vec<Worker<S, K, C>>,
 ) -> bool

@@ -3,7 +3,7 @@
 use ps_lock::StoreLock;
 use ps_serve::Site;
 use ps_sockets::RungBell;
-use ps_store::Store;
+use ps_workers::SharedStore;
 use std::alloc::Global;
 
 /// What all connections of a service share.
@@ -14,7 +14,7 @@ pub struct Service<'s, R, C> {
     /// Where memory is taken from.
     pub alloc: Global,
     /// The lock of the store.
-    pub lock: &'s StoreLock<Store>,
+    pub lock: &'s StoreLock<SharedStore>,
     /// The keys that tokens are signed with, and when a stream ends.
     pub site: &'s Site,
     /// What tells the time.

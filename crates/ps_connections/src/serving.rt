@@ -19,7 +19,7 @@ use crate::works::Worker;
 use ps_doors::Doors;
 use ps_io::{Clock, Sink, Source};
 use ps_lock::Seat;
-use ps_store::Store;
+use ps_workers::SharedStore;
 use std::sync::{Mutex, Wait};
 use std::thread::Threads;
 use std::{thread, time};
@@ -34,10 +34,10 @@ fn take_all<
     D: Doors<In = S, Out = K> + Drop,
 >(
     service: &Service<R, C>,
-    seat: Seat<Store>,
+    seat: Seat<SharedStore>,
     doors: D,
     most: u64,
-) -> (Seat<Store>, D, (Vec<Worker<S, K, C>>, Stop))
+) -> (Seat<SharedStore>, D, (Vec<Worker<S, K, C>>, Stop))
     requires { IsSeatOf service.now.lock.now seat }
     ensures lock { IsSeatOf service.now.lock.now result.0 }
     ensures seen { seen_by result.0 ≡ seen_by seat }
@@ -54,7 +54,7 @@ fn take_all<
     thread::scope(
         thread::scope_env(),
         service.rt,
-        move |scope| -> (Seat<Store>, D, (Vec<Worker<S, K, C>>, Stop))
+        move |scope| -> (Seat<SharedStore>, D, (Vec<Worker<S, K, C>>, Stop))
             requires { IsSeatOf service.now.lock.now seat }
             ensures lock { IsSeatOf service.entry.now.lock.now result.0 }
             ensures seen { seen_by result.0 ≡ seen_by seat }
@@ -86,7 +86,12 @@ pub fn serve_connections<
     K: Sink + Send + Drop,
     C: Clock + Sync,
     D: Doors<In = S, Out = K> + Drop,
->(service: &Service<R, C>, seat: Seat<Store>, doors: D, most: u64) -> (Seat<Store>, D, Ended)
+>(
+    service: &Service<R, C>,
+    seat: Seat<SharedStore>,
+    doors: D,
+    most: u64,
+) -> (Seat<SharedStore>, D, Ended)
     requires { IsSeatOf service.now.lock.now seat }
     ensures lock { IsSeatOf service.now.lock.now result.0 }
     ensures saw { IsPrefix (seen_by seat) (seen_by result.0) }

@@ -13,7 +13,7 @@ use crate::works::{Done, Exits, Task, Worker, leave, work};
 use core::thread::Stack;
 use ps_io::{Clock, Sink, Source};
 use ps_lock::Seat;
-use ps_store::Store;
+use ps_workers::SharedStore;
 use std::snapshot::Snapshot;
 use std::sync::Wait;
 use std::thread::{Scope, Threads};
@@ -31,7 +31,7 @@ pub(crate) fn start<
     scope: &'s Scope<'s, E>,
     service: &'s Service<'s, R, C>,
     exit: (&'s Exits, usize),
-    seat: Seat<Store>,
+    seat: Seat<SharedStore>,
     ends: (S, K),
 ) -> Worker<S, K, C>
     requires lock { IsSeatOf service.now.lock.now seat }

@@ -13,7 +13,7 @@ use crate::works::{Exits, Worker};
 use ps_doors::Doors;
 use ps_io::{Clock, Sink, Source};
 use ps_lock::Seat;
-use ps_store::Store;
+use ps_workers::SharedStore;
 use std::alloc::Global;
 use std::sync::Wait;
 use std::thread::{Scope, Threads};
@@ -69,7 +69,7 @@ pub(crate) fn take_connections<
     scope: &'s Scope<'s, E>,
     service: &'s Service<'s, R, C>,
     exits: &'s Exits,
-    seat: &mut Seat<Store>,
+    seat: &mut Seat<SharedStore>,
     doors: &mut D,
     most: u64,
 ) -> (Vec<Worker<S, K, C>>, Stop)

@@ -12,7 +12,7 @@ use crate::services::Service;
 use ps_io::{Clock, Sink, Source};
 use ps_lock::{Seat, StoreLock};
 use ps_serve::{End, Site, answer_connection, answers_stay};
-use ps_store::Store;
+use ps_workers::SharedStore;
 use std::snapshot::Snapshot;
 use std::sync::{Mutex, Wait};
 use std::thread::{Promise, PromisedHandle, Threads};
@@ -23,18 +23,18 @@ use std::time;
 pub(crate) struct Done<S, K> {
     pub(crate) from: S,
     pub(crate) to: K,
-    pub(crate) seat: Seat<Store>,
+    pub(crate) seat: Seat<SharedStore>,
     pub(crate) end: End,
 }
 
 /// What a worker was given, for the proofs alone: it takes no bytes.
 pub(crate) struct Task<S, K, C> {
-    pub(crate) lock: Snapshot<StoreLock<Store>>,
+    pub(crate) lock: Snapshot<StoreLock<SharedStore>>,
     pub(crate) site: Snapshot<Site>,
     pub(crate) clock: Snapshot<C>,
     pub(crate) from: Snapshot<S>,
     pub(crate) to: Snapshot<K>,
-    pub(crate) seat: Snapshot<Seat<Store>>,
+    pub(crate) seat: Snapshot<Seat<SharedStore>>,
 }
 
 impl<S, K, C> Drop for Task<S, K, C> {
@@ -120,7 +120,7 @@ pub(crate) fn leave<R: Wait>(rt: &R, exits: &Exits, place: usize) {
 /// Answers a connection, gives up both of its ends, and says how it ended.
 pub(crate) fn work<R: Wait + time::Clock + Hears, S: Source, K: Sink, C: Clock>(
     service: &Service<R, C>,
-    seat: Seat<Store>,
+    seat: Seat<SharedStore>,
     from: S,
     to: K,
 ) -> Done<S, K>

@@ -14,15 +14,16 @@ use Rattle.ps_store.specs.declared.events.Event.{Event}
 use Rattle.ps_store.specs.declared.faults.FeedFault.{FeedFault}
 use Rattle.ps_store.specs.declared.faults.FeedFault.TheVariants as feeding
 use Rattle.ps_store.specs.declared.fixed.Fixed.{Fixed}
-use Rattle.ps_store.specs.declared.stores.Store.{Store}
 use Rattle.ps_store.specs.Courses.{ledger_at}
 use Rattle.ps_store.specs.CourseLaws.{EndsAreWhole, PlacesStay}
 use Rattle.ps_store.specs.Ledgers.{Ledger, head_of, last_number, ledger_of}
+use Rattle.ps_workers.specs.declared.shared.SharedStore.{SharedStore}
+use Rattle.ps_workers.specs.declared.shared.Terms.{Terms}
 use Rattle.ps_workers.specs.Gains.{AddsTo, LooksAt, NumbersIn, UploadsIn}
 use Rattle.ps_serve.specs.Changing.{IsUploadAnswer}
 use Rattle.ps_serve.specs.SharedAnswers.{Held, IsAdded, NumbersAt, UploadsAt}
 
-module _ {d : Ghosts Store Event Fixed} (stay : PlacesStay) (whole : EndsAreWhole) (fixed : Fixed) (history : List Event) (before after : Seat Store Event Fixed d) where
+module _ {d : Ghosts SharedStore Event Terms} (stay : PlacesStay) (whole : EndsAreWhole) (fixed : Fixed) (history : List Event) (before after : Seat SharedStore Event Terms d) where
   abbrev low : ℕ
   low = length (seen_by before)
 

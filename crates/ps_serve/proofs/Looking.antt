@@ -10,7 +10,7 @@ use Rattle.ps_store.specs.Ledgers.{ledger_of}
 use Rattle.ps_streams.specs.Serving.{IsValid}
 use Rattle.ps_workers.specs.declared.looks.Look.{Look}
 use Rattle.ps_workers.specs.Looks.{LooksIn}
-use Rattle.ps_workers.specs.Sharing.{fixed_of}
+use Rattle.ps_workers.specs.Sharing.{terms_of, fixed_of}
 use Rattle.ps_serve.specs.declared.readers.Reader.{Reader}
 use Rattle.ps_serve.specs.Readers.{Lock, GoesOn, IsAtEnd, StandsAt, own, seen}
 
@@ -34,7 +34,7 @@ stands_here named entries lock reader lock_is entries_is at_end = record {
 -- ---- a turn
 
 module _ (named : Option Lock) (entries : List (Event × ℕ)) (lock : Lock) (held : Option Reader) (fixed : Fixed) (history : List Event) (reader reader' : Reader) (look : Look) (now : List Event)
-    (is : held ≡ Some reader) (looks : LooksIn (fixed_of lock) now reader.seat reader'.seat look) (seat_is : IsSeatOf lock reader'.seat) (checkpoint_is : reader'.checkpoint ≡ look.checkpoint)
+    (is : held ≡ Some reader) (looks : LooksIn (terms_of lock) now reader.seat reader'.seat look) (seat_is : IsSeatOf lock reader'.seat) (checkpoint_is : reader'.checkpoint ≡ look.checkpoint)
     (it : StandsAt named entries lock held fixed history) where
   same : it.reader ≡ reader
   same = some_is (sym it.held_is ∙ is)
@@ -46,7 +46,7 @@ module _ (named : Option Lock) (entries : List (Event × ℕ)) (lock : Lock) (he
   came = subst (λ (xs : List Event). IsPrefix xs now) front looks.looks.knew
 
   valid : IsValid (fixed_of lock) now
-  valid = record { rules = looks.stood.1.0.rules; numbers = looks.stood.1.0.query_numbers; legal = looks.stood.1.0.legal }
+  valid = record { rules = looks.stood.1.stands.rules; numbers = looks.stood.1.stands.query_numbers; legal = looks.stood.1.stands.legal }
 
   pub stands_on : StandsAt named entries lock (Some reader') fixed (history ++ came.0)
   stands_on = record {

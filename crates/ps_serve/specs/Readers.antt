@@ -7,18 +7,19 @@ use Rattle.ps_queries.specs.declared.askers.Asker.{Asker}
 use Rattle.ps_store.specs.declared.events.Event.{Event}
 use Rattle.ps_store.specs.declared.fixed.Fixed.{Fixed}
 use Rattle.ps_store.specs.declared.readings.TakeFault.{TakeFault}
-use Rattle.ps_store.specs.declared.stores.Store.{Store}
 use Rattle.ps_store.specs.Courses.{course_of}
 use Rattle.ps_store.specs.Ledgers.{ledger_of}
 use Rattle.ps_session.specs.Sessions.{SessionState}
 use Rattle.ps_streams.specs.declared.outcomes.TurnOutcome.{TurnOutcome}
 use Rattle.ps_streams.specs.Serving.{IsValid}
 use Rattle.ps_streams.specs.Turning.{IsUnderWay, TurnsSo}
+use Rattle.ps_workers.specs.declared.shared.SharedStore.{SharedStore}
+use Rattle.ps_workers.specs.declared.shared.Terms.{Terms}
 use Rattle.ps_workers.specs.Sharing.{fixed_of}
 use Rattle.ps_serve.specs.declared.readers.Reader.{Reader}
 
 abbrev pub Lock : Type 0
-Lock = StoreLock Store Event Fixed
+Lock = StoreLock SharedStore Event Terms
 
 -- what a reader has seen, and its own entries
 abbrev pub seen : Reader → List Event

@@ -27,8 +27,8 @@ use ps_io::{Clock, Sink, Source};
 use ps_lock::{Seat, StoreLock};
 use ps_rows::Change;
 use ps_session::StreamRequest;
-use ps_store::{FeedFault, Store, places_are_fronts};
-use ps_workers::{number_in_turn, upload_in_turn};
+use ps_store::{FeedFault, places_are_fronts};
+use ps_workers::{SharedStore, number_in_turn, upload_in_turn};
 use ps_write_cp::NumberFault;
 use std::alloc::Global;
 use std::sync::Wait;
@@ -79,12 +79,12 @@ fn tell_fed<K: Sink>(alloc: Global, fed: Result<Position, FeedFault>, to: &mut K
 // Makes a write checkpoint of a user's client, rings, and tells its number.
 fn number_through<R: Wait, K: Sink, B: Bell>(
     desk: &Desk<R>,
-    seat: Seat<Store>,
+    seat: Seat<SharedStore>,
     user: &Text,
     client: &Text,
     to: &mut K,
     bell: &mut B,
-) -> (Seat<Store>, Outcome)
+) -> (Seat<SharedStore>, Outcome)
     requires { IsSeatOf desk.now.lock.now seat }
     ensures lock { IsSeatOf desk.now.lock.now result.0 }
     ensures saw { IsPrefix (seen_by seat) (seen_by result.0) }
@@ -105,11 +105,11 @@ fn number_through<R: Wait, K: Sink, B: Bell>(
 // Feeds changes, of which no table is empty, rings, and tells their position.
 fn upload_through<R: Wait, K: Sink, B: Bell>(
     desk: &Desk<R>,
-    seat: Seat<Store>,
+    seat: Seat<SharedStore>,
     changes: Items<Change>,
     to: &mut K,
     bell: &mut B,
-) -> (Seat<Store>, Outcome)
+) -> (Seat<SharedStore>, Outcome)
     requires seat { IsSeatOf desk.now.lock.now seat }
     requires tables { All (λ (change : ChangeSeen). 0 < length change.table) changes }
     ensures lock { IsSeatOf desk.now.lock.now result.0 }
@@ -131,13 +131,13 @@ fn upload_through<R: Wait, K: Sink, B: Bell>(
 // Does what a request asks for.
 fn answer<R: Wait, K: Sink, C: Clock, B: Bell>(
     desk: &Desk<R>,
-    seat: Seat<Store>,
+    seat: Seat<SharedStore>,
     until_drained: bool,
     asked: Asked,
     to: &mut K,
     clock: &C,
     bell: &mut B,
-) -> (Seat<Store>, Outcome)
+) -> (Seat<SharedStore>, Outcome)
     requires seat { IsSeatOf desk.now.lock.now seat }
     requires filled { AreFilled asked }
     ensures lock { IsSeatOf desk.now.lock.now result.0 }
@@ -183,14 +183,14 @@ fn answer<R: Wait, K: Sink, C: Clock, B: Bell>(
 pub fn answer_connection<R: Wait, S: Source, K: Sink, C: Clock, B: Bell>(
     rt: &R,
     alloc: Global,
-    lock: &StoreLock<Store>,
-    seat: Seat<Store>,
+    lock: &StoreLock<SharedStore>,
+    seat: Seat<SharedStore>,
     site: &Site,
     from: &mut S,
     to: &mut K,
     clock: &C,
     bell: &mut B,
-) -> (Seat<Store>, Outcome)
+) -> (Seat<SharedStore>, Outcome)
     requires { IsSeatOf lock.now seat }
     ensures lock { IsSeatOf lock.now result.0 }
     ensures saw { IsPrefix (seen_by seat) (seen_by result.0) }

@@ -32,8 +32,9 @@ use ps_io::{Clock, Sink};
 use ps_lines::{Line, write_line};
 use ps_lock::Seat;
 use ps_session::{Action, Session, StreamRequest};
-use ps_store::{Store, TakeFault, courses_are_lawful, places_are_fronts};
+use ps_store::{TakeFault, courses_are_lawful, places_are_fronts};
 use ps_streams::{runs_go_on, sessions_keep_clients_right};
+use ps_workers::SharedStore;
 use std::alloc::Global;
 use std::sync::Wait;
 
@@ -182,11 +183,11 @@ pub fn stream_from<R: Wait, K: Sink, C: Clock, B: Bell>(
 pub fn stream_through<R: Wait, K: Sink, C: Clock, B: Bell>(
     desk: &Desk<R>,
     terms: &Terms<C>,
-    seat: Seat<Store>,
+    seat: Seat<SharedStore>,
     request: StreamRequest,
     to: &mut K,
     bell: &mut B,
-) -> (Seat<Store>, Outcome)
+) -> (Seat<SharedStore>, Outcome)
     requires { IsSeatOf desk.now.lock.now seat }
     ensures lock { IsSeatOf desk.now.lock.now result.0 }
     ensures saw { IsPrefix (seen_by seat) (seen_by result.0) }

@@ -16,9 +16,9 @@ use ps_data::{Memory, OpId, Text};
 use ps_lock::{Seat, StoreLock};
 use ps_session::Session;
 use ps_sql_eval::Asker;
-use ps_store::{Store, TakeFault};
+use ps_store::TakeFault;
 use ps_streams::{Readings, TurnOutcome, take_turn};
-use ps_workers::{look_in_turn, read_in_turn, take_in_turn};
+use ps_workers::{SharedStore, look_in_turn, read_in_turn, take_in_turn};
 use std::alloc::Global;
 use std::marker::{Brand, PhantomData};
 use std::sync::Wait;
@@ -31,7 +31,7 @@ pub struct Desk<'a, R> {
     /// The allocator.
     pub alloc: Global,
     /// The lock.
-    pub lock: &'a StoreLock<Store>,
+    pub lock: &'a StoreLock<SharedStore>,
 }
 
 // The lock that readings are of, and the own entries of their seat, for the proofs alone. A call at `Brand` picks them.
@@ -107,7 +107,7 @@ impl<'a, R: Wait, N: Named> Readings for LockReadings<'a, R, N> {
 }
 
 /// A reader at the end of the history: its first turn finds where that is.
-pub fn open_reader<R: Wait>(desk: &Desk<R>, seat: Seat<Store>) -> Reader
+pub fn open_reader<R: Wait>(desk: &Desk<R>, seat: Seat<SharedStore>) -> Reader
     requires { IsSeatOf desk.now.lock.now seat }
     ensures at_end { IsAtEnd desk.now.lock.now result }
     ensures saw { IsPrefix (seen_by seat) (seen result) }

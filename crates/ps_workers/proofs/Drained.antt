@@ -9,7 +9,7 @@ use Rattle.ps_store.specs.declared.events.Event.TheVariants.{Feed, Close, Write,
 use Rattle.ps_store.specs.declared.fixed.Fixed.{Fixed}
 use Rattle.ps_store.specs.declared.reach.End.{End}
 use Rattle.ps_store.specs.Generations.{Lane, Coming, queue_in, is_of}
-use Rattle.ps_store.specs.Histories.{has_deploy, LedgersTellOneGeneration}
+use Rattle.ps_store.specs.Histories.{has_deploy}
 use Rattle.ps_store.specs.LedgerLaws.{moves_checkpoint}
 use Rattle.ps_store.specs.Ledgers.{Ledger, fresh, ledger_after, ledger_of, head_of, unwritten, IsLegalFrom, force_ops}
 use Rattle.ps_store.specs.declared.entered.Entered.{Entered}
@@ -18,9 +18,12 @@ use Rattle.ps_store.specs.Stores.{IsKept}
 use Rattle.ps_store.specs.Tails.{EndsRise, last_end, positions_of, timed_positions}
 use Rattle.ps_store.specs.Totals.{bucket_names_of, in_generation, names_of}
 use Rattle.ps_store.specs.TotalsLaws.{BucketNamesTell}
+use Rattle.ps_store.specs.Readings.{building_of}
 use Rattle.ps_workers.specs.declared.looks.Look.{Look}
+use Rattle.ps_workers.specs.declared.shared.Terms.{Terms}
 use Rattle.ps_workers.specs.Compacting.{IsOver}
-use Rattle.ps_workers.specs.Looks.{IsLook, IsStoodFor}
+use Rattle.ps_workers.specs.Looks.{IsLook}
+use Rattle.ps_workers.specs.Terms.{IsStoodFor}
 use Rattle.ps_workers.specs.Work.{IsStoreDrained}
 
 -- ---- at the head
@@ -38,9 +41,17 @@ no_positions : (ts : List Timed) → timed_positions ts ≡ [] → ts ≡ []
 no_positions [] h = refl
 no_positions (t ∷ ts) h = absurd cc
 
-module _ (fixed : Fixed) (history : List Event) (stood : IsStoodFor fixed history) where
-  kept : IsKept stood.0.fixed.limits (ledger_of fixed.rules history)
-  kept = stood.1.0.stands.kept
+-- nothing is being built, as a number shows
+none_built : (coming : Option Coming) → option_map (λ (c : Coming). c.lane.number) coming ≡ None → coming ≡ None
+none_built None h = refl
+none_built (Some coming) h = absurd (cc h)
+
+module _ (terms : Terms) (history : List Event) (stood : IsStoodFor terms history) where
+  abbrev fixed : Fixed
+  fixed = terms.fixed
+
+  kept : IsKept stood.0.store.fixed.limits (ledger_of fixed.rules history)
+  kept = stood.1.stands.stands.kept
 
   -- what is committed up to the head is reached up to there
   reached_is : (ledger_of fixed.rules history).position ≡ head_of (ledger_of fixed.rules history).fed
@@ -55,15 +66,16 @@ module _ (fixed : Fixed) (history : List Event) (stood : IsStoodFor fixed histor
       let none : l.reach.left ≡ [] = none_left l.reach.position l.reach.left kept.ends_rise (omega (arith, at_head, kept.checkpoint, kept.last_is_head)) in
       no_positions (unwritten l) (kept.tied.positions ∙ (ap (λ (es : List End). drop l.reach.over (positions_of es)) none ∙ drop-nil l.reach.over))
 
-  -- so the store is drained where nothing more is fed, and the checkpoint is at the head
-  pub drained_at : (ledger_of fixed.rules history).closed ≡ true → (ledger_of fixed.rules history).position ≡ head_of (ledger_of fixed.rules history).fed
-      → IsStoreDrained (ledger_of fixed.rules history)
-  drained_at closed at_head = record { closed = closed; written = all_written at_head; committed = at_head }
+  -- so the store is drained where nothing more is fed, the checkpoint is at the head, and nothing is being built
+  drained_at : (ledger_of fixed.rules history).closed ≡ true → (ledger_of fixed.rules history).position ≡ head_of (ledger_of fixed.rules history).fed
+      → (ledger_of fixed.rules history).building ≡ None → IsStoreDrained (ledger_of fixed.rules history)
+  drained_at closed at_head alone = record { closed = closed; written = all_written at_head; committed = at_head; alone = alone }
 
   -- as a look shows
-  pub drained_by : (look : Look) → IsLook (ledger_of fixed.rules history) look → (look.closed ≡ true) × (look.checkpoint.position.0 ≡ look.head.0)
+  pub drained_by : (look : Look) → IsLook (ledger_of fixed.rules history) look → (look.closed ≡ true) × (look.checkpoint.position.0 ≡ look.head.0) × (look.building ≡ None)
       → IsStoreDrained (ledger_of fixed.rules history)
-  drained_by look found shows = drained_at (sym found.closed ∙ shows.0) (sym found.position ∙ (shows.1 ∙ found.head))
+  drained_by look found shows =
+      drained_at (sym found.closed ∙ shows.0) (sym found.position ∙ (shows.1 ∙ found.head)) (none_built (ledger_of fixed.rules history).building (sym found.building ∙ shows.2))
 
 -- ---- later
 
@@ -142,23 +154,23 @@ plain_behind (Switch ∷ front) back plain = plain_behind front back plain
 plain_behind (Abandon ∷ front) back plain = plain_behind front back plain
 
 -- a drained store, later: it is drained, its buckets have the same names, and no Commit came
-pub record StaysDrained (fixed : Fixed) (front back later : List Event) : Type 0 where
-  pub over : IsOver fixed later
-  pub names : bucket_names_of (ledger_of fixed.rules later) ≡ bucket_names_of (ledger_of fixed.rules front)
+pub record StaysDrained (terms : Terms) (front back later : List Event) : Type 0 where
+  pub over : IsOver terms later
+  pub names : bucket_names_of (ledger_of terms.fixed.rules later) ≡ bucket_names_of (ledger_of terms.fixed.rules front)
   pub no_commit : moves_checkpoint back ≡ false
 
-module _ (fixed : Fixed) (one : LedgersTellOneGeneration) (front back : List Event) where
-  stays_drained_at : IsOver fixed front → IsStoodFor fixed (front ++ back) → StaysDrained fixed front back (front ++ back)
-  stays_drained_at over stood =
+module _ (terms : Terms) (front back : List Event) where
+  stays_drained_at : IsOver terms front → IsStoodFor terms (front ++ back) → has_deploy (front ++ back) ≡ false → StaysDrained terms front back (front ++ back)
+  stays_drained_at over stood plain =
+      let fixed = terms.fixed in
       let l = ledger_of fixed.rules front in
-      let here = over.stood.1 in
       let still : IsStill l = record {
         closed = over.drained.closed;
         written = over.drained.written;
-        reached = reached_is fixed front over.stood over.drained.committed;
-        alone = (one fixed.rules front here.0.legal here.1.1).building;
+        reached = reached_is terms front over.stood over.drained.committed;
+        alone = over.drained.alone;
       } in
-      let kept = still_stays back l still (legal_behind front back (fresh fixed.rules) stood.1.0.legal) (plain_behind front back stood.1.1.1) in
+      let kept = still_stays back l still (legal_behind front back (fresh fixed.rules) stood.1.stands.legal) (plain_behind front back plain) in
       let same : ledger_of fixed.rules (front ++ back) ≡ fold ledger_after l back = fold-append ledger_after (fresh fixed.rules) front back in
       let later : Stays l (ledger_of fixed.rules (front ++ back)) = subst (λ (x : Ledger). Stays l x) (sym same) kept.0 in
       record {
@@ -168,15 +180,31 @@ module _ (fixed : Fixed) (one : LedgersTellOneGeneration) (front back : List Eve
             closed = later.still.closed;
             written = later.still.written;
             committed = later.position ∙ (over.drained.committed ∙ ap head_of (sym later.fed));
+            alone = later.still.alone;
           };
         };
         names = ap (λ (x : Lane). names_of (in_generation x.number (ledger_of fixed.rules (front ++ back)).entered)) later.force ∙ ap (λ (es : List Entered). names_of (in_generation l.force.number es)) later.entered;
         no_commit = kept.1;
       }
 
-  pub stays_drained : (later : List Event) → front ++ back ≡ later → IsOver fixed front → IsStoodFor fixed later → StaysDrained fixed front back later
-  stays_drained later whole over stood =
-      subst (λ (xs : List Event). StaysDrained fixed front back xs) whole (stays_drained_at over (subst (λ (xs : List Event). IsStoodFor fixed xs) (sym whole) stood))
+  pub stays_drained : (later : List Event) → front ++ back ≡ later → IsOver terms front → IsStoodFor terms later → has_deploy later ≡ false → StaysDrained terms front back later
+  stays_drained later whole over stood plain =
+      subst (λ (xs : List Event). StaysDrained terms front back xs) whole
+      (stays_drained_at over (subst (λ (xs : List Event). IsStoodFor terms xs) (sym whole) stood) (subst (λ (xs : List Event). has_deploy xs ≡ false) (sym whole) plain))
+
+-- where none come later, none came before
+pub plain_before : (front back : List Event) → has_deploy (front ++ back) ≡ false → has_deploy front ≡ false
+plain_before [] back plain = refl
+plain_before (Feed t ∷ front) back plain = plain_before front back plain
+plain_before (Close ∷ front) back plain = plain_before front back plain
+plain_before (Write n ∷ front) back plain = plain_before front back plain
+plain_before (Commit ∷ front) back plain = plain_before front back plain
+plain_before (Compact bucket ∷ front) back plain = plain_before front back plain
+plain_before (WriteCheckpoint user client ∷ front) back plain = plain_before front back plain
+plain_before (Deploy rules ∷ front) back plain = plain
+plain_before (Build n ∷ front) back plain = plain_before front back plain
+plain_before (Switch ∷ front) back plain = plain_before front back plain
+plain_before (Abandon ∷ front) back plain = plain_before front back plain
 
 -- ---- its buckets
 

@@ -1,20 +1,24 @@
--- Each event that a turn adds leaves written changes narrow, and brings no new rules.
-use Rattle.std.proofs.Common.{◌≡◌, ℕ, zero, suc, ◌+◌, ◌≤◌, Bool, true, false, List, [], ◌∷◌, ◌++◌, Some, None, refl, sym, ap, ◌∙◌, subst, length, take, drop, fold, arith, append_assoc, append-nil}
+-- Which events a turn may add: a Deploy is of the next rules, and where there are no next rules each leaves written changes narrow.
+use Rattle.std.proofs.Common.{◌≡◌, ℕ, zero, suc, ◌+◌, ◌≤◌, Bool, true, false, List, [], ◌∷◌, ◌++◌, Option, Some, None, refl, sym, ap, ◌∙◌, subst, length, take, drop, fold, arith, append_assoc, append-nil}
 use Rattle.std.specs.Prelude.{nat_lt, if◌then◌else◌}
 use Rattle.std.specs.List.{AllByRecursion}
 use Rattle.std.proofs.lemmas.Bool.Decides.{nat_tests}
 use Rattle.ps_rows.specs.declared.changes.Transaction.{Transaction}
 use Rattle.ps_definitions.specs.RuleSets.{RuleSet}
 use Rattle.ps_store.specs.declared.events.Event.{Event}
-use Rattle.ps_store.specs.declared.events.Event.TheVariants.{Feed, Close, Write, Commit, Compact, WriteCheckpoint}
+use Rattle.ps_store.specs.declared.events.Event.TheVariants.{Feed, Close, Write, Commit, Compact, WriteCheckpoint, Deploy, Build, Switch, Abandon}
 use Rattle.ps_store.specs.declared.fixed.Fixed.{Fixed}
 use Rattle.ps_store.specs.declared.stores.Store.{Store}
+use Rattle.ps_store.specs.Generations.{Coming, queue_in}
 use Rattle.ps_store.specs.Histories.{has_deploy}
 use Rattle.ps_store.specs.Keeping.{IsNarrow, AreNarrow, IsLockHistory}
-use Rattle.ps_store.specs.Ledgers.{Ledger, fresh, timed_of, unwritten, entries_after, next_ops, write_next, ledger_after, ledger_of, CanCome, IsLegalFrom}
+use Rattle.ps_store.specs.Ledgers.{Ledger, fresh, timed_of, unwritten, entries_after, next_ops, write_next, build_with, build_next, switch_to, ledger_after, ledger_of, CanCome, IsLegalFrom}
 use Rattle.ps_store.specs.Originals.{Timed, timed, key_of, entries_at}
 use Rattle.ps_store.specs.Runs.{refusal_of, run_from, stopped}
 use Rattle.ps_store.specs.Stores.{StoreStandsFor, next_run}
+use Rattle.ps_workers.specs.declared.shared.SharedStore.{SharedStore}
+use Rattle.ps_workers.specs.declared.shared.Terms.{Terms}
+use Rattle.ps_workers.specs.Terms.{DeploysOnly, KeepsShared}
 use Rattle.ps_store.proofs.NoDeploys.{plain_push}
 use Rattle.ps_store.proofs.OneGeneration.{one_history}
 
@@ -140,3 +144,82 @@ write_kept fixed store history limit n stands h many count =
     let firsts : take now.written (timed now.fed) ≡ take l.written (timed l.fed) ++ take n us =
     ap (λ k. take k (timed now.fed)) written ∙ (ap (λ (ts : List Transaction). take (l.written + n) (timed ts)) (fed_on (take n us) l) ∙ take_on l.written n (timed l.fed)) in
     after_event fixed history h (Write n) refl (subst (AllByRecursion (IsNarrow fixed)) (sym firsts) (all_both (IsNarrow fixed) (take l.written (timed l.fed)) (take n us) h.0 more))
+
+-- ---- next rules
+
+build_one : (coming : Option Coming) (t : Timed) (l : Ledger) → ((build_with coming t l).fed ≡ l.fed) × ((build_with coming t l).written ≡ l.written)
+build_one None t l = (refl, refl)
+build_one (Some coming) t l = (refl, refl)
+
+build_on : (ts : List Timed) (l : Ledger) → ((fold build_next l ts).fed ≡ l.fed) × ((fold build_next l ts).written ≡ l.written)
+build_on [] l = (refl, refl)
+build_on (t ∷ ts) l =
+    let rest = build_on ts (build_next l t) in
+    let one = build_one l.building t l in
+    (rest.0 ∙ one.0, rest.1 ∙ one.1)
+
+switch_on : (coming : Option Coming) (l : Ledger) → ((switch_to coming l).fed ≡ l.fed) × ((switch_to coming l).written ≡ l.written)
+switch_on None l = (refl, refl)
+switch_on (Some coming) l = (refl, refl)
+
+same_changes : (fixed : Fixed) (l later : Ledger) → (later.fed ≡ l.fed) × (later.written ≡ l.written) → AreNarrow fixed l → AreNarrow fixed later
+same_changes fixed l later same narrow =
+    let firsts : take l.written (timed l.fed) ≡ take later.written (timed later.fed) = λ i. take (sym same.1 i) (timed (sym same.0 i)) in
+    subst (λ (ts : List Timed). AllByRecursion (IsNarrow fixed) ts) firsts narrow
+
+-- what an event has to be that may come to a lock's history
+pub record MayCome (terms : Terms) (history : List Event) (event : Event) : Type 0 where
+  pub deploys : DeploysOnly terms.next event
+  pub narrow : terms.next ≡ None → AreNarrow terms.fixed (ledger_of terms.fixed.rules (history ++ event ∷ []))
+
+none_came : (history : List Event) → AllByRecursion (DeploysOnly None) history → has_deploy history ≡ false
+none_came [] h = refl
+none_came (Feed t ∷ history) h = none_came history h.1
+none_came (Close ∷ history) h = none_came history h.1
+none_came (Write n ∷ history) h = none_came history h.1
+none_came (Commit ∷ history) h = none_came history h.1
+none_came (Compact bucket ∷ history) h = none_came history h.1
+none_came (WriteCheckpoint user client ∷ history) h = none_came history h.1
+none_came (Deploy rules ∷ history) h = let wrong : None ≡ Some rules = h.0 in absurd (cc wrong)
+none_came (Build n ∷ history) h = none_came history h.1
+none_came (Switch ∷ history) h = none_came history h.1
+none_came (Abandon ∷ history) h = none_came history h.1
+
+module _ (terms : Terms) (shared : SharedStore) (history : List Event) (kept : KeepsShared terms shared history) where
+  -- without next rules no new rules came
+  pub plain_by : terms.next ≡ None → IsLockHistory terms.fixed history
+  plain_by none = (kept.narrow none, none_came history (subst (λ (next : Option RuleSet). AllByRecursion (DeploysOnly next) history) none kept.deploys))
+
+  pub may_close : MayCome terms history Close
+  may_close = record { deploys = tt; narrow = λ none. (close_kept terms.fixed history (plain_by none)).0 }
+
+  pub may_commit : MayCome terms history Commit
+  may_commit = record { deploys = tt; narrow = λ none. (commit_kept terms.fixed history (plain_by none)).0 }
+
+  pub may_compact : (bucket : List ℕ) → MayCome terms history (Compact bucket)
+  may_compact bucket = record { deploys = tt; narrow = λ none. (compact_kept terms.fixed history (plain_by none) bucket).0 }
+
+  pub may_number : (user client : List ℕ) → MayCome terms history (WriteCheckpoint user client)
+  may_number user client = record { deploys = tt; narrow = λ none. (number_kept terms.fixed history (plain_by none) user client).0 }
+
+  pub may_feed : (t : Transaction) → MayCome terms history (Feed t)
+  may_feed t = record { deploys = tt; narrow = λ none. (feed_kept terms.fixed shared.store history t kept.stands (plain_by none)).0 }
+
+  pub may_write : (limit n : ℕ) → n ≤ length (unwritten (ledger_of terms.fixed.rules history)) → n ≡ (next_run terms.fixed history limit).count → MayCome terms history (Write n)
+  may_write limit n many count = record { deploys = tt; narrow = λ none. (write_kept terms.fixed shared.store history limit n kept.stands (plain_by none) many count).0 }
+
+  pub may_deploy : (rules : RuleSet) → terms.next ≡ Some rules → MayCome terms history (Deploy rules)
+  may_deploy rules is = record { deploys = is; narrow = λ none. let wrong : None ≡ Some rules = sym none ∙ is in absurd (cc wrong) }
+
+  after_narrow : (event : Event) → AreNarrow terms.fixed (ledger_after (ledger_of terms.fixed.rules history) event) → AreNarrow terms.fixed (ledger_of terms.fixed.rules (history ++ event ∷ []))
+  after_narrow event narrow = subst (AreNarrow terms.fixed) (sym (fold_more ledger_after (fresh terms.fixed.rules) history event)) narrow
+
+  pub may_build : (n : ℕ) → MayCome terms history (Build n)
+  may_build n =
+      let l = ledger_of terms.fixed.rules history in
+      record { deploys = tt; narrow = λ none. after_narrow (Build n) (same_changes terms.fixed l (ledger_after l (Build n)) (build_on (take n (queue_in l.building)) l) (kept.narrow none)) }
+
+  pub may_switch : MayCome terms history Switch
+  may_switch =
+      let l = ledger_of terms.fixed.rules history in
+      record { deploys = tt; narrow = λ none. after_narrow Switch (same_changes terms.fixed l (ledger_after l Switch) (switch_on l.building l) (kept.narrow none)) }

@@ -1,5 +1,5 @@
 -- What a worker's turns add, one after another.
-use Rattle.std.proofs.Common.{◌≡◌, ℕ, ◌+◌, List, [], ◌∷◌, ◌++◌, length, refl, ap, sym, ◌∙◌, subst, append_assoc}
+use Rattle.std.proofs.Common.{◌≡◌, ℕ, ◌+◌, Option, List, [], ◌∷◌, ◌++◌, length, refl, ap, sym, ◌∙◌, subst, append_assoc}
 use Rattle.std.specs.List.{AllByRecursion}
 use Rattle.std.proofs.lemmas.List.{append-nil, map-append}
 use mathlib.Core.List.{IsPrefix}
@@ -9,8 +9,9 @@ use Rattle.ps_lock.specs.declared.tables.Seat.{Seat}
 use Rattle.ps_lock.specs.Words.{seen_by, own_entries_of}
 use Rattle.ps_store.specs.declared.events.Event.{Event}
 use Rattle.ps_store.specs.declared.events.Event.TheVariants.{Feed, Close, Write, Commit, Compact, WriteCheckpoint, Deploy, Build, Switch, Abandon}
-use Rattle.ps_store.specs.declared.fixed.Fixed.{Fixed}
 use Rattle.ps_store.specs.LedgerLaws.{fed_in}
+use Rattle.ps_workers.specs.declared.shared.Terms.{Terms}
+use Rattle.ps_workers.specs.declared.stages.NextRules.{NextRules}
 use Rattle.ps_workers.specs.Gains.{LooksAt, AddsTo}
 use Rattle.ps_workers.specs.Work.{HasWorked, HasWritten, IsOfWriter, events_of}
 
@@ -51,11 +52,11 @@ events_both xs ys = map-append (λ (entry : Event × ℕ). entry.0) xs ys
 
 -- ---- workers
 
-module _ {V : Type 0} {d : Ghosts V Event Fixed} (P : Event → Type 0) where
-  pub worked_none : (seat : Seat V Event Fixed d) → HasWorked P seat seat
+module _ {V : Type 0} {d : Ghosts V Event Terms} (P : Event → Type 0) where
+  pub worked_none : (seat : Seat V Event Terms d) → HasWorked P seat seat
   worked_none seat = record { saw = prefix_self (seen_by seat); gained = []; own = sym (append-nil (own_entries_of seat)); kinds = tt }
 
-  pub worked_then : (before between after : Seat V Event Fixed d) → HasWorked P before between → HasWorked P between after → HasWorked P before after
+  pub worked_then : (before between after : Seat V Event Terms d) → HasWorked P before between → HasWorked P between after → HasWorked P before after
   worked_then before between after one two = record {
     saw = prefix_then (seen_by before) (seen_by between) (seen_by after) one.saw two.saw;
     gained = one.gained ++ two.gained;
@@ -63,7 +64,7 @@ module _ {V : Type 0} {d : Ghosts V Event Fixed} (P : Event → Type 0) where
     kinds = subst (AllByRecursion P) (sym (events_both one.gained two.gained)) (all_both P (events_of one.gained) (events_of two.gained) one.kinds two.kinds);
   }
 
-  pub worked_looking : (history : List Event) (before after : Seat V Event Fixed d) → LooksAt history before after → HasWorked P before after
+  pub worked_looking : (history : List Event) (before after : Seat V Event Terms d) → LooksAt history before after → HasWorked P before after
   worked_looking history before after it = record {
     saw = subst (IsPrefix (seen_by before)) (sym it.seen) it.knew;
     gained = [];
@@ -71,7 +72,7 @@ module _ {V : Type 0} {d : Ghosts V Event Fixed} (P : Event → Type 0) where
     kinds = tt;
   }
 
-  pub worked_adding : (history : List Event) (entry : Event) (before after : Seat V Event Fixed d) → P entry → AddsTo history entry before after → HasWorked P before after
+  pub worked_adding : (history : List Event) (entry : Event) (before after : Seat V Event Terms d) → P entry → AddsTo history entry before after → HasWorked P before after
   worked_adding history entry before after may it = record {
     saw = subst (IsPrefix (seen_by before)) (sym it.seen) (prefix_more (seen_by before) history (entry ∷ []) it.knew);
     gained = (entry, length history + 1) ∷ [];
@@ -81,31 +82,31 @@ module _ {V : Type 0} {d : Ghosts V Event Fixed} (P : Event → Type 0) where
 
 -- ---- writers
 
-module _ {V : Type 0} {d : Ghosts V Event Fixed} (batch : ℕ) where
-  pub written_none : (seat : Seat V Event Fixed d) → HasWritten batch [] seat seat
+module _ {V : Type 0} {d : Ghosts V Event Terms} (next : Option NextRules) (batch : ℕ) where
+  pub written_none : (seat : Seat V Event Terms d) → HasWritten next batch [] seat seat
   unfolding worked_none
-  written_none seat = record { worked = worked_none (IsOfWriter batch) seat; feeds = refl }
+  written_none seat = record { worked = worked_none (IsOfWriter next batch) seat; feeds = refl }
 
-  pub written_looking : (history : List Event) (before after : Seat V Event Fixed d) → LooksAt history before after → HasWritten batch [] before after
+  pub written_looking : (history : List Event) (before after : Seat V Event Terms d) → LooksAt history before after → HasWritten next batch [] before after
   unfolding worked_looking
-  written_looking history before after it = record { worked = worked_looking (IsOfWriter batch) history before after it; feeds = refl }
+  written_looking history before after it = record { worked = worked_looking (IsOfWriter next batch) history before after it; feeds = refl }
 
-  pub written_adding : (history : List Event) (entry : Event) (before after : Seat V Event Fixed d) → IsOfWriter batch entry → AddsTo history entry before after
-      → HasWritten batch (fed_in (entry ∷ [])) before after
+  pub written_adding : (history : List Event) (entry : Event) (before after : Seat V Event Terms d) → IsOfWriter next batch entry → AddsTo history entry before after
+      → HasWritten next batch (fed_in (entry ∷ [])) before after
   unfolding worked_adding
-  written_adding history entry before after may it = record { worked = worked_adding (IsOfWriter batch) history entry before after may it; feeds = refl }
+  written_adding history entry before after may it = record { worked = worked_adding (IsOfWriter next batch) history entry before after may it; feeds = refl }
 
-  pub written_then : (fed more : List Transaction) (before between after : Seat V Event Fixed d) → HasWritten batch fed before between → HasWritten batch more between after
-      → HasWritten batch (fed ++ more) before after
+  pub written_then : (fed more : List Transaction) (before between after : Seat V Event Terms d) → HasWritten next batch fed before between → HasWritten next batch more between after
+      → HasWritten next batch (fed ++ more) before after
   unfolding worked_then
   written_then fed more before between after one two = record {
-    worked = worked_then (IsOfWriter batch) before between after one.worked two.worked;
+    worked = worked_then (IsOfWriter next batch) before between after one.worked two.worked;
     feeds =
         ap fed_in (events_both one.worked.gained two.worked.gained)
         ∙ (fed_both (events_of one.worked.gained) (events_of two.worked.gained) ∙ (ap (λ ts. ts ++ fed_in (events_of two.worked.gained)) one.feeds ∙ ap (λ ts. fed ++ ts) two.feeds));
   }
 
   -- nothing more is fed
-  pub written_on : (fed : List Transaction) (before between after : Seat V Event Fixed d) → HasWritten batch fed before between → HasWritten batch [] between after
-      → HasWritten batch fed before after
-  written_on fed before between after one two = subst (λ ts. HasWritten batch ts before after) (append-nil fed) (written_then fed [] before between after one two)
+  pub written_on : (fed : List Transaction) (before between after : Seat V Event Terms d) → HasWritten next batch fed before between → HasWritten next batch [] between after
+      → HasWritten next batch fed before after
+  written_on fed before between after one two = subst (λ ts. HasWritten next batch ts before after) (append-nil fed) (written_then fed [] before between after one two)

@@ -4,7 +4,7 @@ ghost use Rattle.std.specs.Prelude.{◌≡◌, ◌<◌, true, false, OnOk};
 ghost use Rattle.ps_lock.specs.Words.{IsSeatOf, seen_by};
 ghost use Rattle.ps_store.specs.Histories.{has_deploy};
 ghost use Rattle.ps_workers.specs.Sharing.{terms_of, fixed_of};
-ghost use Rattle.ps_workers.specs.Compacting.{IsOver, IsOverWith, HasCompacted, CompactsOn};
+ghost use Rattle.ps_workers.specs.Compacting.{IsOverWith, HasCompacted, CompactsOn};
 ghost use Rattle.ps_workers.specs.Work.{HasWorked, IsOfCompactor, CompactsAll};
 
 use crate::compactions::compact_in_turn;
@@ -17,7 +17,7 @@ use crate::workplaces::{Passes, Workplace};
 use ps_data::{Memory, Text};
 use ps_doors::Bell;
 use ps_lock::{Seat, StoreLock};
-use ps_store::{CompactFault, ledgers_tell_ops, totals_tell_histories};
+use ps_store::{CompactFault, totals_tell_histories};
 use std::alloc::Global;
 use std::sync::Wait;
 
@@ -196,7 +196,6 @@ fn compact_each<R: Wait, G: Gate>(
     ensures worked { HasWorked IsOfCompactor seat result.0 }
     ensures each { OnOk result.1 (has_deploy (seen_by result.0) ≡ false → HasCompacted (terms_of place.now.lock.now) (seen_by seat) (seen_by result.0) names.now) }
 {
-    ledgers_tell_ops();
     totals_tell_histories();
     let mut here = seat;
     'buckets: for name in names {
@@ -204,38 +203,41 @@ fn compact_each<R: Wait, G: Gate>(
         let (next, compacted) = compact_in_turn(place.rt, place.alloc, place.lock, here, name);
         here = next;
         match compacted {
-            Ok(_) | Err(CompactFault::NoBucket) => {}
+            Ok(_) => {}
+            Err(CompactFault::NoBucket) => {}
             Err(CompactFault::Memory) => return (here, Err(Memory)),
         }
     }
     (here, Ok(()))
 }
 
-// Compacts each bucket of a drained store once more. That is the end, where the store is drained still.
+// Compacts each bucket of a drained store once more. That is the end, where the store is drained before and behind it.
 fn compact_last<R: Wait, G: Gate>(
     place: &Workplace<R>,
     passes: &mut Passes<G>,
     seat: Seat<SharedStore>,
 ) -> (Seat<SharedStore>, Result<(), WorkEnd>)
-    requires lock { IsSeatOf place.now.lock.now seat }
-    requires over { IsOver (terms_of place.now.lock.now) (seen_by seat) }
+    requires { IsSeatOf place.now.lock.now seat }
     ensures lock { IsSeatOf place.now.lock.now result.0 }
-    ensures work { CompactsOn (fixed_of place.now.lock.now) ⊥ seat result.0 result.1 }
+    ensures goes_on { CompactsOn (fixed_of place.now.lock.now) ⊥ seat result.0 result.1 }
 {
-    ledgers_tell_ops();
     passes.pass();
-    let (seat, _look, names) = names_in_turn(place.rt, place.alloc, place.lock, seat);
+    let (seat, look, names) = names_in_turn(place.rt, place.alloc, place.lock, seat);
     let names = match names {
         Ok(names) => names,
         Err(Memory) => return (seat, Err(WorkEnd::Memory)),
     };
+    if !look.is_drained() {
+        return (seat, Ok(()));
+    }
     let (seat, done) = compact_each(place, passes, seat, names.as_slice());
-    if done.is_err() {
-        return (seat, Err(WorkEnd::Memory));
+    match done {
+        Ok(()) => {}
+        Err(Memory) => return (seat, Err(WorkEnd::Memory)),
     }
     passes.pass();
-    let (seat, look) = look_in_turn(place.rt, place.lock, seat);
-    if look.is_drained() {
+    let (seat, now) = look_in_turn(place.rt, place.lock, seat);
+    if now.is_drained() {
         return (seat, Err(WorkEnd::Drained));
     }
     (seat, Ok(()))

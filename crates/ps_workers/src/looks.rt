@@ -105,7 +105,10 @@ pub fn read_in_turn<R: Wait>(
 {
     let mut turn = lock.turn(rt, seat);
     let look = look_at(&turn.value().store);
-    let batch = turn.value().store.read_uncounted(alloc, bucket, after, upto);
+    let batch = turn
+        .value()
+        .store
+        .read_uncounted(alloc, bucket, after, upto);
     (turn.leave(), look, batch)
 }
 

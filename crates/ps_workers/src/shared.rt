@@ -55,10 +55,7 @@ impl SharedStore {
     pub fn into_store(self) -> Store
         ensures { result ≡ store_of self }
     {
-        let SharedStore {
-            store,
-            next: _next,
-        } = self;
+        let SharedStore { store, next: _next } = self;
         store
     }
 }

@@ -42,7 +42,11 @@ pub fn feed_in_turn<R: Wait>(
 }
 
 /// Closes the feed in one turn. The seat is one of the lock's.
-pub fn close_in_turn<R: Wait>(rt: &R, lock: &StoreLock<SharedStore>, seat: Seat<SharedStore>) -> Seat<SharedStore>
+pub fn close_in_turn<R: Wait>(
+    rt: &R,
+    lock: &StoreLock<SharedStore>,
+    seat: Seat<SharedStore>,
+) -> Seat<SharedStore>
     requires { IsSeatOf lock.now seat }
     ensures lock { IsSeatOf lock.now result }
     ensures turn { (history : List EventSeen) × AddsTo history Close seat result }

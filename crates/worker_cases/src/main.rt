@@ -9,6 +9,12 @@
 //! compact each log that has grown by AT operations, until its bell is closed; closes the feed; and has a writer and a compactor drain the store. It says how each of
 //! the four ended, how many events the seat has seen, and what is counted then.
 //!
+//! `renew AFTER BATCH LIMITS` has a seat feed three transactions of one change each and close the feed, and gives a writer next rules that come once AFTER
+//! transactions are committed, at batches of BATCH changes; `widen` does so with rules that give each row two entries, `beside` begins a generation by the rules
+//! before all else, and `halves` feeds one transaction of two changes. Each says how the writer ended, how many events the seat has seen, the checkpoint, the
+//! generation that is being built, and what is counted then. LIMITS are five numbers, and a sixth for generations, in the order of their names in `Limits`; none
+//! stand for the usual ones.
+//!
 //! Of the counters and diaries of `lock_tests`: `counter sees MOST AMOUNT` has a first seat add the amount to a counter that does not pass MOST, and says whether it
 //! did, what it and a second one have seen then, what the second has seen after a turn of its own, and what is kept; `counter four MOST TIMES` has four threads add
 //! 1 so many times each; `counter fits MOST ONE TWO` adds both amounts by one seat, and `counter adds MOST ONE TWO` by two threads; `counter joins MOST ONE TWO`
@@ -22,6 +28,7 @@
 
 mod counters;
 mod diaries;
+mod renewing;
 mod stores;
 mod threads;
 mod turns;
@@ -74,6 +81,9 @@ fn write_answer<R: Threads + Wait + Clock + Sync>(
         "requests" => threads::write_requests(rt, alloc, out),
         "four" | "alone" => write_counts(rt, alloc, word, rest, out),
         "drain" => write_drained(rt, alloc, rest, out),
+        "renew" | "widen" | "beside" | "halves" => {
+            renewing::write_renewed(rt, alloc, word, rest, out)
+        }
         "counter" => counters::write_case(rt, alloc, rest, out),
         "diary" => diaries::write_diary(rt, alloc, rest, out),
         "turns" | "wait" => turns::write_count(rt, alloc, word, rest, out),

@@ -9,16 +9,16 @@ use ps_gen::make_rules;
 use ps_lock::{Seat, StoreLock};
 use ps_rules::read_rules;
 use ps_store::{Limits, Store};
-use ps_workers::open_store;
+use ps_workers::{SharedStore, open_store};
 use std::alloc::Global;
 
 /// A lock round a store for the made rules, and its first seat.
-pub fn made_store(alloc: Global) -> Result<(StoreLock<Store>, Seat<Store>), Stop>
+pub fn made_store(alloc: Global) -> Result<(StoreLock<SharedStore>, Seat<SharedStore>), Stop>
     ensures { IfOk result (λ r. IsSeatOf r.0 r.1) }
 {
     let bytes = make_rules(alloc)?;
     let rules = read_rules(alloc, bytes.as_slice())?;
-    Ok(open_store(alloc, rules, Limits::usual())?)
+    Ok(open_store(alloc, rules, &None, Limits::usual())?)
 }
 
 // What the store counts.

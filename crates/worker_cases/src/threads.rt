@@ -16,7 +16,8 @@ use ps_lock::{Seat, StoreLock};
 use ps_rows::{Change, Transaction};
 use ps_store::Store;
 use ps_workers::{
-    close_in_turn, commit_in_turn, feed_in_turn, number_in_turn, upload_in_turn, write_in_turn,
+    SharedStore, close_in_turn, commit_in_turn, feed_in_turn, number_in_turn, upload_in_turn,
+    write_in_turn,
 };
 use std::alloc::Global;
 use std::sync::Wait;
@@ -25,10 +26,10 @@ use std::thread::{Threads, join};
 fn feed_all<R: Wait>(
     rt: &R,
     alloc: Global,
-    lock: &StoreLock<Store>,
-    seat: Seat<Store>,
+    lock: &StoreLock<SharedStore>,
+    seat: Seat<SharedStore>,
     transactions: Items<Transaction>,
-) -> Seat<Store>
+) -> Seat<SharedStore>
     requires { IsSeatOf lock.now seat }
     ensures { IsSeatOf lock.now result }
 {
@@ -45,11 +46,11 @@ fn feed_all<R: Wait>(
 pub fn write_often<R: Wait>(
     rt: &R,
     alloc: Global,
-    lock: &StoreLock<Store>,
-    seat: Seat<Store>,
+    lock: &StoreLock<SharedStore>,
+    seat: Seat<SharedStore>,
     turns: u32,
     limit: u32,
-) -> Seat<Store>
+) -> Seat<SharedStore>
     requires { IsSeatOf lock.now seat }
     ensures { IsSeatOf lock.now result }
 {
@@ -63,10 +64,10 @@ pub fn write_often<R: Wait>(
 /// Commits so many times.
 pub fn commit_often<R: Wait>(
     rt: &R,
-    lock: &StoreLock<Store>,
-    seat: Seat<Store>,
+    lock: &StoreLock<SharedStore>,
+    seat: Seat<SharedStore>,
     turns: u32,
-) -> Seat<Store>
+) -> Seat<SharedStore>
     requires { IsSeatOf lock.now seat }
     ensures { IsSeatOf lock.now result }
 {
@@ -81,8 +82,8 @@ pub fn commit_often<R: Wait>(
 fn finish<R: Wait>(
     rt: &R,
     alloc: Global,
-    lock: &StoreLock<Store>,
-    seat: Seat<Store>,
+    lock: &StoreLock<SharedStore>,
+    seat: Seat<SharedStore>,
     turns: u32,
     limit: u32,
 ) -> Store
@@ -91,7 +92,7 @@ fn finish<R: Wait>(
 {
     let seat = write_often(rt, alloc, lock, seat, turns, limit);
     let seat = commit_in_turn(rt, lock, seat).0;
-    lock.turn(rt, seat).keep()
+    lock.turn(rt, seat).keep().into_store()
 }
 
 /// The store after one seat fed so many made transactions, wrote them and committed.
@@ -105,22 +106,22 @@ pub fn alone<R: Wait>(rt: &R, alloc: Global, count: u32, limit: u32) -> Result<S
 fn feed_and_commit<R: Threads + Wait + Sync>(
     rt: &R,
     alloc: Global,
-    lock: &StoreLock<Store>,
-    mut seat: Seat<Store>,
+    lock: &StoreLock<SharedStore>,
+    mut seat: Seat<SharedStore>,
     transactions: Items<Transaction>,
     turns: u32,
-) -> Option<Seat<Store>>
+) -> Option<Seat<SharedStore>>
     requires { IsSeatOf lock.now seat }
     ensures { IfSome result (λ s. IsSeatOf lock.now s) }
 {
     let other = lock.split(&mut seat).ok()?;
     let (mut seat, other) = join(
         rt,
-        || -> Seat<Store>
+        || -> Seat<SharedStore>
             requires { IsSeatOf lock.now seat }
             ensures { IsSeatOf lock.entry.now result }
         { feed_all(rt, alloc, lock, seat, transactions) },
-        || -> Seat<Store>
+        || -> Seat<SharedStore>
             requires { IsSeatOf lock.now other }
             ensures { IsSeatOf lock.entry.now result }
         { commit_often(rt, lock, other, turns) },
@@ -133,22 +134,22 @@ fn feed_and_commit<R: Threads + Wait + Sync>(
 fn write_by_two<R: Threads + Wait + Sync>(
     rt: &R,
     alloc: Global,
-    lock: &StoreLock<Store>,
-    mut seat: Seat<Store>,
+    lock: &StoreLock<SharedStore>,
+    mut seat: Seat<SharedStore>,
     turns: u32,
     limit: u32,
-) -> Option<Seat<Store>>
+) -> Option<Seat<SharedStore>>
     requires { IsSeatOf lock.now seat }
     ensures { IfSome result (λ s. IsSeatOf lock.now s) }
 {
     let other = lock.split(&mut seat).ok()?;
     let (mut seat, other) = join(
         rt,
-        || -> Seat<Store>
+        || -> Seat<SharedStore>
             requires { IsSeatOf lock.now seat }
             ensures { IsSeatOf lock.entry.now result }
         { write_often(rt, alloc, lock, seat, turns, limit) },
-        || -> Seat<Store>
+        || -> Seat<SharedStore>
             requires { IsSeatOf lock.now other }
             ensures { IsSeatOf lock.entry.now result }
         { write_often(rt, alloc, lock, other, turns, limit) },
@@ -161,23 +162,23 @@ fn write_by_two<R: Threads + Wait + Sync>(
 fn by_four_threads<R: Threads + Wait + Sync>(
     rt: &R,
     alloc: Global,
-    lock: &StoreLock<Store>,
-    mut seat: Seat<Store>,
+    lock: &StoreLock<SharedStore>,
+    mut seat: Seat<SharedStore>,
     transactions: Items<Transaction>,
     turns: u32,
     limit: u32,
-) -> Option<Seat<Store>>
+) -> Option<Seat<SharedStore>>
     requires { IsSeatOf lock.now seat }
     ensures { IfSome result (λ s. IsSeatOf lock.now s) }
 {
     let other = lock.split(&mut seat).ok()?;
     let (seat, other) = join(
         rt,
-        || -> Option<Seat<Store>>
+        || -> Option<Seat<SharedStore>>
             requires { IsSeatOf lock.now seat }
             ensures { IfSome result (λ s. IsSeatOf lock.entry.now s) }
         { feed_and_commit(rt, alloc, lock, seat, transactions, turns) },
-        || -> Option<Seat<Store>>
+        || -> Option<Seat<SharedStore>>
             requires { IsSeatOf lock.now other }
             ensures { IfSome result (λ s. IsSeatOf lock.entry.now s) }
         { write_by_two(rt, alloc, lock, other, turns, limit) },
@@ -216,7 +217,7 @@ fn seats_of_two<R: Wait>(rt: &R, alloc: Global) -> Result<Seats, Stop> {
     let first = feed_all(rt, alloc, &lock, first, make_input(alloc, 1)?);
     let before = second.seen();
     let second = lock.turn(rt, second).leave();
-    let mut store = lock.turn(rt, first).keep();
+    let mut store = lock.turn(rt, first).keep().into_store();
     let unwritten = match store.write_batch(alloc, 10) {
         Ok(wrote) => wrote.changes,
         Err(_) => 0,

@@ -14,8 +14,7 @@ use ps_doors::{Bell, QuietBell};
 use ps_gen::make_input;
 use ps_lock::{Seat, StoreLock};
 use ps_rows::Transaction;
-use ps_store::Store;
-use ps_workers::{OpenGate, WorkEnd, close_in_turn, compact_all, feed_and_write};
+use ps_workers::{OpenGate, SharedStore, WorkEnd, close_in_turn, compact_all, feed_and_write};
 use std::alloc::Global;
 use std::sync::Wait;
 
@@ -91,11 +90,11 @@ fn falling(alloc: Global, count: u32) -> Result<Items<Transaction>, Stop> {
 fn work<R: Wait>(
     rt: &R,
     alloc: Global,
-    lock: &StoreLock<Store>,
-    seat: Seat<Store>,
+    lock: &StoreLock<SharedStore>,
+    seat: Seat<SharedStore>,
     given: Vec<Transaction>,
     sizes: (u32, u32, u64),
-) -> (Seat<Store>, Ends)
+) -> (Seat<SharedStore>, Ends)
     requires seat { IsSeatOf lock.now seat }
     requires low { All (λ (t : TransactionSeen). t.position.0 ≤ greatest) given.items }
     ensures { IsSeatOf lock.now result.0 }
@@ -108,13 +107,17 @@ fn work<R: Wait>(
         asked: false,
         closings: 0,
     };
-    let (seat, fed) = feed_and_write(rt, alloc, lock, seat, given, batch, &OpenGate, &mut quiet);
+    let (seat, fed) = feed_and_write(
+        rt, alloc, lock, seat, given, batch, &OpenGate, &mut quiet, None,
+    );
     let seat = write_often(rt, alloc, lock, seat, turns, batch);
     let seat = commit_often(rt, lock, seat, 1);
     let (seat, swept) = compact_all(rt, alloc, lock, seat, at, &OpenGate, &mut late);
     let seat = close_in_turn(rt, lock, seat);
     let none = Vec::new(alloc);
-    let (seat, written) = feed_and_write(rt, alloc, lock, seat, none, batch, &OpenGate, &mut quiet);
+    let (seat, written) = feed_and_write(
+        rt, alloc, lock, seat, none, batch, &OpenGate, &mut quiet, None,
+    );
     let (seat, compacted) = compact_all(rt, alloc, lock, seat, at, &OpenGate, &mut quiet);
     let ends = Ends {
         fed,
@@ -147,6 +150,6 @@ pub fn write_drained<R: Wait>(
         "ends {fed:?} {swept:?} {written:?} {compacted:?} seen {} ",
         seat.seen()
     )?;
-    let store = lock.turn(rt, seat).keep();
+    let store = lock.turn(rt, seat).keep().into_store();
     write_store(alloc, &store, out)
 }

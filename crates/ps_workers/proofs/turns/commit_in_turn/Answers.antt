@@ -1,33 +1,42 @@
 use Rattle.ps_lock.specs.Words.{history_of}
-use Rattle.ps_workers.specs.Sharing.{fixed_of}
-use Rattle.ps_workers.proofs.Narrow.{commit_kept}
-use Rattle.ps_workers.proofs.Turning.{lent, under, looks, adds}
+use Rattle.ps_store.specs.declared.events.Event.TheVariants.{Commit}
+use Rattle.ps_workers.specs.Sharing.{terms_of, fixed_of}
+use Rattle.ps_workers.proofs.Narrow.{may_commit}
+use Rattle.ps_workers.proofs.Turning.{kept, begins, leaves, leaves_with, looks, adds}
 use Rattle.ps_workers.proofs.turns.commit_in_turn.Goals as goal
 
 pub leave_with-requires : goal.leave_with-requires
 leave_with-requires g c =
+    let lock = c.args.lock.now in
     let turn = c.turn-turn.result in
-    let start = lent c.args.lock.now turn c.value.result.now c.value.ensures.value c.turn-turn.ensures.stands.1.0 in
-    let said = c.in-Ok.ensures (fixed_of c.args.lock.now) (history_of turn) start in
-    under c.args.lock.now turn.lock.now c.commit.new.self _ c.turn-turn.ensures.lock said.2 (commit_kept (fixed_of c.args.lock.now) (history_of turn) c.turn-turn.ensures.stands.1.1)
+    let lent = c.value.result.now in
+    let stands = c.turn-turn.ensures.stands in
+    let said = c.in-Ok.ensures (fixed_of lock) (history_of turn) (begins lock turn lent c.value.ensures.value stands) in
+    leaves_with lock turn lent c.value.ensures.value stands Commit c.commit.new.self c.turn-turn.ensures.lock said.2 (may_commit (terms_of lock) lent (history_of turn) (kept lock turn lent c.value.ensures.value stands))
 
 pub leave-requires : goal.leave-requires
 leave-requires g c =
+    let lock = c.args.lock.now in
     let turn = c.turn-turn.result in
-    let start = lent c.args.lock.now turn c.value.result.now c.value.ensures.value c.turn-turn.ensures.stands.1.0 in
-    let said = c.in-Err.ensures (fixed_of c.args.lock.now) (history_of turn) start in
-    under c.args.lock.now turn.lock.now c.commit.new.self (history_of turn) c.turn-turn.ensures.lock said.1 c.turn-turn.ensures.stands.1.1
+    let lent = c.value.result.now in
+    let stands = c.turn-turn.ensures.stands in
+    let said = c.in-Err.ensures (fixed_of lock) (history_of turn) (begins lock turn lent c.value.ensures.value stands) in
+    leaves lock turn lent c.value.ensures.value stands c.commit.new.self c.turn-turn.ensures.lock said.1
 
 pub returns-in-Ok-clause-turn : goal.returns-in-Ok-clause-turn
 returns-in-Ok-clause-turn g c =
+    let lock = c.args.lock.now in
     let turn = c.turn-turn.result in
-    let start = lent c.args.lock.now turn c.value.result.now c.value.ensures.value c.turn-turn.ensures.stands.1.0 in
-    let said = c.in-Ok.ensures (fixed_of c.args.lock.now) (history_of turn) start in
+    let lent = c.value.result.now in
+    let stands = c.turn-turn.ensures.stands in
+    let said = c.in-Ok.ensures (fixed_of lock) (history_of turn) (begins lock turn lent c.value.ensures.value stands) in
     (history_of turn, (adds c.args.seat c.leave_with.result turn c.turn-turn.ensures.seen c.turn-turn.ensures.own _ c.leave_with.ensures.seen c.leave_with.ensures.own, said.0, said.1))
 
 pub returns-in-Err-clause-turn : goal.returns-in-Err-clause-turn
 returns-in-Err-clause-turn g c =
+    let lock = c.args.lock.now in
     let turn = c.turn-turn.result in
-    let start = lent c.args.lock.now turn c.value.result.now c.value.ensures.value c.turn-turn.ensures.stands.1.0 in
-    let said = c.in-Err.ensures (fixed_of c.args.lock.now) (history_of turn) start in
+    let lent = c.value.result.now in
+    let stands = c.turn-turn.ensures.stands in
+    let said = c.in-Err.ensures (fixed_of lock) (history_of turn) (begins lock turn lent c.value.ensures.value stands) in
     (history_of turn, (looks c.args.seat c.leave.result turn c.turn-turn.ensures.seen c.turn-turn.ensures.own c.leave.ensures.seen c.leave.ensures.own, said.0))

@@ -1,35 +1,35 @@
 use Rattle.std.proofs.Common.{ℕ, [], ◌∷◌, ◌++◌, ◌∙◌, sym, subst}
 use Rattle.ps_lock.specs.Words.{history_of}
 use Rattle.ps_store.specs.declared.events.Event.TheVariants.{Write}
-use Rattle.ps_workers.specs.Sharing.{fixed_of}
+use Rattle.ps_workers.specs.Sharing.{terms_of, fixed_of}
 use Rattle.ps_store.specs.Ledgers.{fresh}
 use Rattle.ps_store.specs.Stores.{StoreStandsFor}
 use Rattle.ps_workers.specs.Gains.{AddsTo}
-use Rattle.ps_workers.proofs.Narrow.{write_kept, could_come}
-use Rattle.ps_workers.proofs.Turning.{lent, under, looks, adds}
+use Rattle.ps_workers.proofs.Narrow.{may_write, could_come}
+use Rattle.ps_workers.proofs.Turning.{kept, begins, leaves, leaves_with, looks, adds}
 use Rattle.ps_workers.proofs.turns.write_in_turn.Goals as goal
 
 pub leave_with-requires : goal.leave_with-requires
 leave_with-requires g c =
     let turn = c.turn-turn.result in
-    let start = lent c.args.lock.now turn c.value.result.now c.value.ensures.value c.turn-turn.ensures.stands.1.0 in
+    let start = begins c.args.lock.now turn c.value.result.now c.value.ensures.value c.turn-turn.ensures.stands in
     let said = c.in-Ok.ensures (fixed_of c.args.lock.now) (history_of turn) start in
     let written = subst (λ (n : ℕ). StoreStandsFor (fixed_of c.args.lock.now) c.write_batch.new.self (history_of turn ++ Write n ∷ [])) (sym c.from-changes.ensures) said.4 in
-    under c.args.lock.now turn.lock.now c.write_batch.new.self _ c.turn-turn.ensures.lock written
-    (write_kept (fixed_of c.args.lock.now) c.value.result.now (history_of turn) c.args.limit c.from-changes.result start c.turn-turn.ensures.stands.1.1
+    leaves_with c.args.lock.now turn c.value.result.now c.value.ensures.value c.turn-turn.ensures.stands (Write c.from-changes.result) c.write_batch.new.self c.turn-turn.ensures.lock written
+    (may_write (terms_of c.args.lock.now) c.value.result.now (history_of turn) (kept c.args.lock.now turn c.value.result.now c.value.ensures.value c.turn-turn.ensures.stands) c.args.limit c.from-changes.result
     (could_come (history_of turn) (fresh (fixed_of c.args.lock.now).rules) (Write c.from-changes.result) written.legal).1 (c.from-changes.ensures ∙ said.1))
 
 pub leave-requires : goal.leave-requires
 leave-requires g c =
     let turn = c.turn-turn.result in
-    let start = lent c.args.lock.now turn c.value.result.now c.value.ensures.value c.turn-turn.ensures.stands.1.0 in
+    let start = begins c.args.lock.now turn c.value.result.now c.value.ensures.value c.turn-turn.ensures.stands in
     let said = c.in-Err.ensures (fixed_of c.args.lock.now) (history_of turn) start in
-    under c.args.lock.now turn.lock.now c.write_batch.new.self (history_of turn) c.turn-turn.ensures.lock said.1 c.turn-turn.ensures.stands.1.1
+    leaves c.args.lock.now turn c.value.result.now c.value.ensures.value c.turn-turn.ensures.stands c.write_batch.new.self c.turn-turn.ensures.lock said.1
 
 pub returns-in-Ok-clause-turn : goal.returns-in-Ok-clause-turn
 returns-in-Ok-clause-turn g c =
     let turn = c.turn-turn.result in
-    let start = lent c.args.lock.now turn c.value.result.now c.value.ensures.value c.turn-turn.ensures.stands.1.0 in
+    let start = begins c.args.lock.now turn c.value.result.now c.value.ensures.value c.turn-turn.ensures.stands in
     let said = c.in-Ok.ensures (fixed_of c.args.lock.now) (history_of turn) start in
     let added =
     subst (λ (n : ℕ). AddsTo (history_of turn) (Write n) c.args.seat c.leave_with.result) c.from-changes.ensures
@@ -39,6 +39,6 @@ returns-in-Ok-clause-turn g c =
 pub returns-in-Err-clause-turn : goal.returns-in-Err-clause-turn
 returns-in-Err-clause-turn g c =
     let turn = c.turn-turn.result in
-    let start = lent c.args.lock.now turn c.value.result.now c.value.ensures.value c.turn-turn.ensures.stands.1.0 in
+    let start = begins c.args.lock.now turn c.value.result.now c.value.ensures.value c.turn-turn.ensures.stands in
     let said = c.in-Err.ensures (fixed_of c.args.lock.now) (history_of turn) start in
     (history_of turn, (looks c.args.seat c.leave.result turn c.turn-turn.ensures.seen c.turn-turn.ensures.own c.leave.ensures.seen c.leave.ensures.own, said.0))
