@@ -84,6 +84,8 @@ Serves streams, uploads and write checkpoints over HTTP: docs/OPERATING.md.
   --until-drained     feed the file and nothing more; a stream ends once it has shown all of it
   --batch N           write at most so many changes in one turn; 1 to 1,000,000, else 1,000
   --compact-at N      compact a bucket that has so many operations more than after its last compaction; 1 to 1,000,000, else 1,000
+  --next FILE         rules that come into force while it serves, once their buckets are built beside what is written
+  --next-after N      begin with them once so many transactions are committed; 0 to 9223372036854775807, else 0
 
 Example: powersync serve --rules examples/todo/rules.yaml --changes examples/todo/changes.jsonl --keys examples/todo/keys.json --listen 127.0.0.1:8080
 ";
