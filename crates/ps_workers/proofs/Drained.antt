@@ -1,5 +1,5 @@
 -- A drained store stays so: nothing comes to its history any more but Closes, Compacts and write checkpoints.
-use Rattle.std.proofs.Common.{◌≡◌, ℕ, zero, suc, ◌≤◌, ◌<◌, Bool, true, false, if◌then◌else◌, ◌||◌, List, [], ◌∷◌, ◌++◌, length, fold, drop, get_or, refl, ap, sym, ◌∙◌, subst, arith, bytes_eq, Option, None, IsSome}
+use Rattle.std.proofs.Common.{◌≡◌, ℕ, zero, suc, ◌≤◌, ◌<◌, Bool, true, false, if◌then◌else◌, ◌||◌, List, [], ◌∷◌, ◌++◌, length, fold, drop, get_or, refl, ap, sym, ◌∙◌, subst, arith, bytes_eq, Option, Some, None, option_map, IsSome}
 use Rattle.std.specs.List.{list_any}
 use Rattle.std.proofs.lemmas.Slice.Eq.{bytes_eq-Decides}
 use Rattle.std.proofs.lemmas.Grind.{fold-append}

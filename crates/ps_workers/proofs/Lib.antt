@@ -2,6 +2,7 @@ pub mod Compactor
 pub mod Drained
 pub mod Narrow
 pub mod Renewed
+pub mod Ruled
 pub mod Sent
 pub mod Turning
 pub mod Working

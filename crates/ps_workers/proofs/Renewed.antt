@@ -227,12 +227,30 @@ under_switch terms (Err (switching.NotBuilt left)) wrote = tt
 under_switch terms (Err (switching.HalfWritten changes)) wrote = tt
 under_switch terms (Err (switching.OpsFull last)) wrote = tt
 
-is_out : (b : Bool) (one out : Stage × Pace) → (if b then Err one else Ok tt) ≡ Err out → one ≡ out
+abbrev ends_so : Stage × Pace → Result (Unit {0}) (Stage × Pace)
+ends_so one = Err one
+
+abbrev ends_or_not : Bool → Stage × Pace → Result (Unit {0}) (Stage × Pace)
+ends_or_not b one = if b then Err one else Ok tt
+
+is_out : (b : Bool) (one out : Stage × Pace) → ends_or_not b one ≡ ends_so out → one ≡ out
 is_out true one out h = cc h
 is_out false one out h = absurd (cc h)
 
-is_same : (one out : Stage × Pace) → Err {T = Unit {0}} one ≡ Err out → one ≡ out
+is_same : (one out : Stage × Pace) → ends_so one ≡ ends_so out → one ≡ out
 is_same one out h = cc h
+
+under_out : (terms : Terms) (one out : Stage × Pace) → one ≡ out → IsUnder terms one.0 → IsUnder terms out.0
+under_out terms one out same it = subst (λ (o : Stage × Pace). IsUnder terms o.0) same it
+
+pub under_build : (terms : Terms) (result : Result Built BuildFault) (out : Stage × Pace) → past_build result ≡ Err out → IsUnder terms out.0
+under_build terms (Ok built) out same = under_out terms (Building, On) out (is_out (nat_lt 0 built.left) (Building, On) out same) tt
+under_build terms (Err building.NothingBuilding) out same = under_out terms (NoneToCome, On) out (is_same (NoneToCome, On) out same) tt
+under_build terms (Err building.NothingToBuild) out same = absurd (cc same)
+under_build terms (Err (building.TooWide table id count)) out same =
+    under_out terms (Building, Over (ends.TooWide count)) out (is_same (Building, Over (ends.TooWide count)) out same) tt
+under_build terms (Err (building.OpsFull last)) out same = under_out terms (Building, Over (ends.OpsFull last)) out (is_same (Building, Over (ends.OpsFull last)) out same) tt
+under_build terms (Err building.Memory) out same = under_out terms (Building, Over ends.Memory) out (is_same (Building, Over ends.Memory) out same) tt
 
 module _ {d : Ghosts SharedStore Event Terms} (fixed : Fixed) (batch : ℕ) (before after : Seat SharedStore Event Terms d) where
   pub goes_on_deployed : (next : NextRules) (result : Result ℕ DeployFault) → DeploysNext fixed next batch before after result

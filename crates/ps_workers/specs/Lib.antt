@@ -2,8 +2,9 @@ pub mod Compacting
 pub mod Compactions
 pub mod Gains
 pub mod Looks
-pub mod Renewing
 pub mod Renewals
+pub mod Renewing
+pub mod SharedLaws
 pub mod Sharing
 pub mod Terms
 pub mod Work
