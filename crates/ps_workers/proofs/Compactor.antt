@@ -1,5 +1,5 @@
 -- How the turns of a compactor make its work.
-use Rattle.std.proofs.Common.{◌≡◌, ℕ, ◌+◌, ◌<◌, Bool, true, false, ◌||◌, List, [], ◌∷◌, ◌++◌, length, take, get_or, bytes_eq, Result, Ok, Err, refl, ap, sym, ◌∙◌, subst, append_assoc, None}
+use Rattle.std.proofs.Common.{◌≡◌, ℕ, zero, suc, ◌+◌, ◌<◌, ◌≤◌, arith, Bool, true, false, ◌||◌, List, [], ◌∷◌, ◌++◌, length, take, get_or, bytes_eq, Result, Ok, Err, refl, ap, sym, ◌∙◌, subst, append_assoc, None}
 use Rattle.std.specs.List.{AllByRecursion}
 use Rattle.std.specs.Prelude.{OnOk}
 use mathlib.Core.List.{IsPrefix}
@@ -24,13 +24,13 @@ use Rattle.ps_workers.specs.declared.ends.WorkEnd.TheVariants as ends
 use Rattle.ps_workers.specs.declared.looks.Look.{Look}
 use Rattle.ps_workers.specs.declared.shared.SharedStore.{SharedStore}
 use Rattle.ps_workers.specs.declared.shared.Terms.{Terms}
-use Rattle.ps_workers.specs.Compacting.{IsOver, IsOverWith, HasCompacted}
+use Rattle.ps_workers.specs.Compacting.{IsOver, IsOverWith, HasCompacted, CompactsOn}
 use Rattle.ps_workers.specs.Compactions.{CompactsIn}
 use Rattle.ps_workers.specs.Looks.{LooksIn, NamesIn}
 use Rattle.ps_workers.specs.Terms.{IsStoodFor}
 use Rattle.ps_workers.specs.Work.{HasWorked, IsOfCompactor, IsCompacted, EndsCompacting, CompactsAll}
 use Rattle.ps_workers.proofs.Drained.{same_name, true_behind, drained_by, stays_drained, plain_before, has_operation}
-use Rattle.ps_workers.proofs.Working.{prefix_then, all_both, all_along, worked_looking, worked_adding}
+use Rattle.ps_workers.proofs.Working.{prefix_then, all_both, all_along, worked_looking, worked_adding, worked_then}
 
 -- ---- Compacts in a history
 
@@ -88,6 +88,13 @@ compacted_still terms start between later names more stood one = record {
   whole = sym (append_assoc start one.came more.0) ∙ (ap (λ (xs : List Event). xs ++ more.0) one.whole ∙ more.1);
   each = all_along (λ (n : List ℕ). compacts n one.came ≡ true) (λ (n : List ℕ). compacts n (one.came ++ more.0) ≡ true) (λ n h. compacts_more n one.came more.0 h) names one.each;
 }
+
+-- all of some names
+pub take_whole : (k : ℕ) (xs : List (List ℕ)) → length xs ≤ k → take k xs ≡ xs
+take_whole zero [] le = refl
+take_whole zero (x ∷ xs) le = absurd (omega (arith, le))
+take_whole (suc k) [] le = refl
+take_whole (suc k) (x ∷ xs) le = ap (λ (ys : List (List ℕ)). x ∷ ys) (take_whole k xs (omega (arith, le)))
 
 -- what holds where a result is Ok
 pub where_ok : {X E : Type 0} (P : Type 0) (result : Result X E) (value : X) → result ≡ Ok value → OnOk result P → P
@@ -196,7 +203,12 @@ ends_at WasClosed fixed history (ends.TooWide count) it = absurd it
 ends_at WasClosed fixed history (ends.OpsFull last) it = absurd it
 ends_at WasClosed fixed history ends.Memory it = tt
 
--- why a compactor ends whose bell was not asked for
-pub ends_for : (WasClosed : Type 0) {V : Type 0} {d : Ghosts V Event Terms} (fixed : Fixed) (before after : Seat V Event Terms d) (end : WorkEnd) → CompactsAll fixed ⊥ before after end
-    → CompactsAll fixed WasClosed before after end
-ends_for WasClosed fixed before after end it = record { worked = it.worked; ends = ends_at WasClosed fixed (seen_by after) end it.ends }
+module _ {d : Ghosts SharedStore Event Terms} (WasClosed : Type 0) (fixed : Fixed) (before after : Seat SharedStore Event Terms d) where
+  ends_for : (end : WorkEnd) → CompactsAll fixed ⊥ before after end → CompactsAll fixed WasClosed before after end
+  ends_for end it = record { worked = it.worked; ends = ends_at WasClosed fixed (seen_by after) end it.ends }
+
+  -- how a compactor goes on behind a turn, whose bell was not asked for
+  pub goes_for : (between : Seat SharedStore Event Terms d) (result : Result (Unit {0}) WorkEnd) → HasWorked IsOfCompactor before between → CompactsOn fixed ⊥ between after result
+      → CompactsOn fixed WasClosed before after result
+  goes_for between (Ok done) one it = worked_then IsOfCompactor before between after one it
+  goes_for between (Err end) one it = ends_for end (record { worked = worked_then IsOfCompactor before between after one it.worked; ends = it.ends })

@@ -18,7 +18,6 @@ use Rattle.ps_store.specs.Stores.{IsKept}
 use Rattle.ps_store.specs.Tails.{EndsRise, last_end, positions_of, timed_positions}
 use Rattle.ps_store.specs.Totals.{bucket_names_of, in_generation, names_of}
 use Rattle.ps_store.specs.TotalsLaws.{BucketNamesTell}
-use Rattle.ps_store.specs.Readings.{building_of}
 use Rattle.ps_workers.specs.declared.looks.Look.{Look}
 use Rattle.ps_workers.specs.declared.shared.Terms.{Terms}
 use Rattle.ps_workers.specs.Compacting.{IsOver}

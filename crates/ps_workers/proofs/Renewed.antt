@@ -1,5 +1,5 @@
 -- How a writer's steps for new rules make its work.
-use Rattle.std.proofs.Common.{◌≡◌, ℕ, ◌+◌, ◌≤◌, ◌<◌, ◌⊎◌, inl, inr, Bool, true, false, if◌then◌else◌, List, [], ◌∷◌, ◌++◌, Option, Some, None, IsSome, Result, Ok, Err, length, take, fold, option_map, refl, sym, ap, ◌∙◌, subst, arith}
+use Rattle.std.proofs.Common.{◌≡◌, ℕ, ◌≤◌, ◌⊎◌, inl, inr, Bool, true, false, if◌then◌else◌, List, [], ◌∷◌, ◌++◌, Option, Some, None, IsSome, Result, Ok, Err, take, fold, option_map, refl, sym, ap, ◌∙◌, subst, arith}
 use Rattle.std.specs.Prelude.{nat_lt}
 use Rattle.std.proofs.lemmas.List.{length-take}
 use mathlib.Core.List.{IsPrefix}
@@ -31,14 +31,14 @@ use Rattle.ps_workers.specs.declared.shared.SharedStore.{SharedStore}
 use Rattle.ps_workers.specs.declared.shared.Terms.{Terms}
 use Rattle.ps_workers.specs.declared.stages.NextRules.{NextRules}
 use Rattle.ps_workers.specs.declared.stages.Pace.{Pace}
-use Rattle.ps_workers.specs.declared.stages.Pace.TheVariants.{On, Rest, Over}
+use Rattle.ps_workers.specs.declared.stages.Pace.TheVariants.{On, Over}
 use Rattle.ps_workers.specs.declared.stages.Stage.{Stage}
 use Rattle.ps_workers.specs.declared.stages.Stage.TheVariants.{Waiting, Building, NoneToCome}
 use Rattle.ps_workers.specs.Renewals.{DeploysIn, BuildsIn, SwitchesIn, IsUnswitched}
-use Rattle.ps_workers.specs.Renewing.{IsUnder, IsAt, IsNotDue, WhenDue, AreNext, stage_for, past_deploy, past_build, past_switch, DeploysNext, BuildsNext, SwitchesNext, GoesOn}
+use Rattle.ps_workers.specs.Renewing.{IsUnder, IsAt, IsNotDue, AreNext, stage_for, past_deploy, past_build, past_switch, DeploysNext, BuildsNext, SwitchesNext, GoesOn}
 use Rattle.ps_workers.specs.Terms.{IsStoodFor}
-use Rattle.ps_workers.specs.Work.{HasWritten, HadNewRules, NoneIsDue, FeedsAndWrites}
-use Rattle.ps_workers.proofs.Working.{prefix_self, prefix_more, written_looking, written_adding, written_on}
+use Rattle.ps_workers.specs.Work.{HasWritten, HadNewRules, NoneIsDue}
+use Rattle.ps_workers.proofs.Working.{prefix_self, written_looking, written_adding}
 
 -- ---- new rules came
 

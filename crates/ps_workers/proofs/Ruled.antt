@@ -1,11 +1,11 @@
 -- Each generation of a shared store has the first or the next rules.
-use Rattle.std.proofs.Common.{◌≡◌, ◌⊎◌, inl, inr, List, [], ◌∷◌, Option, Some, None, option_map, fold, take, refl, subst}
+use Rattle.std.proofs.Common.{◌≡◌, inl, inr, List, [], ◌∷◌, Option, Some, None, option_map, fold, take, refl}
 use Rattle.std.specs.Prelude.{IfSome}
 use Rattle.std.specs.List.{AllByRecursion}
 use Rattle.ps_store.specs.declared.events.Event.{Event}
 use Rattle.ps_store.specs.declared.events.Event.TheVariants.{Feed, Close, Write, Commit, Compact, WriteCheckpoint, Deploy, Build, Switch, Abandon}
 use Rattle.ps_store.specs.Generations.{Coming, with_change, queue_in}
-use Rattle.ps_store.specs.Ledgers.{Ledger, fresh, unwritten, write_next, build_with, build_next, switch_to, drop_coming, ledger_after, ledger_of}
+use Rattle.ps_store.specs.Ledgers.{Ledger, fresh, unwritten, write_next, build_with, build_next, switch_to, drop_coming, ledger_after}
 use Rattle.ps_store.specs.Originals.{Timed}
 use Rattle.ps_workers.specs.declared.shared.Terms.{Terms}
 use Rattle.ps_workers.specs.SharedLaws.{HasRulesOf, SharedStoresHaveRules}

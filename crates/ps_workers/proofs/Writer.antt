@@ -1,5 +1,5 @@
 -- How the steps of a writer make its work.
-use Rattle.std.proofs.Common.{◌≡◌, ℕ, inl, inr, Bool, true, false, List, [], ◌∷◌, ◌++◌, take, Option, None, Result, Ok, Err, refl, sym, ◌∙◌, subst, arith}
+use Rattle.std.proofs.Common.{◌≡◌, ℕ, inl, inr, Bool, true, false, List, [], ◌∷◌, ◌++◌, take, Option, None, Result, Ok, Err, refl, sym, subst, arith}
 use mathlib.Core.List.{IsPrefix}
 use Rattle.std.proofs.lemmas.List.{length-take}
 use Rattle.ps_kept.specs.declared.values.Kept.{Ghosts}
@@ -30,11 +30,11 @@ use Rattle.ps_workers.specs.declared.stages.Stage.{Stage}
 use Rattle.ps_workers.specs.Gains.{LooksAt, AddsTo, FeedsIn, WritesIn}
 use Rattle.ps_workers.specs.Looks.{LooksIn}
 use Rattle.ps_workers.specs.Renewing.{IsAt, IsNotDue, pace_for, GoesOn}
-use Rattle.ps_workers.specs.Work.{HasWritten, NoneIsDue, EndsWriting, FeedsAndWrites, IsStoreDrained}
+use Rattle.ps_workers.specs.Work.{HasWritten, EndsWriting, FeedsAndWrites, IsStoreDrained}
 use Rattle.ps_workers.specs.Writing.{FeedsOne, CommitsOrLooks, CommitsReached, WritesNext, end_for, past_write}
 use Rattle.ps_workers.proofs.Drained.{drained_by}
 use Rattle.ps_workers.proofs.Renewed.{at_later, none_is_due}
-use Rattle.ps_workers.proofs.Working.{prefix_self, prefix_then, written_looking, written_adding, written_then, written_on}
+use Rattle.ps_workers.proofs.Working.{prefix_self, written_looking, written_adding, written_then, written_on}
 
 none_first : (fed : List Transaction) → IsPrefix fed [] → fed ≡ []
 none_first [] p = refl

@@ -1,5 +1,5 @@
 -- The steps of a writer for new rules.
-use Rattle.std.specs.Prelude.{◌≡◌, ℕ, ◌≤◌, ◌<◌, Bool, true, false, if◌then◌else◌, nat_lt, List, [], Option, None, Some, IsSome, Result, Ok, Err}
+use Rattle.std.specs.Prelude.{◌≡◌, ℕ, ◌≤◌, ◌<◌, Bool, true, false, if◌then◌else◌, nat_lt, List, [], Option, None, Some, Result, Ok, Err}
 use Rattle.ps_kept.specs.declared.values.Kept.{Ghosts}
 use Rattle.ps_lock.specs.declared.tables.Seat.{Seat}
 use Rattle.ps_lock.specs.Words.{seen_by}

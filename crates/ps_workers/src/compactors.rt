@@ -204,8 +204,10 @@ fn compact_each<R: Wait, G: Gate>(
         here = next;
         match compacted {
             Ok(_) => {}
-            Err(CompactFault::NoBucket) => {}
-            Err(CompactFault::Memory) => return (here, Err(Memory)),
+            Err(fault) => match fault {
+                CompactFault::NoBucket => {}
+                CompactFault::Memory => return (here, Err(Memory)),
+            },
         }
     }
     (here, Ok(()))

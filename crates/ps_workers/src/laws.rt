@@ -6,5 +6,4 @@ ghost use Rattle.ps_workers.specs.SharedLaws.{SharedStoresHaveRules};
 /// come.
 pub fn shared_stores_have_rules()
     ensures { SharedStoresHaveRules }
-{
-}
+{}

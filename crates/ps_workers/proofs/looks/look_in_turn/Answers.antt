@@ -1,5 +1,5 @@
 use Rattle.ps_lock.specs.Words.{history_of, value_of}
-use Rattle.ps_workers.specs.Sharing.{terms_of, fixed_of}
+use Rattle.ps_workers.specs.Sharing.{fixed_of}
 use Rattle.ps_workers.proofs.Turning.{begins, looks}
 use Rattle.ps_workers.proofs.looks.look_in_turn.Goals as goal
 
