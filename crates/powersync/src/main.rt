@@ -118,7 +118,7 @@ fn sync_in_file<R: Wait, K: Sink, E: Sink>(
     out: &mut K,
     err: &mut E,
 ) -> u8 {
-    match open_store(rt, name, Unknown) {
+    match open_store(rt, name, Unknown, hashing) {
         Ok(keeper) => {
             let (status, keeper) = sync_over(rt, waits, words, hashing, keeper, out, err);
             close_store(keeper);

@@ -2,3 +2,6 @@ pub mod Listing
 pub mod Sound
 pub mod Keys
 pub mod Blaming
+pub mod Sums
+pub mod Listed
+pub mod Bad

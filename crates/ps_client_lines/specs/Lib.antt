@@ -1,3 +1,4 @@
 pub mod Rows
 pub mod Holding
 pub mod Refusing
+pub mod Images

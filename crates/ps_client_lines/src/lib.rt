@@ -1,8 +1,10 @@
-//! The rows of what a client keeps: the rows of each table that a state has, and the state that rows are.
+//! The rows of what a client keeps: the rows of each table that a state has, the state that rows are, and the state that edits make.
 #![tactic(auto)]
 
 mod cells;
+mod drafts;
 mod faults;
+mod images;
 mod lines;
 mod reading;
 mod rows;
@@ -11,6 +13,7 @@ mod tables;
 mod telling;
 
 pub use cells::Cell;
+pub use drafts::edited;
 pub use faults::RowsFault;
 pub use lines::{BucketLine, Queued};
 pub use rows::Rows;

@@ -11,7 +11,7 @@ ghost use Rattle.ps_client_lines.specs.Holding.{AreAimRows, AreRowsOf, AreRising
 use crate::faults::at_table;
 use crate::tables::{aim_in, bucket_lines, bucket_states, queue_in, shown_list};
 use crate::{Queued, Rows, RowsFault};
-use ps_client_log::{BucketState, Shown, State, Target};
+use ps_client_log::{BucketState, Hashing, Shown, State, Target};
 use ps_data::{Items, Memory};
 use ps_rows::Change;
 use std::alloc::Global;
@@ -28,17 +28,17 @@ fn changes_of(alloc: Global, queue: &[Queued]) -> Result<Items<Change>, Memory>
 }
 
 // The buckets, with what they hold, that the rows of the first two tables are.
-fn buckets_in(alloc: Global, rows: &Rows) -> Result<Items<BucketState>, RowsFault>
+fn buckets_in(alloc: Global, hashing: Hashing, rows: &Rows) -> Result<Items<BucketState>, RowsFault>
     ensures buckets { IfOk result (λ states. bucket_rows states ≡ rows.now.buckets) }
     ensures entries { IfOk result (λ states. entry_rows states ≡ rows.now.entries) }
     ensures sound { IfOk result AreSoundBuckets }
     ensures blames { IfErr result (BlamesBuckets rows.now) }
 {
-    let lines = match bucket_lines(alloc, rows.buckets.as_slice()) {
+    let lines = match bucket_lines(alloc, hashing, rows.buckets.as_slice()) {
         Ok(lines) => lines,
         Err(refusal) => return Err(at_table(refusal, 1)),
     };
-    match bucket_states(alloc, lines, rows.entries.as_slice()) {
+    match bucket_states(alloc, hashing, lines, rows.entries.as_slice()) {
         Ok(states) => Ok(states),
         Err(refusal) => Err(at_table(refusal, 2)),
     }
@@ -49,7 +49,7 @@ fn writes_in(alloc: Global, rows: &Rows) -> Result<Items<Queued>, RowsFault>
     ensures rows { IfOk result (λ queue. queue_rows queue ≡ rows.now.queue) }
     ensures rising { IfOk result AreRising }
     ensures texts { IfOk result (All (λ line. IsLongChange line.text line.change)) }
-    ensures blames { IfErr result BlamesQueue }
+    ensures blames { IfErr result (BlamesQueue rows.now) }
 {
     match queue_in(alloc, rows.queue.as_slice()) {
         Ok(queue) => Ok(queue),
@@ -58,7 +58,11 @@ fn writes_in(alloc: Global, rows: &Rows) -> Result<Items<Queued>, RowsFault>
 }
 
 // The target and the shown rows that the rows of the last two tables are.
-fn seen_in(alloc: Global, rows: &Rows) -> Result<(Target, Items<Shown>), RowsFault>
+fn seen_in(
+    alloc: Global,
+    hashing: Hashing,
+    rows: &Rows,
+) -> Result<(Target, Items<Shown>), RowsFault>
     ensures aim { IfOk result (λ seen. AreAimRows seen.0 rows.now.aim) }
     ensures target { IfOk result (λ seen. IsSoundTarget seen.0) }
     ensures shown { IfOk result (λ seen. shown_rows seen.1 ≡ rows.now.shown) }
@@ -69,24 +73,29 @@ fn seen_in(alloc: Global, rows: &Rows) -> Result<(Target, Items<Shown>), RowsFau
         Ok(target) => target,
         Err(refusal) => return Err(at_table(refusal, 4)),
     };
-    match shown_list(alloc, rows.shown.as_slice()) {
+    match shown_list(alloc, hashing, rows.shown.as_slice()) {
         Ok(shown) => Ok((target, shown)),
         Err(refusal) => Err(at_table(refusal, 5)),
     }
 }
 
 /// The state that the rows of the tables are, and its local writes with their numbers and texts. Fails with `BadState` where a table has a
-/// row that is none of a state, and names the first such table; and with `Memory`.
-pub fn state_in(alloc: Global, rows: &Rows) -> Result<(State, Items<Queued>), RowsFault>
+/// row that is none of a state, and names the first such table; and with `Memory`. Keys are told apart by maps that hash as given: where a peer chose
+/// them, by a seed that it does not know.
+pub fn state_in(
+    alloc: Global,
+    hashing: Hashing,
+    rows: &Rows,
+) -> Result<(State, Items<Queued>), RowsFault>
     ensures rows { IfOk result (λ told. AreRowsOf told.0 told.1 rows.now) }
     ensures sound { IfOk result (λ told. IsSoundState told.0) }
     ensures rising { IfOk result (λ told. AreRising told.1) }
-    // The rows of the tables before the one that is named are those of a state.
+    // The table that is named has a row that is none of a state, and the rows of those before it are those of a state.
     ensures blames { IfErr result (Blames rows.now) }
 {
-    let buckets = buckets_in(alloc, rows)?;
+    let buckets = buckets_in(alloc, hashing, rows)?;
     let writes = writes_in(alloc, rows)?;
-    let (target, shown) = seen_in(alloc, rows)?;
+    let (target, shown) = seen_in(alloc, hashing, rows)?;
     let queue = changes_of(alloc, writes.as_slice())?;
     let state = State {
         buckets,

@@ -37,7 +37,7 @@ IsPlain Other = ⊥
 one_value : (v : Value) (c : Cell) → IsCell v c → IsPlain c → v ≡ value_of c
 unfolding value_of IsPlain
 one_value v (Int n) is plain = is
-one_value v (Text text) is plain = is
+one_value v (Text text) is plain = is.0
 one_value v Other is plain = absurd plain
 
 -- cells that are numbers and texts have these values

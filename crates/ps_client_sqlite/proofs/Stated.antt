@@ -7,7 +7,7 @@ use Rattle.std.proofs.lemmas.Int.{ints}
 use Rattle.std.proofs.lemmas.Bool.Decides.{nat_tests}
 use Rattle.std.proofs.lemmas.List.Elements.{recursion_from_All}
 use Rattle.sqlite_value.specs.Order.{Row}
-use Rattle.sqlite_trees.proofs.ListLemmas.{all-append}
+use Rattle.sqlite_trees.proofs.ListLemmas.{all-append, IsPermutation-same}
 use Rattle.ps_bucket_log.specs.declared.ops.Key.{Key}
 use Rattle.ps_bucket_log.specs.Ops.{same_key}
 use Rattle.ps_client_log.specs.declared.states.State.{State}
@@ -96,7 +96,7 @@ stated tables rows state writes read are sound rising = record {
       (listed (λ e. entry_columns (e.0, e.1.key) e.1) (entries_of state.buckets) (cell.entry_rows state.buckets) _ rows.entries read.entries are.entries (entries_are state.buckets))
       (entries_distinct state.buckets sound.names (recursion_from_All _ state.buckets sound.keys));
   queue = shows_listed int_eq line_of_write queued_columns queue_lines (λ line. line.seq) (λ line. line.text) has_rowid queued_line tables.queue writes (λ k r. refl)
-      (listed (λ line. queued_columns line.seq line.text) writes (cell.queue_rows writes) _ rows.queue read.queue are.queue (queue_are writes)) (rising_distinct writes rising);
+      (listed (λ line. queued_columns line.seq line.text) writes (cell.queue_rows writes) _ rows.queue (record { read = map queued_line tables.queue; same = IsPermutation-same _ _ refl; cells = read.queue }) are.queue (queue_are writes)) (rising_distinct writes rising);
   aim = aim_read state.target _ rows.aim read.aim are.aim;
   shown = shows_listed {K = List ℕ × List ℕ} (λ a b. same_object a.0 a.1 b.0 b.1) line_of_shown shown_columns shown_lines (λ row. (row.kind, row.id)) (λ row. row.content) has_shown shown_line tables.shown state.shown (λ k r. refl)
       (listed (λ s. shown_columns (s.kind, s.id) s.content) state.shown (cell.shown_rows state.shown) _ rows.shown read.shown are.shown (shown_are state.shown)) sound.shown;

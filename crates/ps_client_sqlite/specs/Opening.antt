@@ -10,8 +10,8 @@ use Rattle.ps_client_lines.specs.Refusing.{Blames}
 use Rattle.ps_client_lines.specs.declared.faults.RowsFault.{RowsFault}
 use Rattle.ps_client_lines.specs.declared.faults.RowsFault.TheVariants as rows
 use Rattle.ps_client_tables.specs.Schemas.{no_schema}
-use Rattle.ps_client_tables.specs.Tables.{Tables}
-use Rattle.ps_client_tables.specs.Steps.{IsClient, IsFresh}
+use Rattle.ps_client_tables.specs.Tables.{Tables, tables_in}
+use Rattle.ps_client_tables.specs.Steps.{IsClient, IsFresh, tables_of}
 use Rattle.ps_client_sqlite.specs.Reading.{AreTablesRead}
 use Rattle.ps_client_sqlite.specs.declared.faults.StoreFault.{StoreFault}
 use Rattle.ps_client_sqlite.specs.declared.faults.StoreFault.TheVariants.{Failed, BadState, Memory}
@@ -47,8 +47,30 @@ NamesNone Failed = Unit {0}
 NamesNone (BadState table) = ⊥
 NamesNone Memory = Unit {0}
 
--- where a table is named, the rows of the tables before it are those of a state
+-- where a table is named, it has a row that is none of a state, and the rows of the tables before it are those of a state
 abbrev pub IsFaultOf : Tables → StoreFault → Type 0
 IsFaultOf tables Failed = Unit {0}
 IsFaultOf tables (BadState table) = (all : Rows) × AreTablesRead tables all × Blames all (rows.BadState table)
 IsFaultOf tables Memory = Unit {0}
+
+-- only of an open database is a table named
+abbrev pub IsOpenWhereNamed : State → StoreFault → Type 0
+IsOpenWhereNamed s Failed = Unit {0}
+IsOpenWhereNamed s (BadState table) = IsTrue s.is_open
+IsOpenWhereNamed s Memory = Unit {0}
+
+-- what was read of a connection that was let go afterwards: where a table is named, and its disk had returned what was written up to then, the connection
+-- was open, and over a client's tables that have this fault
+abbrev pub IsFaultRead : {C : Type 0} → (C → State) → State → StoreFault → Type 0
+IsFaultRead shown s Failed = Unit {0}
+IsFaultRead {C} shown s (BadState table) =
+    (left : C) × (HasCleanDisk (shown left) → HasCleanDisk s × IsTrue s.is_open × (IsClient s → IsFaultOf (tables_of s) (BadState table)))
+IsFaultRead shown s Memory = Unit {0}
+
+-- where a table is named, and the disk of the connection that is let go had returned what was written up to then, it had before, and the tables of the last
+-- commit have this fault
+abbrev pub IsFaultFrom : {C : Type 0} → (C → State) → State → StoreFault → Type 0
+IsFaultFrom shown old Failed = Unit {0}
+IsFaultFrom {C} shown old (BadState table) =
+    (left : C) × (HasCleanDisk (shown left) → HasCleanDisk old × IsFaultOf (tables_in old.committed.trees) (BadState table))
+IsFaultFrom shown old Memory = Unit {0}

@@ -1,5 +1,5 @@
 -- What rows that were read have, cell by cell.
-use Rattle.std.specs.Prelude.{◌≡◌, List, [], ◌∷◌, map, IsPermutation}
+use Rattle.std.specs.Prelude.{◌≡◌, ◌≢◌, ℕ, ℤ, List, [], ◌∷◌, map, IsPermutation, IsUtf8}
 use Rattle.sqlite.specs.declared.types.Value.{Value}
 use Rattle.sqlite.specs.declared.types.Value.TheVariants as value
 use Rattle.sqlite.specs.Order.{Row}
@@ -16,11 +16,15 @@ Alike R [] (y ∷ ys) = ⊥
 Alike R (x ∷ xs) [] = ⊥
 Alike R (x ∷ xs) (y ∷ ys) = R x y × Alike R xs ys
 
+-- neither a number nor a text in UTF-8
+abbrev pub IsOther : Value → Type 0
+IsOther kept = ((n : ℤ) → kept ≢ value.Int n) × ((text : List ℕ) → kept ≡ value.Text text → ¬ IsUtf8 text)
+
 -- the cell has the value: a number, a text in UTF-8, or anything else
 abbrev pub IsCell : Value → Cell → Type 0
 IsCell kept (Int n) = kept ≡ value.Int n
-IsCell kept (Text text) = kept ≡ value.Text text
-IsCell kept Other = Unit {0}
+IsCell kept (Text text) = (kept ≡ value.Text text) × IsUtf8 text
+IsCell kept Other = IsOther kept
 
 abbrev pub AreCells : Row → List Cell → Type 0
 AreCells row cells = Alike IsCell row cells
@@ -31,10 +35,10 @@ pub record AreRead (lines : List Row) (rows : List (List Cell)) : Type 0 where
   pub same : IsPermutation lines read
   pub cells : Alike AreCells read rows
 
--- these are the rows of all tables
+-- these are the rows of all tables; the local writes stand in the order of their numbers
 pub record AreTablesRead (tables : Tables) (rows : Rows) : Type 0 where
   pub buckets : AreRead (map bucket_line tables.buckets) rows.buckets
   pub entries : AreRead (map entry_line tables.entries) rows.entries
-  pub queue : AreRead (map queued_line tables.queue) rows.queue
+  pub queue : Alike AreCells (map queued_line tables.queue) rows.queue
   pub aim : AreRead (map aim_line tables.aim) rows.aim
   pub shown : AreRead (map shown_line tables.shown) rows.shown

@@ -14,7 +14,7 @@ use crate::differing::row_changes;
 use ps_bucket_log::Key;
 use ps_checksum::Sum;
 use ps_client_lines::Queued;
-use ps_client_log::{BucketState, Held, Shown, State, Target};
+use ps_client_log::{BucketState, Hashing, Held, Shown, State, Target};
 use ps_data::{Items, Memory, OpId, Text};
 use std::alloc::Global;
 
@@ -185,13 +185,14 @@ fn add_shown_writes(
 fn add_buckets(
     writes: &mut Vec<RowWrite>,
     alloc: Global,
+    hashing: Hashing,
     old: &[BucketState],
     new: &[BucketState],
 ) -> Result<(), Memory>
     ensures { OnOk result (AddsChanges bytes_eq bucket_write (map bucket_pair old.now) (map bucket_pair new.now) writes.old.items writes.new.items) }
 {
     let before = bucket_rows(alloc, old)?;
-    let changes = row_changes(alloc, before, bucket_rows(alloc, new)?)?;
+    let changes = row_changes(alloc, hashing, before, bucket_rows(alloc, new)?)?;
     add_bucket_writes(writes, changes)
 }
 
@@ -199,13 +200,14 @@ fn add_buckets(
 fn add_entries(
     writes: &mut Vec<RowWrite>,
     alloc: Global,
+    hashing: Hashing,
     old: &[BucketState],
     new: &[BucketState],
 ) -> Result<(), Memory>
     ensures { OnOk result (AddsChanges place_eq entry_write (entry_pairs old.now) (entry_pairs new.now) writes.old.items writes.new.items) }
 {
     let before = entry_rows(alloc, old)?;
-    let changes = row_changes(alloc, before, entry_rows(alloc, new)?)?;
+    let changes = row_changes(alloc, hashing, before, entry_rows(alloc, new)?)?;
     add_entry_writes(writes, changes)
 }
 
@@ -213,13 +215,14 @@ fn add_entries(
 fn add_queued(
     writes: &mut Vec<RowWrite>,
     alloc: Global,
+    hashing: Hashing,
     old: &[Queued],
     new: &[Queued],
 ) -> Result<(), Memory>
     ensures { OnOk result (AddsChanges int_eq queued_write (map queued_pair old.now) (map queued_pair new.now) writes.old.items writes.new.items) }
 {
     let before = queued_rows(alloc, old)?;
-    let changes = row_changes(alloc, before, queued_rows(alloc, new)?)?;
+    let changes = row_changes(alloc, hashing, before, queued_rows(alloc, new)?)?;
     add_queued_writes(writes, changes)
 }
 
@@ -237,13 +240,14 @@ fn add_target(writes: &mut Vec<RowWrite>, old: Target, new: Target) -> Result<()
 fn add_shown(
     writes: &mut Vec<RowWrite>,
     alloc: Global,
+    hashing: Hashing,
     old: &[Shown],
     new: &[Shown],
 ) -> Result<(), Memory>
     ensures { OnOk result (AddsChanges object_eq shown_write (map shown_pair old.now) (map shown_pair new.now) writes.old.items writes.new.items) }
 {
     let before = shown_rows(alloc, old)?;
-    let changes = row_changes(alloc, before, shown_rows(alloc, new)?)?;
+    let changes = row_changes(alloc, hashing, before, shown_rows(alloc, new)?)?;
     add_shown_writes(writes, changes)
 }
 
@@ -251,6 +255,7 @@ fn add_shown(
 /// when out of memory.
 pub fn difference(
     alloc: Global,
+    hashing: Hashing,
     old: &State,
     old_queue: &[Queued],
     new: &State,
@@ -265,20 +270,23 @@ pub fn difference(
     add_buckets(
         &mut writes,
         alloc,
+        hashing,
         old.buckets.as_slice(),
         new.buckets.as_slice(),
     )?;
     add_entries(
         &mut writes,
         alloc,
+        hashing,
         old.buckets.as_slice(),
         new.buckets.as_slice(),
     )?;
-    add_queued(&mut writes, alloc, old_queue, new_queue)?;
+    add_queued(&mut writes, alloc, hashing, old_queue, new_queue)?;
     add_target(&mut writes, old.target, new.target)?;
     add_shown(
         &mut writes,
         alloc,
+        hashing,
         old.shown.as_slice(),
         new.shown.as_slice(),
     )?;

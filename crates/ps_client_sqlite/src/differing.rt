@@ -6,6 +6,7 @@ ghost use Rattle.indexmap.specs.IndexMap.{get};
 ghost use Rattle.ps_client_sqlite.specs.Differing.{rows_at, AreChanges};
 
 use indexmap::IndexMap;
+use ps_client_log::Hashing;
 use ps_data::Memory;
 use std::alloc::Global;
 use std::hash::Hash;
@@ -13,11 +14,12 @@ use std::hash::Hash;
 // Rows by their keys; of several with one key the last.
 fn by_key<K: Eq + Hash + Drop, V: Drop>(
     alloc: Global,
+    hashing: Hashing,
     rows: Vec<(K, V)>,
-) -> Result<IndexMap<K, V>, Memory>
+) -> Result<IndexMap<K, V, Hashing>, Memory>
     ensures { IfOk result (λ index. (key : K) → get K.eq index key ≡ rows_at K.eq rows.items key) }
 {
-    let mut index = IndexMap::new(alloc);
+    let mut index = IndexMap::with_hasher(alloc, hashing);
     index.reserve(rows.len())?;
     'rows: for (key, value) in rows {
         index.insert(key, value)?;
@@ -26,7 +28,11 @@ fn by_key<K: Eq + Hash + Drop, V: Drop>(
 }
 
 // Whether a key has a value. Afterwards it has none.
-fn had<K: Eq + Hash + Drop, V: Eq + Drop>(left: &mut IndexMap<K, V>, key: &K, value: &V) -> bool
+fn had<K: Eq + Hash + Drop, V: Eq + Drop>(
+    left: &mut IndexMap<K, V, Hashing>,
+    key: &K,
+    value: &V,
+) -> bool
     requires values { (a b : V) → Decides (V.eq a b) (a ≡ b) }
     ensures left { (other : K) → get K.eq left.new other ≡ (if K.eq key.now other then None else get K.eq left.old other) }
     ensures had { Decides result (get K.eq left.old key.now ≡ Some value.now) }
@@ -41,6 +47,7 @@ fn had<K: Eq + Hash + Drop, V: Eq + Drop>(left: &mut IndexMap<K, V>, key: &K, va
 /// out of memory.
 pub fn row_changes<K: Eq + Hash + Drop, V: Eq + Drop>(
     alloc: Global,
+    hashing: Hashing,
     old: Vec<(K, V)>,
     new: Vec<(K, V)>,
 ) -> Result<Vec<(K, Option<V>)>, Memory>
@@ -48,9 +55,9 @@ pub fn row_changes<K: Eq + Hash + Drop, V: Eq + Drop>(
     requires values { (a b : V) → Decides (V.eq a b) (a ≡ b) }
     ensures { IfOk result (λ changes. AreChanges K.eq (rows_at K.eq old.items) (rows_at K.eq new.items) changes.items) }
 {
-    let mut left = by_key(alloc, old)?;
+    let mut left = by_key(alloc, hashing, old)?;
     let mut changes = Vec::new(alloc);
-    'new: for (key, value) in by_key(alloc, new)? {
+    'new: for (key, value) in by_key(alloc, hashing, new)? {
         if !had(&mut left, &key, &value) {
             changes.push((key, Some(value)))?;
         }

@@ -1,6 +1,6 @@
 //! A keeper of a client's state over a database.
 
-ghost use Rattle.std.specs.Prelude.{◌≡◌, ◌≤◌, false, None, Some, IsTrue, IfOk, OnOk, OnErr};
+ghost use Rattle.std.specs.Prelude.{◌≡◌, ◌≤◌, false, None, Some, IsTrue, IfOk, IfErr, OnOk, OnErr};
 ghost use Rattle.std.specs.List.{All};
 ghost use Rattle.sqlite.specs.Held.{state};
 ghost use Rattle.sqlite.specs.State.{HasCleanDisk};
@@ -12,7 +12,7 @@ ghost use Rattle.ps_client_lines.specs.Holding.{AreQueued, AreRising};
 ghost use Rattle.ps_client_sqlite.specs.Stored.{IsWritable, with_writes};
 ghost use Rattle.ps_client_sqlite.specs.Steps.{LeavesOr};
 ghost use Rattle.ps_client_sqlite.specs.Stating.{stored_of};
-ghost use Rattle.ps_client_sqlite.specs.Opening.{Settles};
+ghost use Rattle.ps_client_sqlite.specs.Opening.{Settles, IsFaultRead, IsFaultFrom};
 ghost use Rattle.ps_client_sqlite.specs.Numbering.{numbers_of};
 ghost use Rattle.ps_client_sqlite.specs.Editing.{numbers_after_all};
 ghost use Rattle.ps_client_sqlite.specs.Keeping.{connection_of, state_of, writes_of, faults_of, Counts, CountsAt, IsBlamed, IsFrom, LeavesEdited, Stands};
@@ -21,8 +21,8 @@ use crate::copies::{queue_copy, state_copy};
 use crate::reading::{read_again, read_state};
 use crate::writing::write_all;
 use crate::{RowWrite, StoreFault, after_edits, difference, with_tables};
-use ps_client_lines::Queued;
-use ps_client_log::{Edit, KeepFault, Keeper, State, edited};
+use ps_client_lines::{Queued, edited};
+use ps_client_log::{Edit, Hashing, KeepFault, Keeper, State};
 use ps_data::{Items, Memory};
 use sqlite::{Alter, Connection, Error, ErrorCode};
 use std::alloc::Global;
@@ -36,6 +36,7 @@ pub struct SqliteKeeper<S: Alter> {
     kept: State,
     writes: Items<Queued>,
     faults: u64,
+    hashing: Hashing,
 }
 
 impl<S: Alter> Model for SqliteKeeper<S> {
@@ -91,6 +92,7 @@ fn fault_at(fault: StoreFault) -> KeepFault {
 // The keeper of what the tables hold.
 fn read<S: Alter + Drop>(
     alloc: Global,
+    hashing: Hashing,
     connection: Connection<S>,
 ) -> Result<SqliteKeeper<S>, StoreFault>
     requires outside { (state S.Store connection).in_transaction ≡ false }
@@ -100,31 +102,55 @@ fn read<S: Alter + Drop>(
     ensures opened { IfOk result (λ keeper. HasCleanDisk (state S.Store (connection_of keeper)) → IsTrue (state S.Store connection).is_open) }
     ensures same { IfOk result (λ keeper. HasCleanDisk (state S.Store (connection_of keeper)) → (state S.Store (connection_of keeper)).now ≡ (state S.Store connection).now) }
     ensures uncounted { IfOk result (λ keeper. faults_of keeper ≡ 0) }
+    ensures blames { IfErr result (IsFaultRead (state S.Store) (state S.Store connection)) }
 {
     let mut connection = connection;
-    match read_state(alloc, &mut connection) {
+    match read_state(alloc, hashing, &mut connection) {
         Ok(told) => Ok(SqliteKeeper {
             connection,
             kept: told.0,
             writes: told.1,
             faults: 0,
+            hashing,
         }),
         Err(fault) => Err(fault),
     }
 }
 
 impl<S: Alter + Drop> SqliteKeeper<S> {
-    /// Keeps what the tables of a database hold, as `read_state` reads it; they are made where it has none. Fails with `Failed` where a statement is refused or the
-    /// database has other tables than a client's, with `BadState` as `read_state` does, and with `Memory`.
+    /// Keeps what the tables of a database hold, by maps that hash by a seed that everyone knows: for keys that nobody chose for it, as those in files of
+    /// one's own. Fails as `open_hashed` does.
     pub fn open(alloc: Global, connection: Connection<S>) -> Result<SqliteKeeper<S>, StoreFault>
         ensures stands { IfOk result (λ keeper. Stands (state_of keeper) (writes_of keeper) (state S.Store (connection_of keeper))) }
         ensures rows { IfOk result (λ keeper. HasCleanDisk (state S.Store (connection_of keeper)) → IsTrue (state S.Store (connection_of keeper)).is_open
             → IsFrom (state S.Store connection) (state_of keeper) (writes_of keeper)) }
         ensures clean { IfOk result (λ keeper. HasCleanDisk (state S.Store (connection_of keeper)) → HasCleanDisk (state S.Store connection)) }
         ensures uncounted { IfOk result (λ keeper. faults_of keeper ≡ 0) }
+        ensures blames { IfErr result (IsFaultFrom (state S.Store) (state S.Store connection)) }
     {
-        let connection = with_tables(alloc, connection)?;
-        read(alloc, connection)
+        SqliteKeeper::open_hashed(alloc, connection, Hashing::Fixed)
+    }
+
+    /// Keeps what the tables of a database hold, as `read_state` reads it; they are made where it has none. Each map that is made, here and later, hashes as
+    /// given: where a peer chose the keys, by a seed that it does not know. Fails with `Failed` where a statement is refused or the database has other tables
+    /// than a client's, with `BadState` as `read_state` does, and with `Memory`.
+    pub fn open_hashed(
+        alloc: Global,
+        connection: Connection<S>,
+        hashing: Hashing,
+    ) -> Result<SqliteKeeper<S>, StoreFault>
+        ensures stands { IfOk result (λ keeper. Stands (state_of keeper) (writes_of keeper) (state S.Store (connection_of keeper))) }
+        ensures rows { IfOk result (λ keeper. HasCleanDisk (state S.Store (connection_of keeper)) → IsTrue (state S.Store (connection_of keeper)).is_open
+            → IsFrom (state S.Store connection) (state_of keeper) (writes_of keeper)) }
+        ensures clean { IfOk result (λ keeper. HasCleanDisk (state S.Store (connection_of keeper)) → HasCleanDisk (state S.Store connection)) }
+        ensures uncounted { IfOk result (λ keeper. faults_of keeper ≡ 0) }
+        // The table that is named has a row that is none of a state, and the rows of those before it are those of a state.
+        ensures blames { IfErr result (IsFaultFrom (state S.Store) (state S.Store connection)) }
+    {
+        match with_tables(alloc, connection) {
+            Ok(made) => read(alloc, hashing, made),
+            Err(fault) => Err(fault),
+        }
     }
 }
 
@@ -136,7 +162,13 @@ struct Next {
 }
 
 // What edits make of a state.
-fn after(alloc: Global, kept: &State, queue: &Items<Queued>, edits: &[Edit]) -> Result<Next, Memory>
+fn after(
+    alloc: Global,
+    hashing: Hashing,
+    kept: &State,
+    queue: &Items<Queued>,
+    edits: &[Edit],
+) -> Result<Next, Memory>
     requires sound { IsSoundState kept.now }
     requires queued { AreQueued queue.now kept.now.queue }
     requires rising { AreRising queue.now }
@@ -149,9 +181,16 @@ fn after(alloc: Global, kept: &State, queue: &Items<Queued>, edits: &[Edit]) -> 
     ensures writable { IfOk result (λ next. All IsWritable next.writes.items) }
     ensures reached { IfOk result (λ next. with_writes (stored_of kept.now queue.now) next.writes.items ≡ stored_of next.state next.queue) }
 {
-    let state = edited(alloc, state_copy(alloc, kept)?, edits)?;
+    let state = edited(alloc, hashing, state_copy(alloc, kept)?, edits)?;
     let waiting = after_edits(alloc, queue_copy(alloc, queue.as_slice())?, edits)?;
-    let writes = difference(alloc, kept, queue.as_slice(), &state, waiting.as_slice())?;
+    let writes = difference(
+        alloc,
+        hashing,
+        kept,
+        queue.as_slice(),
+        &state,
+        waiting.as_slice(),
+    )?;
     Ok(Next {
         state,
         queue: waiting,
@@ -213,7 +252,7 @@ impl<S: Alter> SqliteKeeper<S> {
             state,
             queue,
             writes,
-        } = after(alloc, &self.kept, &self.writes, edits)?;
+        } = after(alloc, self.hashing, &self.kept, &self.writes, edits)?;
         self.turn(state, queue, writes.as_slice())
     }
 
@@ -227,7 +266,7 @@ impl<S: Alter> SqliteKeeper<S> {
         ensures faults { faults_of self.old ≤ faults_of self.new }
         ensures stands { Stands (state_of self.new) (writes_of self.new) (state S.Store (connection_of self.new)) }
     {
-        match read_again(alloc, &mut self.connection) {
+        match read_again(alloc, self.hashing, &mut self.connection) {
             Ok(()) => Ok(state_copy(alloc, &self.kept)?),
             Err(refusal) => {
                 let fault = fault_at(refusal);
@@ -246,6 +285,7 @@ impl<S: Alter> SqliteKeeper<S> {
             kept: _kept,
             writes: _writes,
             faults: _faults,
+            hashing: _hashing,
         } = self;
         connection
     }

@@ -14,12 +14,12 @@ ghost use Rattle.ps_client_log.specs.Soundness.{IsSoundState};
 ghost use Rattle.ps_client_lines.specs.Holding.{AreQueued, AreRising};
 ghost use Rattle.ps_client_sqlite.specs.Steps.{Kept};
 ghost use Rattle.ps_client_sqlite.specs.Reading.{Alike, AreCells, IsCell, AreRead, AreTablesRead};
-ghost use Rattle.ps_client_sqlite.specs.Opening.{NamesNone, IsFaultOf};
+ghost use Rattle.ps_client_sqlite.specs.Opening.{NamesNone, IsFaultOf, IsOpenWhereNamed};
 
 use crate::StoreFault;
 use crate::faults::{of_rows, refused};
 use ps_client_lines::{Cell, Queued, Rows, state_in};
-use ps_client_log::State;
+use ps_client_log::{Hashing, State};
 use ps_client_tables::{read_aim, read_buckets, read_entries, read_queue, read_shown};
 use ps_data::{Items, Memory, Text, TextFault};
 use sqlite::types::ValueRef;
@@ -44,7 +44,7 @@ fn cell_of(alloc: Global, kept: ValueRef<'_>) -> Result<Cell, Memory>
     match kept {
         ValueRef::Int(number) => Ok(Cell::Int(number)),
         ValueRef::Text(bytes) => text_cell(alloc, bytes),
-        _ => Ok(Cell::Other),
+        ValueRef::Null | ValueRef::Real(_) | ValueRef::Blob(_) => Ok(Cell::Other),
     }
 }
 
@@ -132,7 +132,7 @@ fn queue_rows<S: Alter>(
     alloc: Global,
     conn: &mut Connection<S>,
 ) -> Result<Items<Items<Cell>>, StoreFault>
-    ensures read { HasCleanDisk (state S.Store conn.new) → IsClient (state S.Store conn.old) → IfOk result (AreRead (map queued_line (tables_of (state S.Store conn.old)).queue)) }
+    ensures read { HasCleanDisk (state S.Store conn.new) → IsClient (state S.Store conn.old) → IfOk result (Alike AreCells (map queued_line (tables_of (state S.Store conn.old)).queue)) }
     ensures same { HasCleanDisk (state S.Store conn.new) → IsClient (state S.Store conn.old) → OnOk result (IsUnchanged (state S.Store conn.old) (state S.Store conn.new)) }
     ensures opened { HasCleanDisk (state S.Store conn.new) → OnOk result (IsTrue (state S.Store conn.old).is_open) }
     ensures clean { HasCleanDisk (state S.Store conn.new) → HasCleanDisk (state S.Store conn.old) }
@@ -221,14 +221,16 @@ pub fn read_tables<S: Alter>(alloc: Global, conn: &mut Connection<S>) -> Result<
 /// none of a state, and names the first such table; with `Failed` where a statement is refused for another cause than memory; and with `Memory`.
 pub fn read_state<S: Alter>(
     alloc: Global,
+    hashing: Hashing,
     conn: &mut Connection<S>,
 ) -> Result<(State, Items<Queued>), StoreFault>
     ensures read { HasCleanDisk (state S.Store conn.new) → IsClient (state S.Store conn.old) → IfOk result (λ told. Holds (stored_of told.0 told.1) (tables_of (state S.Store conn.old))) }
     ensures sound { IfOk result (λ told. IsSoundState told.0) }
     ensures queued { IfOk result (λ told. AreQueued told.1 told.0.queue) }
     ensures rising { IfOk result (λ told. AreRising told.1) }
-    // The rows of the tables before the one that is named are those of a state.
+    // The table that is named has a row that is none of a state, and the rows of those before it are those of a state.
     ensures blames { HasCleanDisk (state S.Store conn.new) → IsClient (state S.Store conn.old) → IfErr result (IsFaultOf (tables_of (state S.Store conn.old))) }
+    ensures named { HasCleanDisk (state S.Store conn.new) → IfErr result (IsOpenWhereNamed (state S.Store conn.old)) }
     ensures same { HasCleanDisk (state S.Store conn.new) → IsClient (state S.Store conn.old) → OnOk result (IsUnchanged (state S.Store conn.old) (state S.Store conn.new)) }
     ensures opened { HasCleanDisk (state S.Store conn.new) → OnOk result (IsTrue (state S.Store conn.old).is_open) }
     ensures clean { HasCleanDisk (state S.Store conn.new) → HasCleanDisk (state S.Store conn.old) }
@@ -239,18 +241,22 @@ pub fn read_state<S: Alter>(
         Ok(rows) => rows,
         Err(fault) => return Err(fault),
     };
-    match state_in(alloc, &rows) {
+    match state_in(alloc, hashing, &rows) {
         Ok(told) => Ok(told),
         Err(fault) => Err(of_rows(fault)),
     }
 }
 
 // Reads the tables again. Fails where they have a row that is none of a state.
-pub fn read_again<S: Alter>(alloc: Global, conn: &mut Connection<S>) -> Result<(), StoreFault>
+pub fn read_again<S: Alter>(
+    alloc: Global,
+    hashing: Hashing,
+    conn: &mut Connection<S>,
+) -> Result<(), StoreFault>
     ensures mode { (state S.Store conn.old).in_transaction ≡ false → (state S.Store conn.new).in_transaction ≡ false }
     ensures kept { (stored : Stored) → Kept stored (state S.Store conn.old) → Kept stored (state S.Store conn.new) }
 {
-    match read_state(alloc, conn) {
+    match read_state(alloc, hashing, conn) {
         Ok(_told) => Ok(()),
         Err(fault) => Err(fault),
     }

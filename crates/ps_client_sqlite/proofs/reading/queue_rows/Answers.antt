@@ -1,6 +1,5 @@
-use Rattle.std.proofs.Common.{List, sym, subst}
+use Rattle.std.proofs.Common.{List, subst}
 use Rattle.sqlite.specs.Order.{Row}
-use Rattle.sqlite_trees.proofs.ListLemmas.{IsPermutation-same}
 use Rattle.ps_client_sqlite.specs.Reading.{Alike, AreCells}
 use Rattle.sqlite.specs.Held.{state}
 use Rattle.ps_client_sqlite.proofs.Turning.{kept_unchanged, kept_left}
@@ -8,7 +7,8 @@ use Rattle.ps_client_sqlite.proofs.reading.queue_rows.Goals as goal
 
 pub returns-in_ok-all-in-Ok-clause-read : goal.returns-in_ok-all-in-Ok-clause-read
 returns-in_ok-all-in-Ok-clause-read g c clean client =
-    record { read = c.in-Ok.rows.items; same = IsPermutation-same _ _ (sym (c.in-Ok.ensures.read clean client)); cells = subst (λ (rows : List Row). Alike AreCells rows c.in_ok-all-in-Ok.all) c.as_slice.ensures.value c.in_ok-all-in-Ok.ensures }
+    subst (λ (rows : List Row). Alike AreCells rows c.in_ok-all-in-Ok.all) (c.in-Ok.ensures.read clean client)
+    (subst (λ (rows : List Row). Alike AreCells rows c.in_ok-all-in-Ok.all) c.as_slice.ensures.value c.in_ok-all-in-Ok.ensures)
 
 pub returns-in_ok-all-in-Ok-clause-kept : goal.returns-in_ok-all-in-Ok-clause-kept
 returns-in_ok-all-in-Ok-clause-kept g c stored kept = kept_unchanged stored (state g.S.Store c.args.conn.now) (state g.S.Store c.read_queue.new.conn) c.in-Ok.ensures.clean c.in-Ok.ensures.opened c.in-Ok.ensures.same kept

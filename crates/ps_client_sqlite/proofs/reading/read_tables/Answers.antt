@@ -2,7 +2,7 @@ use Rattle.std.proofs.Common.{map, subst, ◌∙◌}
 use Rattle.sqlite.specs.Held.{state}
 use Rattle.ps_client_tables.specs.Tables.{Tables}
 use Rattle.ps_client_tables.specs.Lines.{entry_line, queued_line, aim_line, shown_line}
-use Rattle.ps_client_sqlite.specs.Reading.{AreRead}
+use Rattle.ps_client_sqlite.specs.Reading.{Alike, AreCells, AreRead}
 use Rattle.ps_client_sqlite.proofs.Turning.{client_then, tables_then, unchanged_then}
 use Rattle.ps_client_sqlite.proofs.reading.read_tables.Goals as goal
 
@@ -32,7 +32,7 @@ returns-clause-read g c clean client =
     record {
       buckets = c.in_ok-buckets.ensures.read clean1 client;
       entries = subst (λ (t : Tables). AreRead (map entry_line t.entries) c.in_ok-entries.entries) tables1 (c.in_ok-entries.ensures.read clean2 client1);
-      queue = subst (λ (t : Tables). AreRead (map queued_line t.queue) c.in_ok-queue.queue) tables2 (c.in_ok-queue.ensures.read clean3 client2);
+      queue = subst (λ (t : Tables). Alike AreCells (map queued_line t.queue) c.in_ok-queue.queue) tables2 (c.in_ok-queue.ensures.read clean3 client2);
       aim = subst (λ (t : Tables). AreRead (map aim_line t.aim) c.in_ok-aim.aim) tables3 (c.in_ok-aim.ensures.read clean4 client3);
       shown = subst (λ (t : Tables). AreRead (map shown_line t.shown) c.in_ok-shown.shown) tables4 (c.in_ok-shown.ensures.read clean client4);
     }
