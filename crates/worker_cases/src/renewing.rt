@@ -24,17 +24,22 @@ const FIRST: &str = "bucket_definitions:\n  global:\n    data:\n      - SELECT *
 // The next ones: other columns of each row, or each row twice.
 const UPPER: &str =
     "bucket_definitions:\n  global:\n    data:\n      - SELECT id, upper(name) AS name FROM t\n";
+
 const TWICE: &str =
     "bucket_definitions:\n  global:\n    data:\n      - SELECT * FROM t\n      - SELECT id FROM t\n";
 
 // Rows are put by three transactions, the first and the last of which put the same one; or two by one.
 const FIRST_LINE: &str =
     "{\"pos\":\"1\",\"changes\":[{\"op\":\"PUT\",\"table\":\"t\",\"id\":\"a\",\"row\":{\"name\":\"p\"}}]}";
+
 const SECOND_LINE: &str =
     "{\"pos\":\"2\",\"changes\":[{\"op\":\"PUT\",\"table\":\"t\",\"id\":\"b\",\"row\":{\"name\":\"q\"}}]}";
+
 const THIRD_LINE: &str =
     "{\"pos\":\"3\",\"changes\":[{\"op\":\"PUT\",\"table\":\"t\",\"id\":\"a\",\"row\":{\"name\":\"r\"}}]}";
-const BOTH_LINE: &str = "{\"pos\":\"1\",\"changes\":[{\"op\":\"PUT\",\"table\":\"t\",\"id\":\"a\",\"row\":{\"name\":\"p\"}},{\"op\":\"PUT\",\"table\":\"t\",\"id\":\"b\",\"row\":{\"name\":\"q\"}}]}";
+
+const BOTH_LINE: &str =
+    "{\"pos\":\"1\",\"changes\":[{\"op\":\"PUT\",\"table\":\"t\",\"id\":\"a\",\"row\":{\"name\":\"p\"}},{\"op\":\"PUT\",\"table\":\"t\",\"id\":\"b\",\"row\":{\"name\":\"q\"}}]}";
 
 fn feed_line<R: Wait>(
     rt: &R,
