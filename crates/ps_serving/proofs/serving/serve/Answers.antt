@@ -4,6 +4,7 @@ use Rattle.std.proofs.lemmas.Result.{err_from_is_err_and}
 use Rattle.ps_lock.specs.Words.{seen_by}
 use Rattle.ps_serve.specs.declared.sites.Site.{Site}
 use Rattle.ps_store.specs.LedgerLaws.{fed_in}
+use Rattle.ps_workers.specs.Renewing.{AreNext}
 use Rattle.ps_workers.specs.Sharing.{terms_of}
 use Rattle.ps_serving.specs.Openings.{opening}
 use Rattle.ps_serving.specs.Serving.{FilesAt, DoorsAt, SinkAt, ServesFed, terms_by, next_by, site_by, opening_by, most_of}
@@ -65,8 +66,8 @@ returns-clause-serves g c =
     let site : Site = record { keys = c.in_ok-rules.keys; until_drained = said.until_drained } in
     let start = seen_by c.in_ok-lock.seat in
     let terms_is : terms_of c.in_ok-lock.lock ≡ terms_by inputs = c.in_ok-lock.ensures.terms in
-    let next = c.next_after.result in
-    let next_is : next ≡ next_by said inputs = c.next_after.ensures in
+    let next = c.next_after-next.result in
+    let next_is : next ≡ next_by said inputs = c.next_after-next.ensures in
     let site_is : site ≡ site_by said inputs = cc in
     let start_is : start ≡ opening_by said inputs = c.in_ok-lock.ensures.seen in
     let given : ServesFed (terms_of c.in_ok-lock.lock) next site may_give start c.pace_of.result.most mid doors' out1 out' c.serve_fed.result = search rules in
@@ -90,5 +91,8 @@ serve_fed-requires-clause-fed g c =
 pub serve_fed-requires-clause-next : goal.serve_fed-requires-clause-next
 serve_fed-requires-clause-next g c =
     let inputs = c.in_ok-rules.field-0 in
+    let next = c.next_after-next.result in
     let terms_is : terms_of c.in_ok-lock.lock ≡ terms_by inputs = c.in_ok-lock.ensures.terms in
-    rw (c.next_after.ensures, terms_is) (are_next c.args.words.now.next_after inputs.rules inputs.next)
+    let next_is : next ≡ next_by c.args.words.now inputs = c.next_after-next.ensures in
+    let given : AreNext (terms_of c.in_ok-lock.lock) next = rw (next_is, terms_is) (are_next c.args.words.now.next_after inputs.rules inputs.next) in
+    search rules
