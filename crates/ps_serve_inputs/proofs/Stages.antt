@@ -1,5 +1,5 @@
 -- What stops the reading of one file after others.
-use Rattle.std.proofs.Common.{◌≡◌, ℕ, ◌≤◌, List, Option, Result, Err, Vec, arith, inl, inr, subst}
+use Rattle.std.proofs.Common.{◌≡◌, ℕ, ◌≤◌, List, Option, Err, Vec, arith, inl, inr, subst}
 use Rattle.std.specs.declared.alloc.Global.{Global}
 use Rattle.ps_io.specs.Contents.{Contents}
 use Rattle.ps_files.specs.declared.faults.Fault.{Fault}

@@ -21,7 +21,6 @@ use Rattle.ps_files.specs.declared.faults.Limit.TheVariants.{LineBytes, Entries,
 use Rattle.ps_files.specs.ChangeFiles.{operations_of, passed_by, first_passed, first_of}
 use Rattle.ps_files.specs.ReadingChanges.{usual}
 use Rattle.ps_files.proofs.Pending.{take_on, known, passes_entries, passes_ops}
-use Rattle.ps_workers.specs.declared.shared.Terms.{Terms}
 use Rattle.ps_workers.specs.Terms.{DeploysOnly}
 use Rattle.ps_serving.specs.Serving.{DoorsAt, HasRun, IsPast}
 use Rattle.ps_serving.proofs.Closing.{legal_front, written_both}
@@ -182,12 +181,12 @@ module _ (tells : LedgersTellHistories) (one : LedgersTellOneGeneration) (feeds 
   limit_passed (LineBytes count) past = absurd past
   limit_passed (Entries count) past = elim past [
     | inl own ↦ (let why = own.refused in
-    next_decides why.0 why.1 (Entries count) why.2
-    (passes_entries rules (take l.written (timed l.fed)) l (known rules l (one rules run.seen legal plain)) why.0 why.3 ∙ ap (λ n. Some (Entries n)) (sym why.6)))
+        next_decides why.0 why.1 (Entries count) why.2
+        (passes_entries rules (take l.written (timed l.fed)) l (known rules l (one rules run.seen legal plain)) why.0 why.3 ∙ ap (λ n. Some (Entries n)) (sym why.6)))
     | inr taken ↦ absurd (let wrong : false ≡ true = taken.0 in cc)
   ]
   limit_passed (Operations id) past = elim past.2 [
     | inl why ↦ next_decides why.0 why.1 (Operations id) why.2
-    (passes_ops rules (take l.written (timed l.fed)) l (known rules l (one rules run.seen legal plain)) why.0 why.3 why.4 ∙ ap (λ n. Some (Operations n)) (sym why.5 ∙ past.1))
+        (passes_ops rules (take l.written (timed l.fed)) l (known rules l (one rules run.seen legal plain)) why.0 why.3 why.4 ∙ ap (λ n. Some (Operations n)) (sym why.5 ∙ past.1))
     | inr taken ↦ absurd (let wrong : false ≡ true = taken.0 in cc)
   ]

@@ -140,23 +140,27 @@ module _ (tells : LedgersTellHistories) (generation : LedgersTellOneGeneration) 
       let l = ledger_of inputs.rules run.seen in
       let such = has_such_changes run alone in
       elim past [
-        | inl own ↦ (let why = own.refused in
-        (why.6, record {
-          rules = l.force.rules;
-          of_either = such.rules;
-          change = why.0;
-          of_file = (subst (AllByRecursion OfFile) why.2 (all_left OfFile l.written (timed l.fed) such.fed)).0;
-          wide = why.3;
-        }))
+        | inl own ↦ (let why = own.refused in (
+          why.6,
+          record {
+            rules = l.force.rules;
+            of_either = such.rules;
+            change = why.0;
+            of_file = (subst (AllByRecursion OfFile) why.2 (all_left OfFile l.written (timed l.fed) such.fed)).0;
+            wide = why.3;
+          },
+        ))
         | inr taken ↦ (let why = taken.1.refused in
-        let coming : IsSuch OfFile OfEither why.coming = subst (λ (o : Option Coming). IfSome o (IsSuch OfFile OfEither)) why.is_built such.coming in
-        (why.count_is, record {
-          rules = why.coming.lane.rules;
-          of_either = coming.rules;
-          change = why.next;
-          of_file = (subst (AllByRecursion OfFile) why.queue coming.queue).0;
-          wide = why.wide;
-        }))
+            let coming : IsSuch OfFile OfEither why.coming = subst (λ (o : Option Coming). IfSome o (IsSuch OfFile OfEither)) why.is_built such.coming in (
+              why.count_is,
+              record {
+                rules = why.coming.lane.rules;
+                of_either = coming.rules;
+                change = why.next;
+                of_file = (subst (AllByRecursion OfFile) why.queue coming.queue).0;
+                wide = why.wide;
+              },
+            ))
       ]
 
   -- the next rules came, where the change file has as many transactions as they wait for
@@ -168,7 +172,7 @@ module _ (tells : LedgersTellHistories) (generation : LedgersTellOneGeneration) 
       let committed : committed_of l ≡ length l.fed = all_committed l rises drained.committed in
       let all : length l.fed ≡ length (inputs.transactions.items ++ fed_in run.later.0) = ap length ((feeds inputs.rules run.seen).fed ∙ fed_seen run) in
       let came : has_deploy run.seen ≡ true = came_due inputs.rules inputs.next said.next_after run.seen due some
-          (omega (arith, enough, committed, all, length-append inputs.transactions.items (fed_in run.later.0))) in
+      (omega (arith, enough, committed, all, length-append inputs.transactions.items (fed_in run.later.0))) in
       ap has_deploy (sym run.earlier.1) ∙ deploy_front run.seen run.earlier.0 came
 
   fails_later : HasDrained (terms_by inputs) start doors doors' → Fails may_give said files files' doors doors' out out'
