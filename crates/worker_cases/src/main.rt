@@ -9,6 +9,9 @@
 //! compact each log that has grown by AT operations, until its bell is closed; closes the feed; and has a writer and a compactor drain the store. It says how each of
 //! the four ended, how many events the seat has seen, and what is counted then.
 //!
+//! `longest COUNT LIMIT` feeds so many made transactions and writes them in batches, and says how many turns wrote and the most changes and operations that one of them
+//! wrote; and how many turns read the log of the first made bucket, and the most operations that one of them read.
+//!
 //! Of the counters and diaries of `lock_tests`: `counter sees MOST AMOUNT` has a first seat add the amount to a counter that does not pass MOST, and says whether it
 //! did, what it and a second one have seen then, what the second has seen after a turn of its own, and what is kept; `counter four MOST TIMES` has four threads add
 //! 1 so many times each; `counter fits MOST ONE TWO` adds both amounts by one seat, and `counter adds MOST ONE TWO` by two threads; `counter joins MOST ONE TWO`
@@ -16,14 +19,20 @@
 //! TEXT` notes the number, remarks the text, and says what is seen and which numbers are kept.
 //!
 //! `turns SEATS TURNS` takes so many turns of each seat at a lock round a counter, all seats at once, each in a thread of its own; `wait SEATS MILLISECONDS` has one
-//! seat sleep so long in its turn while the others wait, and then lets each have one turn. Both say what was counted, and `bench/lock` times them. A line that begins
-//! with `#` is a heading.
+//! seat sleep so long in its turn while the others wait, and then lets each have one turn. Both say what was counted, and `bench/lock` times them.
+//!
+//! `beside STREAMS COUNT BATCH` feeds so many made transactions and has a writer write and commit them in batches while so many streams of the seven made users read
+//! them, each in a thread of its own; it says how many turns the writer took, and how many operations each stream read. `times STREAMS COUNT BATCH`, which only
+//! `bench/turns` asks for, does the same and says how long the turns lasted. A line that begins with `#` is a heading.
 #![tactic(auto)]
 
+mod beside;
 mod counters;
 mod diaries;
+mod longest;
 mod stores;
 mod threads;
+mod timed;
 mod turns;
 mod workers;
 
@@ -51,6 +60,17 @@ fn write_counts<R: Threads + Wait + Sync>(
     stores::write_store(alloc, &store, out)
 }
 
+fn write_longest<R: Wait>(rt: &R, alloc: Global, rest: &str, out: &mut String) -> Result<(), Stop> {
+    let (count, limit) = cut(rest);
+    longest::write_longest(
+        rt,
+        alloc,
+        short_number_in(count)?,
+        short_number_in(limit)?,
+        out,
+    )
+}
+
 fn write_drained<R: Wait>(rt: &R, alloc: Global, rest: &str, out: &mut String) -> Result<(), Stop> {
     let (count, rest) = cut(rest);
     let (batch, at) = cut(rest);
@@ -73,10 +93,12 @@ fn write_answer<R: Threads + Wait + Clock + Sync>(
         "seats" => threads::write_seats(rt, alloc, out),
         "requests" => threads::write_requests(rt, alloc, out),
         "four" | "alone" => write_counts(rt, alloc, word, rest, out),
+        "longest" => write_longest(rt, alloc, rest, out),
         "drain" => write_drained(rt, alloc, rest, out),
         "counter" => counters::write_case(rt, alloc, rest, out),
         "diary" => diaries::write_diary(rt, alloc, rest, out),
         "turns" | "wait" => turns::write_count(rt, alloc, word, rest, out),
+        "beside" | "times" => beside::write_case(rt, alloc, word, rest, out),
         _ => Ok(out.push_str(line)?),
     }
 }

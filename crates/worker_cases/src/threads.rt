@@ -22,7 +22,8 @@ use std::alloc::Global;
 use std::sync::Wait;
 use std::thread::{Threads, join};
 
-fn feed_all<R: Wait>(
+/// Feeds transactions.
+pub fn feed_all<R: Wait>(
     rt: &R,
     alloc: Global,
     lock: &StoreLock<Store>,
