@@ -10,4 +10,4 @@ use Rattle.worker_cases.proofs.beside.work_beside.Goals as goal
 
 pub map_vec-requires-send-J : goal.map_vec-requires-send-J
 map_vec-requires-send-J g c κs within =
-    search (sendable, crosses, store_send, seats.the_send, seats.the_field_send, locks.the_sync, rings.the_sync, jobs.the_field_send) depth 40
+    search (sendable, crosses, store_send, seats.the_field_send, locks.the_sync, rings.the_sync, jobs.the_field_send) depth 40
