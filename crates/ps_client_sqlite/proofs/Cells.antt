@@ -1,9 +1,12 @@
 -- The values of cells that were read.
-use Rattle.std.proofs.Common.{◌≡◌, ℕ, List, [], ◌∷◌, ◌++◌, map, refl, ap, subst, ◌∙◌}
+use Rattle.std.proofs.Common.{◌≡◌, ◌≢◌, ℕ, zero, suc, ◌<◌, List, [], ◌∷◌, ◌++◌, map, length, get_or, Greater, refl, sym, ap, subst, ◌∙◌, arith}
 use Rattle.std.specs.List.{AllByRecursion}
 use Rattle.sqlite_value.specs.declared.value.Value.{Value}
 use Rattle.sqlite_value.specs.declared.value.Value.TheVariants as value
-use Rattle.sqlite_value.specs.Order.{Row}
+use Rattle.sqlite_value.specs.Order.{Row, column, value_cmp}
+use Rattle.sqlite_value.proofs.OrderLemmas.{value_cmp-Text}
+use Rattle.ps_client_tables.specs.Lines.{AreInOrder as AreSorted}
+use Rattle.ps_client_lines.specs.Refusing.{AreInOrder}
 use Rattle.ps_client_log.specs.declared.states.BucketState.{BucketState}
 use Rattle.ps_client_log.specs.declared.states.Held.{Held}
 use Rattle.ps_client_log.specs.declared.states.Target.{Target}
@@ -97,3 +100,32 @@ unfolding value_of IsPlain
 aim_is Free row all = values_are row _ all (tt, (tt, (tt, tt)))
 aim_is Pending row all = values_are row _ all (tt, (tt, (tt, tt)))
 aim_is (Number number) row all = values_are row _ all (tt, (tt, (tt, tt)))
+
+-- ---- the order of rows that were read
+
+alike_count : {X Y : Type 0} (R : X → Y → Type 0) (xs : List X) (ys : List Y) → Alike R xs ys → length xs ≡ length ys
+alike_count R [] [] all = refl
+alike_count R [] (y ∷ ys) all = absurd all
+alike_count R (x ∷ xs) [] all = absurd all
+alike_count R (x ∷ xs) (y ∷ ys) all = ap suc (alike_count R xs ys all.1)
+
+alike_at : {X Y : Type 0} (R : X → Y → Type 0) (xs : List X) (ys : List Y) (k : ℕ) (x : X) (y : Y) → Alike R xs ys → k < length ys → R (get_or xs k x) (get_or ys k y)
+alike_at R xs [] k x y all within = absurd (omega arith)
+alike_at R [] (b ∷ ys) k x y all within = absurd all
+alike_at R (a ∷ xs) (b ∷ ys) zero x y all within = all.0
+alike_at R (a ∷ xs) (b ∷ ys) (suc k) x y all within = alike_at R xs ys k x y all.1 (omega arith)
+
+-- a row whose first cell is a text begins with that text
+first_text : (row : Row) (text : List ℕ) (more : List Cell) → AreCells row (Text text ∷ more) → column row 0 ≡ value.Text text
+first_text [] text more all = absurd all
+first_text (v ∷ row) text more all = all.0.0
+
+-- cells of rows in order stand in order
+pub cells_in_order : (rows : List Row) (cells : List (List Cell)) → Alike AreCells rows cells → AreSorted rows → AreInOrder cells
+cells_in_order rows cells all sorted i j d before within first second x y is other =
+    let inside : i < length cells = omega arith in
+    let a = first_text (get_or rows i []) first x (subst (AreCells (get_or rows i [])) is (alike_at AreCells rows cells i [] d all inside)) in
+    let b = first_text (get_or rows j []) second y (subst (AreCells (get_or rows j [])) other (alike_at AreCells rows cells j [] d all within)) in
+    let up = sorted i j [] before (subst (λ n. j < n) (sym (alike_count AreCells rows cells all)) within) in
+    subst (λ o. o ≢ Greater) (value_cmp-Text first second)
+    (subst (λ v. value_cmp (value.Text first) v ≢ Greater) b (subst (λ v. value_cmp v (column (get_or rows j []) 0) ≢ Greater) a up))

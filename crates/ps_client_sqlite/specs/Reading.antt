@@ -8,6 +8,7 @@ use Rattle.ps_client_tables.specs.Lines.{bucket_line, entry_line, queued_line, a
 use Rattle.ps_client_lines.specs.declared.cells.Cell.{Cell}
 use Rattle.ps_client_lines.specs.declared.cells.Cell.TheVariants.{Int, Text, Other}
 use Rattle.ps_client_lines.specs.declared.rows.Rows.{Rows}
+use Rattle.ps_client_lines.specs.Refusing.{AreInOrder}
 
 -- two lists are as long, and what stands at each place of them is alike
 abbrev pub Alike : {X Y : Type 0} → (X → Y → Type 0) → List X → List Y → Type 0
@@ -35,10 +36,12 @@ pub record AreRead (lines : List Row) (rows : List (List Cell)) : Type 0 where
   pub same : IsPermutation lines read
   pub cells : Alike AreCells read rows
 
--- these are the rows of all tables; the local writes stand in the order of their numbers
+-- these are the rows of all tables; buckets and entries stand in the order of their first column, local writes in that of their numbers
 pub record AreTablesRead (tables : Tables) (rows : Rows) : Type 0 where
   pub buckets : AreRead (map bucket_line tables.buckets) rows.buckets
   pub entries : AreRead (map entry_line tables.entries) rows.entries
   pub queue : Alike AreCells (map queued_line tables.queue) rows.queue
   pub aim : AreRead (map aim_line tables.aim) rows.aim
   pub shown : AreRead (map shown_line tables.shown) rows.shown
+  pub buckets_stand : AreInOrder rows.buckets
+  pub entries_stand : AreInOrder rows.entries

@@ -12,6 +12,7 @@ ghost use Rattle.ps_client_sqlite.specs.Stored.{Stored, Holds};
 ghost use Rattle.ps_client_sqlite.specs.Stating.{stored_of};
 ghost use Rattle.ps_client_log.specs.Soundness.{IsSoundState};
 ghost use Rattle.ps_client_lines.specs.Holding.{AreQueued, AreRising};
+ghost use Rattle.ps_client_lines.specs.Refusing.{AreInOrder};
 ghost use Rattle.ps_client_sqlite.specs.Steps.{Kept};
 ghost use Rattle.ps_client_sqlite.specs.Reading.{Alike, AreCells, IsCell, AreRead, AreTablesRead};
 ghost use Rattle.ps_client_sqlite.specs.Opening.{NamesNone, IsFaultOf, IsOpenWhereNamed};
@@ -89,6 +90,7 @@ fn bucket_rows<S: Alter>(
     conn: &mut Connection<S>,
 ) -> Result<Items<Items<Cell>>, StoreFault>
     ensures read { HasCleanDisk (state S.Store conn.new) → IsClient (state S.Store conn.old) → IfOk result (AreRead (map bucket_line (tables_of (state S.Store conn.old)).buckets)) }
+    ensures stand { HasCleanDisk (state S.Store conn.new) → IsClient (state S.Store conn.old) → IfOk result AreInOrder }
     ensures same { HasCleanDisk (state S.Store conn.new) → IsClient (state S.Store conn.old) → OnOk result (IsUnchanged (state S.Store conn.old) (state S.Store conn.new)) }
     ensures opened { HasCleanDisk (state S.Store conn.new) → OnOk result (IsTrue (state S.Store conn.old).is_open) }
     ensures clean { HasCleanDisk (state S.Store conn.new) → HasCleanDisk (state S.Store conn.old) }
@@ -111,6 +113,7 @@ fn entry_rows<S: Alter>(
     conn: &mut Connection<S>,
 ) -> Result<Items<Items<Cell>>, StoreFault>
     ensures read { HasCleanDisk (state S.Store conn.new) → IsClient (state S.Store conn.old) → IfOk result (AreRead (map entry_line (tables_of (state S.Store conn.old)).entries)) }
+    ensures stand { HasCleanDisk (state S.Store conn.new) → IsClient (state S.Store conn.old) → IfOk result AreInOrder }
     ensures same { HasCleanDisk (state S.Store conn.new) → IsClient (state S.Store conn.old) → OnOk result (IsUnchanged (state S.Store conn.old) (state S.Store conn.new)) }
     ensures opened { HasCleanDisk (state S.Store conn.new) → OnOk result (IsTrue (state S.Store conn.old).is_open) }
     ensures clean { HasCleanDisk (state S.Store conn.new) → HasCleanDisk (state S.Store conn.old) }

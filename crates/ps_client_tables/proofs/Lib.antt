@@ -8,3 +8,4 @@ pub mod OnTables
 pub mod Reading
 pub mod Anew
 pub mod Creating
+pub mod InOrder

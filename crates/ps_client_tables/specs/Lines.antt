@@ -1,6 +1,8 @@
 -- What the texts that read show of a row: the columns of its table, in order.
-use Rattle.std.specs.Prelude.{[], ◌∷◌}
-use Rattle.sqlite.specs.Order.{Row, column}
+use Rattle.std.specs.Prelude.{◌≢◌, List, [], ◌∷◌}
+use Rattle.std.specs.List.{AllPairs}
+use Rattle.std.specs.declared.cmp.Ordering.TheVariants.{Greater}
+use Rattle.sqlite.specs.Order.{Row, column, value_cmp}
 
 abbrev pub bucket_line : Row → Row
 bucket_line kept = column kept 1 ∷ column kept 2 ∷ column kept 3 ∷ []
@@ -17,3 +19,7 @@ aim_line kept = column kept 0 ∷ column kept 2 ∷ column kept 3 ∷ []
 
 abbrev pub shown_line : Row → Row
 shown_line kept = column kept 1 ∷ column kept 2 ∷ column kept 3 ∷ []
+
+-- no row's first column is past that of a row behind it
+abbrev pub AreInOrder : List Row → Type 0
+AreInOrder rows = AllPairs (λ a b. value_cmp (column a 0) (column b 0) ≢ Greater) rows

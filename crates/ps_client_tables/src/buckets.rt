@@ -5,7 +5,7 @@ ghost use Rattle.sqlite.specs.Held.{state};
 ghost use Rattle.sqlite.specs.State.{HasCleanDisk, IsUnchanged, KeepsCommit, Survives};
 ghost use Rattle.ps_data.specs.Numbers.{greatest};
 ghost use Rattle.ps_client_tables.specs.Tables.{put_bucket, drop_bucket};
-ghost use Rattle.ps_client_tables.specs.Lines.{bucket_line};
+ghost use Rattle.ps_client_tables.specs.Lines.{bucket_line, AreInOrder};
 ghost use Rattle.ps_client_tables.specs.Steps.{IsClient, IsInside, IsLeft, Turns, tables_of};
 
 use crate::running::{run, signed};
@@ -51,6 +51,7 @@ pub fn drop_bucket<S: Alter>(tx: &mut Transaction<'_, S>, name: &Text) -> Result
 pub fn read_buckets<S: Alter>(conn: &mut Connection<S>) -> Result<Vec<Row>, Error>
     ensures read { HasCleanDisk (state S.Store conn.new) → IsClient (state S.Store conn.old)
         → IfOk result (λ rows. IsPermutation (map bucket_line (tables_of (state S.Store conn.old)).buckets) rows.items) }
+    ensures sorted { HasCleanDisk (state S.Store conn.new) → IsClient (state S.Store conn.old) → IfOk result (λ rows. AreInOrder rows.items) }
     ensures same { HasCleanDisk (state S.Store conn.new) → IsClient (state S.Store conn.old)
         → OnOk result (IsUnchanged (state S.Store conn.old) (state S.Store conn.new)) }
     ensures refused { HasCleanDisk (state S.Store conn.new) → OnErr result (IsLeft (state S.Store conn.old) (state S.Store conn.new)) }

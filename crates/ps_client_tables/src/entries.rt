@@ -5,7 +5,7 @@ ghost use Rattle.sqlite.specs.Held.{state};
 ghost use Rattle.sqlite.specs.State.{HasCleanDisk, IsUnchanged, KeepsCommit, Survives};
 ghost use Rattle.ps_data.specs.Numbers.{greatest};
 ghost use Rattle.ps_client_tables.specs.Tables.{put_entry, drop_entry};
-ghost use Rattle.ps_client_tables.specs.Lines.{entry_line};
+ghost use Rattle.ps_client_tables.specs.Lines.{entry_line, AreInOrder};
 ghost use Rattle.ps_client_tables.specs.Steps.{IsClient, IsInside, IsLeft, Turns, tables_of};
 
 use crate::running::{run, signed};
@@ -71,6 +71,7 @@ pub fn drop_entry<S: Alter>(
 pub fn read_entries<S: Alter>(conn: &mut Connection<S>) -> Result<Vec<Row>, Error>
     ensures read { HasCleanDisk (state S.Store conn.new) → IsClient (state S.Store conn.old)
         → IfOk result (λ rows. IsPermutation (map entry_line (tables_of (state S.Store conn.old)).entries) rows.items) }
+    ensures sorted { HasCleanDisk (state S.Store conn.new) → IsClient (state S.Store conn.old) → IfOk result (λ rows. AreInOrder rows.items) }
     ensures same { HasCleanDisk (state S.Store conn.new) → IsClient (state S.Store conn.old)
         → OnOk result (IsUnchanged (state S.Store conn.old) (state S.Store conn.new)) }
     ensures refused { HasCleanDisk (state S.Store conn.new) → OnErr result (IsLeft (state S.Store conn.old) (state S.Store conn.new)) }

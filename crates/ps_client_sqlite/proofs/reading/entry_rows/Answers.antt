@@ -3,6 +3,7 @@ use Rattle.sqlite.specs.Order.{Row}
 use Rattle.ps_client_sqlite.specs.Reading.{Alike, AreCells}
 use Rattle.sqlite.specs.Held.{state}
 use Rattle.ps_client_sqlite.proofs.Turning.{kept_unchanged, kept_left}
+use Rattle.ps_client_sqlite.proofs.Cells.{cells_in_order}
 use Rattle.ps_client_sqlite.proofs.reading.entry_rows.Goals as goal
 
 pub returns-in_ok-all-in-Ok-clause-read : goal.returns-in_ok-all-in-Ok-clause-read
@@ -17,3 +18,7 @@ returns-in_err-all-in-Ok-clause-kept g c stored kept = kept_unchanged stored (st
 
 pub returns-in-Err-clause-kept : goal.returns-in-Err-clause-kept
 returns-in-Err-clause-kept g c stored kept = kept_left stored (state g.S.Store c.args.conn.now) (state g.S.Store c.read_entries.new.conn) c.in-Err.ensures.clean c.in-Err.ensures.refused kept
+
+pub returns-in_ok-all-in-Ok-clause-stand : goal.returns-in_ok-all-in-Ok-clause-stand
+returns-in_ok-all-in-Ok-clause-stand g c clean client =
+    cells_in_order c.in-Ok.rows.items c.in_ok-all-in-Ok.all (subst (λ (rows : List Row). Alike AreCells rows c.in_ok-all-in-Ok.all) c.as_slice.ensures.value c.in_ok-all-in-Ok.ensures) (c.in-Ok.ensures.sorted clean client)

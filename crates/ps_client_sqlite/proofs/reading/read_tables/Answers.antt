@@ -35,6 +35,8 @@ returns-clause-read g c clean client =
       queue = subst (λ (t : Tables). Alike AreCells (map queued_line t.queue) c.in_ok-queue.queue) tables2 (c.in_ok-queue.ensures.read clean3 client2);
       aim = subst (λ (t : Tables). AreRead (map aim_line t.aim) c.in_ok-aim.aim) tables3 (c.in_ok-aim.ensures.read clean4 client3);
       shown = subst (λ (t : Tables). AreRead (map shown_line t.shown) c.in_ok-shown.shown) tables4 (c.in_ok-shown.ensures.read clean client4);
+      buckets_stand = c.in_ok-buckets.ensures.stand clean1 client;
+      entries_stand = c.in_ok-entries.ensures.stand clean2 client1;
     }
 
 pub returns-clause-same : goal.returns-clause-same
