@@ -3,6 +3,8 @@ pub mod Spelling
 pub mod Causes
 pub mod Exactness
 pub mod Missed
+pub mod Nexts
+pub mod Readings
 pub mod Replays
 pub mod Summaries
 pub mod Verdicts

@@ -1,5 +1,5 @@
 -- Why `replay` ends as it does.
-use Rattle.std.proofs.Common.{inl, inr, ◌≡◌, ℕ, ◌≤◌, List, ◌∷◌, Option, Some, None, Result, Ok, Err, refl, sym, subst, Vec, Bor}
+use Rattle.std.proofs.Common.{inr, ◌≡◌, ℕ, ◌≤◌, List, ◌∷◌, Option, Some, None, Result, Ok, Err, refl, sym, ap, subst, Vec, Bor}
 use Rattle.std.specs.declared.alloc.Global.{Global}
 use Rattle.ps_io.specs.Contents.{Contents}
 use Rattle.ps_rows.specs.declared.changes.Transaction.{Transaction}
@@ -12,11 +12,15 @@ use Rattle.ps_files.specs.declared.faults.Fault.TheVariants.{Usage, Rules, Chang
 use Rattle.ps_files.specs.declared.faults.ScriptCause.{ScriptCause}
 use Rattle.ps_files.specs.declared.faults.ScriptCause.TheVariants.{BadEvent, UnknownClient, WrongPhase}
 use Rattle.ps_files.specs.HeldFiles.{file_limit, rules_limit, HoldsWithin}
-use Rattle.ps_commands.specs.Commands.{Scripting, replay, command_of, name_of, ReadsRules, ReadsNext, FindsNext, LoadsNext, ReadsTransactions, ReadsAllRules, ReadsRulesAndChanges, ReadsGame, for_next, for_changes, for_script, Reaches, Outside, Kept, Caused, Outcome}
 use Rattle.ps_files.specs.Loading.{Loads, IsContent, IsNextFault, RefusesNothing}
 use Rattle.ps_files.specs.ReadingAll.{FindsTransactions, IsTransactionsFault}
-use Rattle.ps_commands.specs.Replaying.{Game, fixed_of, start_of, script_fault, PlaysOut, stopped_by}
-use Rattle.ps_commands.proofs.Causes.{cause_of, next_refused}
+use Rattle.ps_commands.specs.Commands.{Scripting, replay, command_of, name_of, for_next, for_changes, for_script, BeginsWithin}
+use Rattle.ps_commands.specs.Meanings.{plays}
+use Rattle.ps_commands.specs.Causes.{Means, Outside, Kept, Caused, Outcome}
+use Rattle.ps_commands.specs.Replaying.{Game, fixed_of, start_of, script_fault, PlaysOut, stopped_by, FindsNext, LoadsNext}
+use Rattle.ps_commands.proofs.Readings.{ReadsRules, ReadsNext, ReadsTransactions}
+use Rattle.ps_commands.proofs.Nexts.{means, next_left, all_left, at_next, at_fed, at_script}
+use Rattle.ps_commands.proofs.Causes.{cause_of, next_refused, all_refused}
 
 -- ---- a script
 
@@ -53,63 +57,57 @@ stops game number scripts.Memory out s = stopped_early game number scripts.Memor
 
 -- ---- files
 
-module _ (o : Outside) (words : List (List ℕ)) (names : Scripting) (is : command_of words ≡ Some (replay names)) where
+module _ (o : Outside) (words : List (List ℕ)) (names : Scripting) (is : command_of words ≡ Some (replay names)) (rules : RuleSet) (r : ReadsRules o.held names.rules rules) where
   -- the file of the next rules
-  pub cause_of_next : Kept o → (rules : RuleSet) → ReadsRules o.held names.rules rules → (file : Option (Bor (List ℕ))) → names.next ≡ name_of file → (mid_held : Option Contents) (mid : ℕ) (fault : Fault)
+  pub cause_of_next : Kept o → (file : Option (Bor (List ℕ))) → names.next ≡ name_of file → (mid_held : Option Contents) (mid : ℕ) (fault : Fault)
       → mid_held ≡ o.held → o.read_before ≤ mid → LoadsNext mid_held file mid o.read_now (Err fault) → Caused o words fault
-  cause_of_next kept rules rules_read None own mid_held mid fault same risen h = absurd h
-  cause_of_next kept rules rules_read (Some file) own mid_held mid fault same risen h =
-      let reached : Reaches o.held words for_next file.now = record { command = replay names; is = is; comes = (own, rules, rules_read) } in
-      cause_of o mid_held mid words for_next file.now same risen kept reached FindsNext IsNextFault (next_refused o words file.now kept reached) fault h
+  cause_of_next kept None own mid_held mid fault same risen h = absurd h
+  cause_of_next kept (Some file) own mid_held mid fault same risen h =
+      cause_of o mid_held mid words for_next file.now same risen kept (at_next o.held words names is rules r file.now own) FindsNext IsNextFault
+      (λ fault bytes refuses given. ap (next_left rules given) (next_refused {A = Option RuleSet} (λ next. Ok (Some next)) fault bytes refuses)) fault h
 
-  module _ (kept : Kept o) (before : ReadsAllRules o.held names) where
-    pub fed_refused : (fault : Fault) (bytes : List ℕ) → HoldsWithin o.held names.changes file_limit bytes → IsTransactionsFault fault bytes → Caused o words fault
-    fed_refused Usage bytes file h = absurd h
-    fed_refused (Rules which line column why) bytes file h = absurd h
-    fed_refused (Change line why) bytes file h = (kept, inr (inr (inl (record { names = names; is = is; before = before; bytes = bytes; file = file; refused = h }))))
-    fed_refused (PastLimit limit) bytes file h = (kept, inr (inr (inl (record { names = names; is = is; before = before; bytes = bytes; file = file; refused = h }))))
-    fed_refused (TooManyBuckets count) bytes file h = absurd h
-    fed_refused Claims bytes file h = absurd h
-    fed_refused Keys bytes file h = absurd h
-    fed_refused (TooLong seen) bytes file h = absurd h
-    fed_refused (CannotRead other) bytes file h = absurd h
-    fed_refused CannotWrite bytes file h = absurd h
-    fed_refused (Script place cause) bytes file h = absurd h
-    fed_refused Memory bytes file h = absurd h
-
-    pub cause_of_fed : (mid_held : Option Contents) (mid : ℕ) (fault : Fault) → mid_held ≡ o.held → o.read_before ≤ mid
+  module _ (next : Option RuleSet) (n : ReadsNext o.held names.next next) where
+    pub cause_of_fed : Kept o → (mid_held : Option Contents) (mid : ℕ) (fault : Fault) → mid_held ≡ o.held → o.read_before ≤ mid
         → Loads {X = Vec Transaction Global} mid_held names.changes file_limit mid o.read_now FindsTransactions IsTransactionsFault (Err fault) → Caused o words fault
-    cause_of_fed mid_held mid fault same risen h =
-        let reached : Reaches o.held words for_changes names.changes = record { command = replay names; is = is; comes = (refl, before) } in
-        cause_of o mid_held mid words for_changes names.changes same risen kept reached FindsTransactions IsTransactionsFault fed_refused fault h
+    cause_of_fed kept mid_held mid fault same risen h =
+        cause_of o mid_held mid words for_changes names.changes same risen kept (at_fed o.held words names is rules r next n) FindsTransactions IsTransactionsFault
+        (λ fault bytes refuses given. all_refused (λ transactions. all_left rules next given (Ok transactions)) fault bytes refuses) fault h
 
-    module _ (transactions : List Transaction) (changes_read : ReadsTransactions o.held names.changes transactions) where
-      pub cause_of_script : (mid_held : Option Contents) (mid : ℕ) (fault : Fault) → mid_held ≡ o.held → o.read_before ≤ mid
+    module _ (transactions : List Transaction) (t : ReadsTransactions o.held names.changes transactions) where
+      pub cause_of_script : Kept o → (mid_held : Option Contents) (mid : ℕ) (fault : Fault) → mid_held ≡ o.held → o.read_before ≤ mid
           → Loads {X = Vec ℕ Global} mid_held names.script file_limit mid o.read_now IsContent RefusesNothing (Err fault) → Caused o words fault
-      cause_of_script mid_held mid fault same risen h =
-          let source : ReadsRulesAndChanges o.held names = record { before = before; transactions = transactions; changes_read = changes_read } in
-          let reached : Reaches o.held words for_script names.script = record { command = replay names; is = is; comes = (refl, source) } in
-          cause_of o mid_held mid words for_script names.script same risen kept reached IsContent RefusesNothing (λ fault bytes file no. absurd no) fault h
+      cause_of_script kept mid_held mid fault same risen h =
+          cause_of o mid_held mid words for_script names.script same risen kept (at_script o.held words names is rules r next n transactions t) IsContent RefusesNothing
+          (λ fault bytes no given. absurd no) fault h
 
-  -- what is played is the outcome
-  module _ (game : Game) (read : ReadsGame o.held names game) where
-    abbrev out_of : Output
-    out_of = record { old = o.taken_before; new = o.taken_now; before = o.write_before; now = o.write_now }
+      -- what is played is the outcome
+      module _ (script : List ℕ) (s : HoldsWithin o.held names.script file_limit script) where
+        abbrev out_of : Output
+        out_of = record { old = o.taken_before; new = o.taken_now; before = o.write_before; now = o.write_now }
 
-    pub played : (r : Result (Unit {0}) Fault) → PlaysOut game out_of r → Outcome o words r
-    played (Ok done) p = record { command = replay names; is = is; text = p.0; means = record { game = game; read = read; gives = p.1 }; printed = p.2 }
-    played (Err Usage) p = absurd p
-    played (Err (Rules which line column why)) p = absurd p
-    played (Err (Change line why)) p = absurd p
-    played (Err (PastLimit limit)) p = absurd p
-    played (Err (TooManyBuckets count)) p = absurd p
-    played (Err Claims) p = absurd p
-    played (Err Keys) p = absurd p
-    played (Err (TooLong seen)) p = absurd p
-    played (Err (CannotRead name)) p = absurd p
-    played (Err CannotWrite) p = (record { command = replay names; is = is; text = p.0; means = record { game = game; read = read; gives = p.1 }; printed = p.2 }, p.3)
-    played (Err (Script line why)) p = record { names = names; is = is; game = game; read = read; text = p.0; gives = p.1; printed = p.2 }
-    played (Err Memory) p = inr (record { names = names; is = is; text = p.0; begins = record { game = game; read = read; gives = p.1 }; printed = p.2 })
+        abbrev played_game : Game
+        played_game = record { rules = rules; next = next; transactions = transactions; script = script }
+
+        game_meant : Means o.held words (Ok (plays played_game))
+        game_meant = means o.held words for_script names.script (at_script o.held words names is rules r next n transactions t) script s (Ok (plays played_game)) (λ given. refl)
+
+        begins_so : BeginsWithin o.held words
+        begins_so = (replay names, is, (r.bytes, r.file))
+
+        pub played : (result : Result (Unit {0}) Fault) → PlaysOut played_game out_of result → Outcome o words result
+        played (Ok done) p = record { meant = plays played_game; means = game_meant; text = p.0; says = p.1; printed = p.2 }
+        played (Err Usage) p = absurd p
+        played (Err (Rules which line column why)) p = absurd p
+        played (Err (Change line why)) p = absurd p
+        played (Err (PastLimit limit)) p = absurd p
+        played (Err (TooManyBuckets count)) p = absurd p
+        played (Err Claims) p = absurd p
+        played (Err Keys) p = absurd p
+        played (Err (TooLong seen)) p = absurd p
+        played (Err (CannotRead name)) p = absurd p
+        played (Err CannotWrite) p = (record { meant = plays played_game; means = game_meant; text = p.0; begins = p.1; printed = p.2 }, p.3)
+        played (Err (Script line why)) p = record { game = played_game; means = game_meant; text = p.0; gives = p.1; printed = p.2 }
+        played (Err Memory) p = (begins_so, inr (record { game = played_game; means = game_meant; text = p.0; gives = p.1; printed = p.2 }))
 
 -- ---- what was loaded
 

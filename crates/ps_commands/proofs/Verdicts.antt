@@ -1,5 +1,5 @@
 -- How `audit` ends, and why.
-use Rattle.std.proofs.Common.{◌≡◌, ℕ, ◌≤◌, List, [], ◌∷◌, ◌++◌, append_assoc, Bor, Option, Some, Result, Ok, Err, refl, sym, ap, ◌∙◌, subst, inl, inr, Vec}
+use Rattle.std.proofs.Common.{◌≡◌, ℕ, ◌≤◌, Bool, true, false, List, [], ◌∷◌, ◌++◌, append_assoc, Bor, Option, Some, Result, Ok, Err, refl, sym, ap, ◌∙◌, subst, inl, Vec}
 use Rattle.std.specs.declared.alloc.Global.{Global}
 use Rattle.std.proofs.lemmas.List.{map-append}
 use Rattle.ps_io.specs.Contents.{Contents, Gains}
@@ -8,74 +8,72 @@ use Rattle.ps_definitions.specs.RuleSets.{RuleSet}
 use Rattle.ps_queries.specs.declared.askers.Asker.{Asker}
 use Rattle.ps_audit.specs.declared.verdicts.Verdict.{Verdict}
 use Rattle.ps_audit.specs.declared.verdicts.Verdict.TheVariants.{Yes, No}
+use Rattle.ps_audit.specs.Counts.{has_wide}
 use Rattle.ps_audit.specs.Judging.{texts}
 use Rattle.ps_script.specs.Lines.{lines_of}
 use Rattle.ps_files.specs.declared.faults.Fault.{Fault}
 use Rattle.ps_files.specs.declared.faults.Fault.TheVariants.{Usage, Rules, Change, PastLimit, TooManyBuckets, Claims, Keys, TooLong, CannotRead, CannotWrite, Script, Memory}
+use Rattle.ps_files.specs.declared.faults.Limit.{Limit}
 use Rattle.ps_files.specs.HeldFiles.{file_limit, HoldsWithin}
 use Rattle.ps_files.specs.Loading.{Loads, IsContent, RefusesNothing, MissesNamed}
 use Rattle.ps_files.specs.ReadingRising.{FindsRising, IsRisingFault}
-use Rattle.ps_commands.specs.declared.endings.Ending.{Ending}
-use Rattle.ps_commands.specs.Auditing.{JudgesFile, verdict_text, wide_limit}
-use Rattle.ps_commands.specs.Commands.{Recording, audit, command_of, ReadsAuditor, ReadsSource, ReadsRecording, ReadsRising, GivesVerdict, for_changes, for_stream, Reaches, Outside, Kept, Caused, reading, Outcome, Ends, ending_in, FindsVerdict}
+use Rattle.ps_commands.specs.Auditing.{Recorded, Judges, JudgesFile, verdict_text}
+use Rattle.ps_commands.specs.Commands.{Recording, audit, command_of, for_changes, for_stream}
+use Rattle.ps_commands.specs.Meanings.{refused, or_wide, judges}
+use Rattle.ps_commands.specs.Causes.{Means, Outside, Caused, reading, Ends, ending_in, FindsVerdict}
 use Rattle.ps_commands.specs.Replays.{lines_left}
-use Rattle.ps_commands.proofs.Causes.{cause_of}
+use Rattle.ps_commands.proofs.Causes.{cause_of, rising_refused}
+use Rattle.ps_commands.proofs.Nexts.{means, rising_left, recorded_of, at_source, at_stream}
+use Rattle.ps_commands.proofs.Readings.{ReadsRules, ReadsAsker, ReadsRising}
 use Rattle.ps_commands.proofs.ScriptLines.{Splits, lines_split}
 
-module _ (o : Outside) (words : List (List ℕ)) (names : Recording) (is : command_of words ≡ Some (audit names)) where
+module _ (o : Outside) (words : List (List ℕ)) (recorded : Recorded) (m : Means o.held words (Ok (judges recorded))) where
   -- the verdict, printed
-  pub pronounced : (verdict : Verdict) → GivesVerdict o.held names verdict → Gains o.taken_before o.taken_now (verdict_text verdict) → Ends o words (Ok (ending_in verdict))
-  pronounced (Yes completed) gives printed =
-      record { command = audit names; is = is; text = verdict_text (Yes completed); means = record { completed = completed; gives = gives; is = refl }; printed = printed }
-  pronounced (No completed line kind) gives printed =
-      record { names = names; is = is; completed = completed; line = line; kind = kind; gives = gives; printed = printed }
+  pub pronounced : (verdict : Verdict) → Judges recorded verdict → Gains o.taken_before o.taken_now (verdict_text verdict) → Ends o words (Ok (ending_in verdict))
+  pronounced (Yes completed) judged printed =
+      record { meant = judges recorded; means = m; text = verdict_text (Yes completed); says = (completed, judged, refl); printed = printed }
+  pronounced (No completed line kind) judged printed =
+      record { recorded = recorded; means = m; completed = completed; line = line; kind = kind; judged = judged; printed = printed }
 
-  module _ (kept : Kept o) (before : ReadsAuditor o.held names) where
-    rising_refused : (fault : Fault) (bytes : List ℕ) → HoldsWithin o.held names.changes file_limit bytes → IsRisingFault fault bytes → Caused o words fault
-    rising_refused Usage bytes file h = absurd h
-    rising_refused (Rules which line column why) bytes file h = absurd h
-    rising_refused (Change line why) bytes file h = (kept, inr (inr (inr (inl (record { names = names; is = is; before = before; bytes = bytes; file = file; refused = h })))))
-    rising_refused (PastLimit limit) bytes file h = (kept, inr (inr (inr (inl (record { names = names; is = is; before = before; bytes = bytes; file = file; refused = h })))))
-    rising_refused (TooManyBuckets count) bytes file h = absurd h
-    rising_refused Claims bytes file h = absurd h
-    rising_refused Keys bytes file h = absurd h
-    rising_refused (TooLong seen) bytes file h = absurd h
-    rising_refused (CannotRead other) bytes file h = absurd h
-    rising_refused CannotWrite bytes file h = absurd h
-    rising_refused (Script place cause) bytes file h = absurd h
-    rising_refused Memory bytes file h = absurd h
+module _ (held : Option Contents) (words : List (List ℕ)) (names : Recording) (is : command_of words ≡ Some (audit names)) (rules : RuleSet) (r : ReadsRules held names.rules rules)
+    (asker : Asker) (a : ReadsAsker held names.claims asker) where
+  pub cause_of_rising : (start mid now : ℕ) (taken : Option (List ℕ)) (faults : ℕ) (mid_held : Option Contents) (fault : Fault) → mid_held ≡ held → start ≤ mid
+      → Loads {X = Vec Transaction Global} mid_held names.changes file_limit mid now FindsRising IsRisingFault (Err fault) → Caused (reading held start now taken faults) words fault
+  cause_of_rising start mid now taken faults mid_held fault same risen h =
+      cause_of (reading held start now taken faults) mid_held mid words for_changes names.changes same risen refl (at_source held words names is rules r asker a) FindsRising IsRisingFault
+      (λ fault bytes refuses given. rising_refused (λ transactions. rising_left rules asker given (Ok transactions)) fault bytes refuses) fault h
 
-    pub cause_of_rising : (mid_held : Option Contents) (mid : ℕ) (fault : Fault) → mid_held ≡ o.held → o.read_before ≤ mid
-        → Loads {X = Vec Transaction Global} mid_held names.changes file_limit mid o.read_now FindsRising IsRisingFault (Err fault) → Caused o words fault
-    cause_of_rising mid_held mid fault same risen h =
-        let reached : Reaches o.held words for_changes names.changes = record { command = audit names; is = is; comes = (refl, before) } in
-        cause_of o mid_held mid words for_changes names.changes same risen kept reached FindsRising IsRisingFault rising_refused fault h
+  module _ (transactions : List Transaction) (t : ReadsRising held names.changes transactions) where
+    pub cause_of_stream : (start mid now : ℕ) (taken : Option (List ℕ)) (faults : ℕ) (mid_held : Option Contents) (fault : Fault) → mid_held ≡ held → start ≤ mid
+        → Loads {X = Vec ℕ Global} mid_held names.stream file_limit mid now IsContent RefusesNothing (Err fault) → Caused (reading held start now taken faults) words fault
+    cause_of_stream start mid now taken faults mid_held fault same risen h =
+        cause_of (reading held start now taken faults) mid_held mid words for_stream names.stream same risen refl (at_stream held words names is rules r asker a transactions t) IsContent RefusesNothing
+        (λ fault bytes no given. absurd no) fault h
 
-  module _ (kept : Kept o) (source : ReadsSource o.held names) where
-    pub cause_of_stream : (mid_held : Option Contents) (mid : ℕ) (fault : Fault) → mid_held ≡ o.held → o.read_before ≤ mid
-        → Loads {X = Vec ℕ Global} mid_held names.stream file_limit mid o.read_now IsContent RefusesNothing (Err fault) → Caused o words fault
-    cause_of_stream mid_held mid fault same risen h =
-        let reached : Reaches o.held words for_stream names.stream = record { command = audit names; is = is; comes = (refl, source) } in
-        cause_of o mid_held mid words for_stream names.stream same risen kept reached IsContent RefusesNothing (λ fault bytes file no. absurd no) fault h
+    -- a stream is judged, or why it is not
+    module _ (stream : List ℕ) (s : HoldsWithin held names.stream file_limit stream) where
+      abbrev recorded_so : Recorded
+      recorded_so = recorded_of rules asker transactions stream
 
--- a stream is judged, or why it is not
-pub judged : (held : Option Contents) (before now : ℕ) (words : List (List ℕ)) (names : Recording) (is : command_of words ≡ Some (audit names)) (files : ReadsRecording held names)
-    (result : Result Verdict Fault) → JudgesFile files.source.before.rules files.source.transactions files.source.before.asker files.stream result → FindsVerdict held before now words result
-judged held before now words names is files (Ok verdict) h = (names, is, record { files = files; judged = h })
-judged held before now words names is files (Err Usage) h = absurd h
-judged held before now words names is files (Err (Rules which line column why)) h = absurd h
-judged held before now words names is files (Err (Change line why)) h = absurd h
-judged held before now words names is files (Err (PastLimit limit)) h = λ taken faults.
-    (refl, inr (inr (inr (inr (record { names = names; is = is; files = files; wide = h.0; fault_is = ap PastLimit h.1 })))))
-judged held before now words names is files (Err (TooManyBuckets count)) h = absurd h
-judged held before now words names is files (Err Claims) h = absurd h
-judged held before now words names is files (Err Keys) h = absurd h
-judged held before now words names is files (Err (TooLong seen)) h = absurd h
-judged held before now words names is files (Err (CannotRead name)) h = absurd h
-judged held before now words names is files (Err CannotWrite) h = absurd h
-judged held before now words names is files (Err (Script place cause)) h = absurd h
-judged held before now words names is files (Err Memory) h = λ taken faults.
-    inl (refl, (audit names, is, (files.source.before.rules_read.bytes, files.source.before.rules_read.file)))
+      over_width : (wide : Bool) → has_wide rules.definitions transactions ≡ wide → Means held words (or_wide wide (judges recorded_so))
+      over_width wide e =
+          means held words for_stream names.stream (at_stream held words names is rules r asker a transactions t) stream s (or_wide wide (judges recorded_so))
+          (λ given. ap (λ b. or_wide b (judges recorded_so)) e)
+
+      pub judged : (before now : ℕ) (result : Result Verdict Fault) → JudgesFile rules transactions asker stream result → FindsVerdict held before now words result
+      judged before now (Ok verdict) h = ((audit names, is, (r.bytes, r.file)), recorded_so, over_width false h.narrow, h)
+      judged before now (Err Usage) h = absurd h
+      judged before now (Err (Rules which line column why)) h = absurd h
+      judged before now (Err (Change line why)) h = absurd h
+      judged before now (Err (PastLimit limit)) h = λ taken faults. (refl, subst (λ (l : Limit). Means held words (Err (refused (PastLimit l)))) (sym h.1) (over_width true h.0))
+      judged before now (Err (TooManyBuckets count)) h = absurd h
+      judged before now (Err Claims) h = absurd h
+      judged before now (Err Keys) h = absurd h
+      judged before now (Err (TooLong seen)) h = absurd h
+      judged before now (Err (CannotRead name)) h = absurd h
+      judged before now (Err CannotWrite) h = absurd h
+      judged before now (Err (Script place cause)) h = absurd h
+      judged before now (Err Memory) h = λ taken faults. ((audit names, is, (r.bytes, r.file)), inl refl)
 
 -- judging reads no file
 pub judged_unread : (rules : RuleSet) (transactions : List Transaction) (asker : Asker) (stream : List ℕ) (old new : Option (List (List ℕ))) (result : Result Verdict Fault) → new ≡ old

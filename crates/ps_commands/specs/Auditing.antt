@@ -76,6 +76,16 @@ pub record JudgesSo (rules : RuleSet) (transactions : List Transaction) (asker :
   pub means : Means verdict (case_for rules transactions asker) (stream_lines stream)
   pub honest : PassesHonest (stream_lines stream) (case_for rules transactions asker) rules verdict
 
+-- a recorded stream, and what it is judged over
+pub record Recorded : Type 0 where
+  pub rules : RuleSet
+  pub transactions : List Transaction
+  pub asker : Asker
+  pub stream : List ℕ
+
+abbrev pub Judges : Recorded → Verdict → Type 0
+Judges recorded verdict = JudgesSo recorded.rules recorded.transactions recorded.asker recorded.stream verdict
+
 -- a change leaves a row with more entries than one may have: that is the limit
 abbrev pub wide_limit : Limit
 wide_limit = Entries 1001

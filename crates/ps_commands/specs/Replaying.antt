@@ -1,6 +1,7 @@
 -- What the script of `replay` gives.
-use Rattle.std.specs.Prelude.{◌≡◌, ℕ, ◌+◌, List, ◌∷◌, ◌++◌, length, Option, Result, Ok, Err}
-use Rattle.ps_io.specs.Contents.{Gains, GainsFront}
+use Rattle.std.specs.Prelude.{◌≡◌, ℕ, ◌+◌, List, ◌∷◌, ◌++◌, length, Option, Some, None, Result, Ok, Err}
+use Rattle.std.specs.Borrow.{Bor}
+use Rattle.ps_io.specs.Contents.{Contents, Gains, GainsFront}
 use Rattle.ps_io.specs.Counts.{Rose}
 use Rattle.ps_rows.specs.declared.changes.Transaction.{Transaction}
 use Rattle.ps_definitions.specs.RuleSets.{RuleSet}
@@ -14,6 +15,8 @@ use Rattle.ps_commands.specs.Scripts.{PlaysLines, RefusesLine}
 use Rattle.ps_commands.specs.Replays.{Output, PlaysSome}
 use Rattle.ps_files.specs.declared.faults.Fault.{Fault}
 use Rattle.ps_files.specs.declared.faults.Fault.TheVariants.{Usage, Rules, Change, PastLimit, TooManyBuckets, Claims, Keys, TooLong, CannotRead, CannotWrite, Script, Memory}
+use Rattle.ps_files.specs.HeldFiles.{rules_limit}
+use Rattle.ps_files.specs.Loading.{Loads, FindsRules, IsNextFault}
 use Rattle.ps_files.specs.declared.faults.ScriptCause.{ScriptCause}
 use Rattle.ps_files.specs.declared.faults.ScriptCause.TheVariants.{BadEvent, UnknownClient, WrongPhase}
 
@@ -86,3 +89,19 @@ PlaysOut game out (Err (CannotRead name)) = ⊥
 PlaysOut game out (Err CannotWrite) = (text : List ℕ) × GivesSome game text × GainsFront out.old out.new text × Rose out.before out.now
 PlaysOut game out (Err (Script line why)) = (text : List ℕ) × GivesUntil game line why text × Gains out.old out.new text
 PlaysOut game out (Err Memory) = (text : List ℕ) × GivesSome game text × Gains out.old out.new text
+
+-- ---- the file of the next rules
+
+-- where one is named, it is loaded
+abbrev pub FindsNext : Option RuleSet → List ℕ → Type 0
+FindsNext None bytes = ⊥
+FindsNext (Some rules) bytes = FindsRules rules bytes
+
+abbrev pub LoadsNone : Result (Option RuleSet) Fault → Type 0
+LoadsNone (Ok None) = Unit {0}
+LoadsNone (Ok (Some rules)) = ⊥
+LoadsNone (Err fault) = ⊥
+
+abbrev pub LoadsNext : Option Contents → Option (Bor (List ℕ)) → ℕ → ℕ → Result (Option RuleSet) Fault → Type 0
+LoadsNext held None before now result = LoadsNone result
+LoadsNext held (Some name) before now result = Loads held name.now rules_limit before now FindsNext IsNextFault result

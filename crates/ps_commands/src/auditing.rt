@@ -6,7 +6,8 @@ ghost use Rattle.ps_store.specs.Laws.{Rises};
 ghost use Rattle.ps_audit.specs.Judging.{texts};
 ghost use Rattle.ps_files.specs.Loading.{MissesNamed};
 ghost use Rattle.ps_commands.specs.Auditing.{broken_text, complete_line, complete_lines, completed_of, last_line as last_line_of, verdict_text, stream_lines, JudgesFile};
-ghost use Rattle.ps_commands.specs.Commands.{command_of, audit as audit_command, FindsVerdict};
+ghost use Rattle.ps_commands.specs.Causes.{FindsVerdict};
+ghost use Rattle.ps_commands.specs.Commands.{command_of, audit as audit_command};
 
 use ps_audit::{AuditFault, Broken, Judged, Verdict, audit};
 use ps_data::{Memory, Text};

@@ -3,8 +3,8 @@ ghost use Rattle.ps_io.specs.Contents.{Contents, Joins};
 ghost use Rattle.ps_io.specs.Counts.{Rose};
 ghost use Rattle.ps_files.specs.Loading.{MissesNamed};
 ghost use Rattle.ps_files.specs.Making.{made_limit};
-ghost use Rattle.ps_commands.specs.Commands.{command_of, check as check_command, rows as rows_command, compact as compact_command, token as token_command, generate as generate_command, generate_lines as generate_lines_command, Finds, FindsVerdict, Outside, Outcome, Ends, ending_in, Prints, PrintsNo, PrintsFront, RefusesRules, RefusesLines, RefusesKeys, RefusesClaims, RefusesScript, ExceedsLimit, IsNext, BeginsWithin, PrintsSome, IsExact};
-ghost use Rattle.ps_commands.specs.Causes.{SaysCause};
+ghost use Rattle.ps_commands.specs.Commands.{command_of, check as check_command, rows as rows_command, compact as compact_command, token as token_command, generate as generate_command, generate_lines as generate_lines_command, BeginsWithin};
+ghost use Rattle.ps_commands.specs.Causes.{Finds, FindsVerdict, Outside, Outcome, Ends, ending_in, Prints, PrintsNo, PrintsFront, PrintsSome, StopsScript, Refuses, ExceedsLimit, IsNext, IsExact, SaysCause};
 ghost use Rattle.ps_files.specs.declared.faults.LineFault.{LineFault as LineFaultData};
 ghost use Rattle.ps_files.specs.declared.faults.RulesCause.{RulesCause as RulesCauseData};
 ghost use Rattle.ps_files.specs.declared.faults.RulesFile.{RulesFile as RulesFileData};
@@ -254,9 +254,9 @@ pub fn run_plain<F: Files, K: Sink, E: Sink>(
     // Statuses 1 to 9, each by its cause.
     ensures usage { (result ≡ 1) ↔ (command_of words.now ≡ None) }
     ensures rules { result ≡ 2 → (which : RulesFileData) × (line column : ℕ) × (why : RulesCauseData)
-        × RefusesRules (F.held files.old) words.now (Fault.Rules which line column why) }
-    ensures changes { result ≡ 3 → (line : ℕ) × (why : LineFaultData) × RefusesLines (F.held files.old) words.now (Fault.Change line why) }
-    ensures claims { result ≡ 4 → RefusesKeys (F.held files.old) words.now ⊎ RefusesClaims (F.held files.old) words.now }
+        × Refuses (F.held files.old) words.now (Fault.Rules which line column why) }
+    ensures changes { result ≡ 3 → (line : ℕ) × (why : LineFaultData) × Refuses (F.held files.old) words.now (Fault.Change line why) }
+    ensures claims { result ≡ 4 → Refuses (F.held files.old) words.now Fault.Keys ⊎ Refuses (F.held files.old) words.now Fault.Claims }
     ensures limits { result ≡ 5 → ExceedsLimit (F.held files.old) words.now }
     ensures unread { result ≡ 6 → Rose (F.faults files.old) (F.faults files.new)
         × (name : List ℕ) × IsNext (F.held files.old) words.now name × Joins (F.missed files.old) (F.missed files.new) name }
@@ -264,7 +264,7 @@ pub fn run_plain<F: Files, K: Sink, E: Sink>(
     ensures unwritten { result ≡ 7 → Rose (K.faults out.old) (K.faults out.new)
         × PrintsFront (F.held files.old) words.now (K.taken out.old) (K.taken out.new) }
     ensures script { result ≡ 9 → (line : ℕ) × (why : ScriptCauseData)
-        × RefusesScript (F.held files.old) words.now line why (K.taken out.old) (K.taken out.new) }
+        × StopsScript (F.held files.old) words.now line why (K.taken out.old) (K.taken out.new) }
     ensures known { (result ≤ 9) ⊎ (result ≡ 15) }
 
     // Nothing is printed unless all went well, but for a verdict No and for the front that a failed write leaves. `replay` prints as it goes: what it printed

@@ -3,8 +3,9 @@
 ghost use Rattle.std.specs.Prelude.{◌≡◌, ◌<◌, ◌≤◌, ◌^◌, ℕ, List, Some, length};
 ghost use Rattle.ps_core.specs.Scripts.{AreLow};
 ghost use Rattle.ps_files.specs.Loading.{MissesNamed};
-ghost use Rattle.ps_commands.specs.Commands.{command_of, name_of, replay as replay_command, LoadsNext, Outcome};
-ghost use Rattle.ps_commands.specs.Replaying.{PlaysOut, stopped_by};
+ghost use Rattle.ps_commands.specs.Causes.{Outcome};
+ghost use Rattle.ps_commands.specs.Commands.{command_of, name_of, replay as replay_command};
+ghost use Rattle.ps_commands.specs.Replaying.{PlaysOut, LoadsNext, stopped_by};
 
 use crate::playing::replay;
 use crate::replay_faults::ReplayFault;

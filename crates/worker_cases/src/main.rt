@@ -22,8 +22,11 @@
 //! TEXT` notes the number, remarks the text, and says what is seen and which numbers are kept.
 //!
 //! `turns SEATS TURNS` takes so many turns of each seat at a lock round a counter, all seats at once, each in a thread of its own; `wait SEATS MILLISECONDS` has one
-//! seat sleep so long in its turn while the others wait, and then lets each have one turn. Both say what was counted, and `bench/lock` times them. A line that begins
-//! with `#` is a heading.
+//! seat sleep so long in its turn while the others wait, and then lets each have one turn. Both say what was counted, and `bench/lock` times them.
+//!
+//! `longest STREAMS COUNT BATCH` feeds so many made transactions, writes and commits them in batches, and lets so many streams read what is new after each commit:
+//! how many turns wrote and how many read, and the most that one of them did. `times` does the same and says how long the turns lasted, for `bench/turns`. A line that
+//! begins with `#` is a heading.
 #![tactic(auto)]
 
 mod counters;
@@ -31,6 +34,7 @@ mod diaries;
 mod renewing;
 mod stores;
 mod threads;
+mod timed;
 mod turns;
 mod workers;
 
@@ -87,6 +91,7 @@ fn write_answer<R: Threads + Wait + Clock + Sync>(
         "counter" => counters::write_case(rt, alloc, rest, out),
         "diary" => diaries::write_diary(rt, alloc, rest, out),
         "turns" | "wait" => turns::write_count(rt, alloc, word, rest, out),
+        "longest" | "times" => timed::write_case(rt, alloc, word, rest, out),
         _ => Ok(out.push_str(line)?),
     }
 }

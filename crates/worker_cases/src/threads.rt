@@ -23,7 +23,8 @@ use std::alloc::Global;
 use std::sync::Wait;
 use std::thread::{Threads, join};
 
-fn feed_all<R: Wait>(
+/// Feeds transactions, each in a turn.
+pub fn feed_all<R: Wait>(
     rt: &R,
     alloc: Global,
     lock: &StoreLock<SharedStore>,

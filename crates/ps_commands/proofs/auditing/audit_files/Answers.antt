@@ -1,11 +1,14 @@
-use Rattle.std.proofs.Common.{◌≤◌, ◌∙◌, ℕ, Option, Vec, Err, refl, arith}
-use Rattle.std.specs.declared.alloc.Global.{Global}
+-- The files are read, and the stream is judged; or why one is not read.
+use Rattle.std.proofs.Common.{◌≤◌, ◌∙◌, ℕ, Option, Ok, Err, refl, arith}
 use Rattle.std.proofs.lemmas.Result.{err_from_is_err_and}
 use Rattle.ps_io.specs.Contents.{Contents}
 use Rattle.ps_audit.specs.declared.verdicts.Verdict.{Verdict}
-use Rattle.ps_commands.specs.Commands.{Recording, ReadsAuditor, ReadsSource, ReadsRecording, audit, reading}
+use Rattle.ps_files.specs.Loading.{FindsRules, IsRulesFault, FindsAsker, IsClaimsFault}
+use Rattle.ps_commands.specs.Causes.{reading}
+use Rattle.ps_commands.specs.Commands.{Recording, for_rules, for_claims}
 use Rattle.ps_commands.proofs.Verdicts.{cause_of_rising, cause_of_stream, judged, judged_unread, rising_read}
-use Rattle.ps_commands.proofs.Causes.{rules_read, cause_of_rules, asker_read, cause_of_asker}
+use Rattle.ps_commands.proofs.Causes.{cause_of, rules_refused, claims_refused, rules_read, asker_read}
+use Rattle.ps_commands.proofs.Nexts.{audit_left, auditor_left, at_audited, at_auditor}
 use Rattle.ps_commands.proofs.Replays.{script_read}
 use Rattle.ps_commands.proofs.Missed.{misses_later}
 use Rattle.ps_commands.proofs.auditing.audit_files.Goals as goal
@@ -15,8 +18,10 @@ returns-in_err-rules-clause-finds g c =
     let p = err_from_is_err_and c.from_residual.result c.from_residual.ensures.1 in
     rw (p.1, p.2) (λ words is taken faults.
     let names : Recording = record { rules = c.args.rules.now; changes = c.args.changes.now; claims = c.args.claims.now; stream = c.args.stream.now } in
-    cause_of_rules (reading (g.F.Files.held c.args.files.now) (g.F.Files.faults c.args.files.now) (g.F.Files.faults c.load_rules.new.files) taken faults) words
-    c.args.rules.now c.in_err-rules.field-0.0 refl (record { command = audit names; is = is; comes = refl }) c.in_err-rules.ensures.loads)
+    let held : Option Contents = g.F.Files.held c.args.files.now in
+    let start : ℕ = g.F.Files.faults c.args.files.now in
+    cause_of (reading held start (g.F.Files.faults c.load_rules.new.files) taken faults) held start words for_rules c.args.rules.now refl (omega arith) refl (at_audited held words names is)
+    FindsRules IsRulesFault (λ fault bytes refuses given. rules_refused (λ rules. audit_left given (Ok rules)) fault bytes refuses) c.in_err-rules.field-0.0 c.in_err-rules.ensures.loads)
 
 pub returns-in_err-asker-clause-finds : goal.returns-in_err-asker-clause-finds
 returns-in_err-asker-clause-finds g c =
@@ -27,8 +32,9 @@ returns-in_err-asker-clause-finds g c =
     let start : ℕ = g.F.Files.faults c.args.files.now in
     let mid : ℕ = g.F.Files.faults c.load_rules.new.files in
     let rules = rules_read held c.args.rules.now start mid c.in_ok-rules.rules c.in_ok-rules.ensures.loads in
-    cause_of_asker (reading held start (g.F.Files.faults c.load_asker.new.files) taken faults) (g.F.Files.held c.load_rules.new.files) mid words c.args.claims.now c.in_err-asker.field-0.0
-    c.in_ok-rules.ensures.held c.in_ok-rules.ensures.faults refl (record { command = audit names; is = is; comes = (refl, c.in_ok-rules.rules, rules) }) c.in_err-asker.ensures.loads)
+    cause_of (reading held start (g.F.Files.faults c.load_asker.new.files) taken faults) (g.F.Files.held c.load_rules.new.files) mid words for_claims c.args.claims.now
+    c.in_ok-rules.ensures.held c.in_ok-rules.ensures.faults refl (at_auditor held words names is c.in_ok-rules.rules rules) FindsAsker IsClaimsFault
+    (λ fault bytes refuses given. claims_refused (λ asker. auditor_left c.in_ok-rules.rules given (Ok asker)) fault bytes refuses) c.in_err-asker.field-0.0 c.in_err-asker.ensures.loads)
 
 pub returns-in_err-transactions-clause-finds : goal.returns-in_err-transactions-clause-finds
 returns-in_err-transactions-clause-finds g c =
@@ -43,10 +49,9 @@ returns-in_err-transactions-clause-finds g c =
     let read_2 : ℕ = g.F.Files.faults c.load_asker.new.files in
     let rules = rules_read held c.args.rules.now start read_1 c.in_ok-rules.rules c.in_ok-rules.ensures.loads in
     let claims = asker_read held held_1 c.args.claims.now read_1 read_2 c.in_ok-asker.asker c.in_ok-rules.ensures.held c.in_ok-asker.ensures.loads in
-    let before : ReadsAuditor held names = record { rules = c.in_ok-rules.rules; asker = c.in_ok-asker.asker; rules_read = rules; claims_read = claims } in
     let first : start ≤ read_1 = c.in_ok-rules.ensures.faults in
     let second : read_1 ≤ read_2 = c.in_ok-asker.ensures.faults in
-    cause_of_rising (reading held start (g.F.Files.faults c.load_rising.new.files) taken faults) words names is refl before held_2 read_2 c.in_err-transactions.field-0.0
+    cause_of_rising held words names is c.in_ok-rules.rules rules c.in_ok-asker.asker claims start read_2 (g.F.Files.faults c.load_rising.new.files) taken faults held_2 c.in_err-transactions.field-0.0
     (c.in_ok-asker.ensures.held ∙ c.in_ok-rules.ensures.held) (omega (arith, first, second)) c.in_err-transactions.ensures.loads)
 
 pub returns-in_err-stream-clause-finds : goal.returns-in_err-stream-clause-finds
@@ -64,13 +69,11 @@ returns-in_err-stream-clause-finds g c =
     let read_3 : ℕ = g.F.Files.faults c.load_rising.new.files in
     let rules = rules_read held c.args.rules.now start read_1 c.in_ok-rules.rules c.in_ok-rules.ensures.loads in
     let claims = asker_read held held_1 c.args.claims.now read_1 read_2 c.in_ok-asker.asker c.in_ok-rules.ensures.held c.in_ok-asker.ensures.loads in
-    let before : ReadsAuditor held names = record { rules = c.in_ok-rules.rules; asker = c.in_ok-asker.asker; rules_read = rules; claims_read = claims } in
     let changes = rising_read held held_2 c.args.changes.now read_2 read_3 c.in_ok-transactions.transactions (c.in_ok-asker.ensures.held ∙ c.in_ok-rules.ensures.held) c.in_ok-transactions.ensures.loads in
-    let source : ReadsSource held names = record { before = before; transactions = c.in_ok-transactions.transactions.items; changes_read = changes } in
     let first : start ≤ read_1 = c.in_ok-rules.ensures.faults in
     let second : read_1 ≤ read_2 = c.in_ok-asker.ensures.faults in
     let third : read_2 ≤ read_3 = c.in_ok-transactions.ensures.faults in
-    cause_of_stream (reading held start (g.F.Files.faults c.load.new.files) taken faults) words names is refl source held_3 read_3 c.in_err-stream.field-0.0
+    cause_of_stream held words names is c.in_ok-rules.rules rules c.in_ok-asker.asker claims c.in_ok-transactions.transactions.items changes start read_3 (g.F.Files.faults c.load.new.files) taken faults held_3 c.in_err-stream.field-0.0
     (c.in_ok-transactions.ensures.held ∙ c.in_ok-asker.ensures.held ∙ c.in_ok-rules.ensures.held) (omega (arith, first, second, third)) c.in_err-stream.ensures.loads)
 
 pub judge-requires : goal.judge-requires
@@ -89,12 +92,9 @@ returns-clause-finds g c = λ words is.
     let read_3 : ℕ = g.F.Files.faults c.load_rising.new.files in
     let rules = rules_read held c.args.rules.now start read_1 c.in_ok-rules.rules c.in_ok-rules.ensures.loads in
     let claims = asker_read held held_1 c.args.claims.now read_1 read_2 c.in_ok-asker.asker c.in_ok-rules.ensures.held c.in_ok-asker.ensures.loads in
-    let before : ReadsAuditor held names = record { rules = c.in_ok-rules.rules; asker = c.in_ok-asker.asker; rules_read = rules; claims_read = claims } in
     let changes = rising_read held held_2 c.args.changes.now read_2 read_3 c.in_ok-transactions.transactions (c.in_ok-asker.ensures.held ∙ c.in_ok-rules.ensures.held) c.in_ok-transactions.ensures.loads in
-    let source : ReadsSource held names = record { before = before; transactions = c.in_ok-transactions.transactions.items; changes_read = changes } in
     let stream = script_read held held_3 c.args.stream.now read_3 (g.F.Files.faults c.load.new.files) c.in_ok-stream.stream (c.in_ok-transactions.ensures.held ∙ c.in_ok-asker.ensures.held ∙ c.in_ok-rules.ensures.held) c.in_ok-stream.ensures.loads in
-    let files : ReadsRecording held names = record { source = source; stream = c.in_ok-stream.stream.items; stream_read = stream } in
-    judged held start (g.F.Files.faults c.load.new.files) words names is files c.judge.result (rw (c.as_slice.ensures.value, c.as_slice-2.ensures.value) at c.judge.ensures)
+    judged held words names is c.in_ok-rules.rules rules c.in_ok-asker.asker claims c.in_ok-transactions.transactions.items changes c.in_ok-stream.stream.items stream start (g.F.Files.faults c.load.new.files) c.judge.result (rw (c.as_slice.ensures.value, c.as_slice-2.ensures.value) at c.judge.ensures)
 
 pub returns-in_err-rules-clause-missed : goal.returns-in_err-rules-clause-missed
 returns-in_err-rules-clause-missed g c =

@@ -1,6 +1,8 @@
+-- What the command ends with is what the words end with.
 use Rattle.std.proofs.Common.{rules, ◌≡◌, ℕ, Option, Some}
 use Rattle.ps_io.specs.Contents.{Contents}
-use Rattle.ps_commands.specs.Commands.{check, rows, replay, compact, token, generate, generate_lines, audit, command_of, name_of, Outside}
+use Rattle.ps_commands.specs.Causes.{Outside}
+use Rattle.ps_commands.specs.Commands.{check, rows, replay, compact, token, generate, generate_lines, audit, command_of, name_of}
 use Rattle.ps_commands.proofs.plain.command.Goals as goal
 
 pub returns-in-Check-clause-outcome : goal.returns-in-Check-clause-outcome

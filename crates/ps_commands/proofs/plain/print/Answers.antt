@@ -1,7 +1,8 @@
-use Rattle.std.proofs.Common.{subst}
+-- A text that was found is printed, in whole or in part.
+use Rattle.std.proofs.Common.{subst, refl}
 use Rattle.std.proofs.lemmas.Result.{err_from_is_err_and}
 use Rattle.ps_io.specs.Contents.{Gains, GainsFront}
-use Rattle.ps_commands.proofs.Causes.{begins}
+use Rattle.ps_commands.specs.Meanings.{prints}
 use Rattle.ps_commands.proofs.plain.print.Goals as goal
 
 pub returns-in_err-text-clause-outcome : goal.returns-in_err-text-clause-outcome
@@ -11,27 +12,25 @@ returns-in_err-text-clause-outcome g c =
 
 pub returns-in-Ok-clause-outcome : goal.returns-in-Ok-clause-outcome
 returns-in-Ok-clause-outcome g c = λ held before now words finds.
-    let found = rw c.in_ok-text.was at finds in
     record {
-      command = found.0;
-      is = found.1;
+      meant = prints c.in_ok-text.text.items;
+      means = rw c.in_ok-text.was at finds;
       text = c.in_ok-text.text.items;
-      means = found.2;
+      says = refl;
       printed = subst (λ bytes. Gains (g.K.Sink.taken c.args.out.now) (g.K.Sink.taken c.write.new.self) bytes) c.as_slice.ensures.value c.in-Ok.ensures.ok;
     }
 
 pub returns-clause-outcome : goal.returns-clause-outcome
-returns-clause-outcome g c = λ held before now words finds.
-    let found = rw c.in_ok-text.was at finds in (
-      record {
-        command = found.0;
-        is = found.1;
-        text = c.in_ok-text.text.items;
-        means = begins held found.0 c.in_ok-text.text.items found.2;
-        printed = subst (λ bytes. GainsFront (g.K.Sink.taken c.args.out.now) (g.K.Sink.taken c.write.new.self) bytes) c.as_slice.ensures.value c.in-Err.ensures.err;
-      },
-      c.in-Err.ensures.failed,
-    )
+returns-clause-outcome g c = λ held before now words finds. (
+  record {
+    meant = prints c.in_ok-text.text.items;
+    means = rw c.in_ok-text.was at finds;
+    text = c.in_ok-text.text.items;
+    begins = refl;
+    printed = subst (λ bytes. GainsFront (g.K.Sink.taken c.args.out.now) (g.K.Sink.taken c.write.new.self) bytes) c.as_slice.ensures.value c.in-Err.ensures.err;
+  },
+  c.in-Err.ensures.failed,
+)
 
 pub returns-in_err-text-clause-missed : goal.returns-in_err-text-clause-missed
 returns-in_err-text-clause-missed g c =

@@ -1,3 +1,4 @@
+-- Each clause by the cause of how the command ended.
 use Rattle.ps_commands.proofs.Exactness.{exact_ok, exact_no, exact_err, limits_by, changes_by, claims_by, unread_by, unwritten_by, script_by, early_by, first_by, kept_by, missed_by, known_by, not_altered, not_quiet}
 use Rattle.ps_commands.proofs.plain.run_plain.Goals as goal
 

@@ -1,10 +1,14 @@
-use Rattle.std.proofs.Common.{◌≤◌, ◌∙◌, Option, Err, refl, arith, ℕ}
+-- The files are read, and what is played of them is the outcome; or why one is not read.
+use Rattle.std.proofs.Common.{◌≤◌, ◌∙◌, Option, Ok, Err, refl, arith, ℕ}
 use Rattle.std.proofs.lemmas.Result.{err_from_is_err_and}
 use Rattle.ps_io.specs.Contents.{Contents}
-use Rattle.ps_commands.specs.Commands.{ReadsAllRules, Scripting, name_of, replay, Outside, reading}
+use Rattle.ps_files.specs.Loading.{FindsRules, IsRulesFault}
+use Rattle.ps_commands.specs.Causes.{Outside, reading}
+use Rattle.ps_commands.specs.Commands.{Scripting, name_of, for_rules}
 use Rattle.ps_commands.specs.Replaying.{Game}
 use Rattle.ps_commands.specs.Replays.{Output}
-use Rattle.ps_commands.proofs.Causes.{rules_read, cause_of_rules}
+use Rattle.ps_commands.proofs.Causes.{cause_of, rules_refused, rules_read}
+use Rattle.ps_commands.proofs.Nexts.{replay_left, at_played}
 use Rattle.ps_commands.proofs.Replays.{cause_of_next, cause_of_fed, cause_of_script, next_read, transactions_read, script_read, played}
 use Rattle.ps_commands.proofs.Missed.{misses_later, plays_unread}
 use Rattle.ps_commands.proofs.replaying.replay_files.Goals as goal
@@ -17,7 +21,8 @@ returns-in_err-rules-clause-outcome g c =
     let held : Option Contents = g.F.Files.held c.args.files.now in
     let start : ℕ = g.F.Files.faults c.args.files.now in
     let o : Outside = reading held start (g.F.Files.faults c.load_rules.new.files) (g.K.Sink.taken c.args.out.now) (g.K.Sink.faults c.args.out.now) in
-    cause_of_rules o words c.args.rules.now c.in_err-rules.field-0.0 refl (record { command = replay names; is = is; comes = refl }) c.in_err-rules.ensures.loads)
+    cause_of o held start words for_rules c.args.rules.now refl (omega arith) refl (at_played held words names is)
+    FindsRules IsRulesFault (λ fault bytes refuses given. rules_refused (λ rules. replay_left names given (Ok rules)) fault bytes refuses) c.in_err-rules.field-0.0 c.in_err-rules.ensures.loads)
 
 pub returns-in_err-next-clause-outcome : goal.returns-in_err-next-clause-outcome
 returns-in_err-next-clause-outcome g c =
@@ -30,7 +35,7 @@ returns-in_err-next-clause-outcome g c =
     let held_1 : Option Contents = g.F.Files.held c.load_rules.new.files in
     let read_1 : ℕ = g.F.Files.faults c.load_rules.new.files in
     let rules = rules_read held c.args.rules.now start read_1 c.in_ok-rules.rules c.in_ok-rules.ensures.loads in
-    cause_of_next o words names is refl c.in_ok-rules.rules rules c.args.next refl held_1 read_1 c.in_err-next.field-0.0 c.in_ok-rules.ensures.held c.in_ok-rules.ensures.faults c.in_err-next.ensures.loads)
+    cause_of_next o words names is c.in_ok-rules.rules rules refl c.args.next refl held_1 read_1 c.in_err-next.field-0.0 c.in_ok-rules.ensures.held c.in_ok-rules.ensures.faults c.in_err-next.ensures.loads)
 
 pub returns-in_err-transactions-clause-outcome : goal.returns-in_err-transactions-clause-outcome
 returns-in_err-transactions-clause-outcome g c =
@@ -46,11 +51,10 @@ returns-in_err-transactions-clause-outcome g c =
     let held_2 : Option Contents = g.F.Files.held c.load_next_if.new.files in
     let read_2 : ℕ = g.F.Files.faults c.load_next_if.new.files in
     let next = next_read held held_1 c.args.next read_1 read_2 c.in_ok-next.next c.in_ok-rules.ensures.held c.in_ok-next.ensures.loads in
-    let before : ReadsAllRules o.held names = record { rules = c.in_ok-rules.rules; next = c.in_ok-next.next; rules_read = rules; next_read = next } in
     let first : start ≤ read_1 = c.in_ok-rules.ensures.faults in
     let second : read_1 ≤ read_2 = c.in_ok-next.ensures.faults in
     let risen : start ≤ read_2 = omega (arith, first, second) in
-    cause_of_fed o words names is refl before held_2 read_2 c.in_err-transactions.field-0.0 (c.in_ok-next.ensures.held ∙ c.in_ok-rules.ensures.held) risen c.in_err-transactions.ensures.loads)
+    cause_of_fed o words names is c.in_ok-rules.rules rules c.in_ok-next.next next refl held_2 read_2 c.in_err-transactions.field-0.0 (c.in_ok-next.ensures.held ∙ c.in_ok-rules.ensures.held) risen c.in_err-transactions.ensures.loads)
 
 pub returns-in_err-script-clause-outcome : goal.returns-in_err-script-clause-outcome
 returns-in_err-script-clause-outcome g c =
@@ -66,7 +70,6 @@ returns-in_err-script-clause-outcome g c =
     let held_2 : Option Contents = g.F.Files.held c.load_next_if.new.files in
     let read_2 : ℕ = g.F.Files.faults c.load_next_if.new.files in
     let next = next_read held held_1 c.args.next read_1 read_2 c.in_ok-next.next c.in_ok-rules.ensures.held c.in_ok-next.ensures.loads in
-    let before : ReadsAllRules o.held names = record { rules = c.in_ok-rules.rules; next = c.in_ok-next.next; rules_read = rules; next_read = next } in
     let same_2 = c.in_ok-next.ensures.held ∙ c.in_ok-rules.ensures.held in
     let held_3 : Option Contents = g.F.Files.held c.load_transactions.new.files in
     let read_3 : ℕ = g.F.Files.faults c.load_transactions.new.files in
@@ -76,7 +79,7 @@ returns-in_err-script-clause-outcome g c =
     let second : read_1 ≤ read_2 = c.in_ok-next.ensures.faults in
     let third : read_2 ≤ read_3 = c.in_ok-transactions.ensures.faults in
     let risen : start ≤ read_3 = omega (arith, first, second, third) in
-    cause_of_script o words names is refl before c.in_ok-transactions.transactions.items changes held_3 read_3 c.in_err-script.field-0.0 same_held risen c.in_err-script.ensures.loads)
+    cause_of_script o words names is c.in_ok-rules.rules rules c.in_ok-next.next next c.in_ok-transactions.transactions.items changes refl held_3 read_3 c.in_err-script.field-0.0 same_held risen c.in_err-script.ensures.loads)
 
 pub play-requires-clause-low : goal.play-requires-clause-low
 play-requires-clause-low g c = c.in_ok-transactions.ensures.loads.2.low
@@ -99,8 +102,7 @@ returns-clause-outcome g c = λ words is.
     let changes = transactions_read held held_2 c.args.changes.now read_2 read_3 c.in_ok-transactions.transactions same_2 c.in_ok-transactions.ensures.loads in
     let same_held = c.in_ok-transactions.ensures.held ∙ same_2 in
     let script = script_read held held_3 c.args.script.now read_3 (g.F.Files.faults c.load.new.files) c.in_ok-script.script same_held c.in_ok-script.ensures.loads in
-    let game : Game = record { rules = c.in_ok-rules.rules; next = c.in_ok-next.next; transactions = c.in_ok-transactions.transactions.items; script = c.in_ok-script.script.items } in
-    played o words names is game (record { rules_read = rules; next_read = next; changes_read = changes; script_read = script }) c.play.result
+    played o words names is c.in_ok-rules.rules rules c.in_ok-next.next next c.in_ok-transactions.transactions.items changes c.in_ok-script.script.items script c.play.result
     (rw c.as_slice.ensures.value at c.play.ensures)
 
 pub returns-in_err-rules-clause-missed : goal.returns-in_err-rules-clause-missed
