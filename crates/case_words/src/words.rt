@@ -1,3 +1,5 @@
+//! Lines of cases cut into words and read as numbers; a line without an answer.
+
 use std::fmt::Debug;
 
 /// A line without an answer. It has no `Debug`, so that every error that has it becomes one.

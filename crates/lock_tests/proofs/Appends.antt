@@ -1,3 +1,4 @@
+-- The numbers of the notes of a diary that grows.
 use Rattle.std.proofs.Common.{◌≡◌, List, [], ◌∷◌, ◌++◌, refl, ap}
 use Rattle.lock_tests.specs.declared.diaries.Event.{Event}
 use Rattle.lock_tests.specs.declared.diaries.Event.TheVariants.{Note, Remark}

@@ -1,3 +1,4 @@
+-- The numbers of the notes of a diary.
 use Rattle.std.specs.Prelude.{ℕ, List, [], ◌∷◌}
 use Rattle.lock_tests.specs.declared.diaries.Event.{Event}
 use Rattle.lock_tests.specs.declared.diaries.Event.TheVariants.{Note, Remark}

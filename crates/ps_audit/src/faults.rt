@@ -1,3 +1,5 @@
+//! Why a stream is not judged.
+
 use ps_data::Memory;
 use std::alloc::{AllocError, AllocFailed};
 

@@ -1,3 +1,5 @@
+//! What is said of one line of a recorded stream.
+
 use crate::Broken;
 use ps_data::{OpId, Position};
 

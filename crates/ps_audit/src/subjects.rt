@@ -1,3 +1,5 @@
+//! What a recorded stream is judged by.
+
 use ps_definitions::Rules;
 use ps_rows::Transaction;
 use ps_sql_eval::Asker;

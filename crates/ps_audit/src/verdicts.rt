@@ -1,3 +1,5 @@
+//! What is said of a recorded stream.
+
 use ps_data::{Items, OpId, Position};
 
 /// What is said of a recorded stream.

@@ -1,3 +1,5 @@
+//! Leaves of a condition on a row: their values, and whether all of them hold.
+
 ghost use Rattle.std.specs.Prelude.{◌≡◌, false, IfOk};
 ghost use Rattle.std.specs.List.{list_any};
 ghost use Rattle.ps_queries.specs.declared.expressions.Expr.{Expr as ExprData};

@@ -1,3 +1,5 @@
+//! Why the entries of a row are not answered.
+
 use ps_data::Memory;
 use std::alloc::{AllocError, AllocFailed};
 

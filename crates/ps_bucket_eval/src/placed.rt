@@ -1,3 +1,5 @@
+//! An entry of a row.
+
 use ps_bucket_log::Key;
 use ps_data::Text;
 

@@ -1,3 +1,5 @@
+//! The entries of a row, query by query, and those before and after a change of it.
+
 ghost use Rattle.std.specs.Prelude.{◌≡◌, ◌≤◌, ◌<◌, ◌++◌, drop, [], ◌∷◌, true, false, IfOk, OnOk, length, map, flat_map, bytes_eq};
 ghost use Rattle.std.specs.List.{list_any};
 ghost use Rattle.ps_definitions.specs.declared.branches.Branch.{Branch as BranchData};

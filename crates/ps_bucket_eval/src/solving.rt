@@ -1,3 +1,5 @@
+//! The vectors of a branch on a row: the values that its matches allow each parameter.
+
 ghost use Rattle.std.specs.Prelude.{◌≡◌, [], ◌∷◌, false, IfOk, map};
 ghost use Rattle.std.specs.List.{list_any};
 ghost use Rattle.std.specs.BTreeMap.{is_at};

@@ -1,3 +1,5 @@
+//! A row of a table at the source, borrowed.
+
 use ps_data::Text;
 use ps_rows::Row;
 

@@ -1,3 +1,5 @@
+//! What one read of a log gives, within 1,000 operations and 1 MiB of data.
+
 ghost use Rattle.std.specs.Prelude.{◌≡◌, ◌≤◌, ◌+◌, ◌==◌, ◌||◌, take, length, IfOk};
 ghost use Rattle.ps_bucket_log.specs.Logs.{IsRising};
 ghost use Rattle.ps_bucket_log.specs.Batches.{batch_of, batch_from, front_of, takes_next};

@@ -1,3 +1,5 @@
+//! What every log of a bucket promises.
+
 ghost use Rattle.std.specs.Prelude.{◌≡◌, ◌+◌, ◌<◌, ◌≤◌, false, ◌∷◌, [], ◌++◌, length, IfOk, OnOk, OnErr};
 
 use crate::{Batch, Op, Steps};

@@ -1,3 +1,5 @@
+//! Operations of a bucket, and their keys.
+
 ghost use Rattle.std.specs.Prelude.{◌≡◌, ◌↔◌, IfOk, IsTrue};
 
 use ps_checksum::Sum;

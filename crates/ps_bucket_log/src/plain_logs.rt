@@ -1,3 +1,5 @@
+//! The plain log: the list of its operations.
+
 ghost use Rattle.std.specs.Prelude.{◌≡◌, ◌≤◌, [], IsOk, OnOk, OnErr};
 ghost use Rattle.ps_bucket_log.specs.Logs.{IsLog};
 

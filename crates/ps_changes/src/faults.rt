@@ -1,3 +1,5 @@
+//! Why a change line, an upload's body or a change by itself is not read.
+
 use ps_data::Memory;
 use std::alloc::{AllocError, AllocFailed};
 

@@ -1,3 +1,5 @@
+//! Change lines, uploads and single changes, read from their bytes.
+
 ghost use Rattle.std.specs.Prelude.{List, IfOk, Ok};
 ghost use Rattle.ps_changes.specs.Types.{Transaction as TransactionData, Change as ChangeData};
 ghost use Rattle.ps_changes.specs.Members.{Reads, seen_by};

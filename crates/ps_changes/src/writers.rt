@@ -1,3 +1,5 @@
+//! Change lines, uploads and single changes, written as bytes.
+
 ghost use Rattle.std.specs.Prelude.{◌≡◌, ◌≢◌, ◌≤◌, [], map, length, decimal, false, All, IfSome, IfOk, OnOk, Ok};
 ghost use Rattle.serde_json.specs.Data.{string, object, array, put as with_member, depth};
 ghost use Rattle.serde_json.specs.View.{view, members_view, items_of};

@@ -1,3 +1,5 @@
+//! Checksums of operations, and their sums modulo 2^32.
+
 ghost use Rattle.std.specs.Prelude.{◌≡◌, List, ℕ};
 ghost use Rattle.sha2.specs.Hashers.{Holds256};
 ghost use Rattle.ps_checksum.specs.Sums.{add_sums, zero_sum, negated_sum, checksum_of, put_text, remove_text};

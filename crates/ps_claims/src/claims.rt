@@ -1,3 +1,5 @@
+//! Claims files, read as who asks.
+
 ghost use Rattle.std.specs.Prelude.{◌≡◌, IfOk, Ok, None, codes};
 ghost use Rattle.std.specs.Str.{IsUtf8};
 ghost use Rattle.serde_json.specs.Find.{get};

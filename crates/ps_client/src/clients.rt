@@ -1,3 +1,5 @@
+//! A client, and what each of its calls promises.
+
 ghost use Rattle.std.specs.Prelude.{◌≡◌, ◌≢◌, ◌≤◌, [], IfOk, IfErr, IfSome, OnOk, OnErr, Ok, Err, option_map};
 ghost use Rattle.std.specs.Str.{IsUtf8};
 ghost use Rattle.ps_data.specs.Numbers.{greatest};

@@ -1,3 +1,5 @@
+//! What a client says of a line that it took.
+
 use ps_checksum::Sum;
 use ps_data::{Items, OpId, Text};
 

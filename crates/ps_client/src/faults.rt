@@ -1,3 +1,5 @@
+//! Why a client did not do what it was asked.
+
 use ps_client_log::KeepFault;
 use ps_data::Memory;
 use ps_lines::LineFault;

@@ -1,3 +1,5 @@
+//! Local writes: kept, uploaded, and waited for.
+
 ghost use Rattle.std.specs.Prelude.{◌≡◌, ◌≢◌, ◌≤◌, [], ◌∷◌, Some, IfOk, IfSome, OnOk, OnErr, option_map};
 ghost use Rattle.ps_data.specs.Numbers.{greatest};
 ghost use Rattle.ps_client_log.specs.Keeping.{RoseWhereFailed};

@@ -1,3 +1,5 @@
+//! The request of a stream for what a client holds.
+
 ghost use Rattle.std.specs.Prelude.{◌≡◌, IfOk, map, codes};
 ghost use Rattle.ps_client_log.specs.Logs.{kept};
 ghost use Rattle.ps_client.specs.Requests.{known_at, IsRequest};

@@ -1,3 +1,5 @@
+//! The rows that a client shows, in their order.
+
 ghost use Rattle.std.specs.Prelude.{◌≡◌, ◌<◌, ◌+◌, IfOk, IsTrue, drop, filter, length, map, not};
 ghost use Rattle.std.specs.BTreeMap.{IsOrdered};
 ghost use Rattle.std.specs.List.{IsDistinct};

@@ -1,3 +1,5 @@
+//! Where a client stands in its stream.
+
 use crate::tables::Table;
 
 // How far a client is in a stream.

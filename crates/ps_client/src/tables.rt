@@ -1,3 +1,5 @@
+//! What a stream's lines told of the checkpoint that is under way.
+
 use crate::telling::Told;
 use ps_data::OpId;
 

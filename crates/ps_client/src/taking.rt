@@ -1,3 +1,5 @@
+//! What a client makes of each line of its stream.
+
 ghost use Rattle.std.specs.Prelude.{◌≡◌, ◌≢◌, ◌≤◌, [], OnOk, OnErr, IfOk, IsOk, map, filter, not, nat_le, unwrap_or};
 ghost use Rattle.std.specs.List.{list_all};
 ghost use Rattle.ps_data.specs.Numbers.{greatest};

@@ -1,3 +1,5 @@
+//! The buckets of a checkpoint, found by their names.
+
 ghost use Rattle.std.specs.Prelude.{◌≡◌, [], IfOk, OnOk, bytes_eq, not, filter};
 ghost use Rattle.std.specs.List.{list_all};
 ghost use Rattle.ps_client_log.specs.Logs.{kept};

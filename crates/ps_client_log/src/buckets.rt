@@ -1,3 +1,5 @@
+//! The images of a client's buckets, found by their names.
+
 ghost use Rattle.std.specs.Prelude.{◌≡◌, ◌≢◌, ℕ, ◌+◌, ◌≤◌, List, [], Some, None, OnOk, IfOk, fold, length, unwrap_or, bytes_eq, if◌then◌else◌};
 ghost use Rattle.ps_bucket_log.specs.Buckets.{after, fresh};
 ghost use Rattle.ps_client_log.specs.Images.{bucket_found, room_for};

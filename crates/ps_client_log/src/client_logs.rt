@@ -1,3 +1,5 @@
+//! What a client keeps, in memory and by a keeper, and the edits that change both.
+
 ghost use Rattle.std.specs.Prelude.{◌≡◌, ℕ, ◌≤◌, List, ◌++◌, OnOk, OnErr, IfOk, IfErr, IfSome, IsSome, None, is_some, bytes_eq};
 ghost use Rattle.std.specs.Cmp.Lexicographic.{slice_cmp};
 ghost use Rattle.std.specs.List.{IsDistinct, list_any};

@@ -1,3 +1,5 @@
+//! Changes of what a client keeps.
+
 ghost use Rattle.std.specs.Prelude.{◌≡◌, IfOk};
 
 use crate::Target;

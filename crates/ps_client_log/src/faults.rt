@@ -1,3 +1,5 @@
+//! Why a keeper did not answer.
+
 use ps_data::Memory;
 use std::alloc::{AllocError, AllocFailed};
 

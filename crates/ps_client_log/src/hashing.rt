@@ -1,3 +1,5 @@
+//! How the maps of a client hash their keys.
+
 use std::hash::{BuildHasher, DefaultHasher, RandomState};
 
 /// How the maps of a client hash their keys: the names of buckets, and in a bucket the kinds, ids and subkeys of rows.

@@ -1,3 +1,5 @@
+//! What a client keeps in memory, with room made first for what edits bring.
+
 ghost use Rattle.std.specs.Prelude.{◌≡◌, ℕ, ◌≤◌, List, ◌∷◌, [], OnOk, OnErr, IfOk, ◌+◌};
 ghost use Rattle.ps_client_log.specs.Edits.{CanMake, CanMakeAll, with_edit, with_edits};
 ghost use Rattle.ps_client_log.specs.Rooms.{kept_by, given, brings, pushes, HasRoom};

@@ -1,3 +1,5 @@
+//! The image of one bucket: its position, its sum, and the PUTs that stand in it.
+
 ghost use Rattle.std.specs.Prelude.{◌≡◌, ◌+◌, ◌<◌, ◌≤◌, fold, length, OnOk, IfOk};
 ghost use Rattle.indexmap.specs.IndexMap.{spare};
 ghost use Rattle.ps_bucket_log.specs.Buckets.{after, fresh};

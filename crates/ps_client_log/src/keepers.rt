@@ -1,3 +1,5 @@
+//! What a keeper of a client's state promises.
+
 ghost use Rattle.std.specs.Prelude.{◌≡◌, ℕ, ◌≤◌, Option, IfSome, IfOk, OnOk, OnErr};
 ghost use Rattle.std.specs.Option.{option_map};
 ghost use Rattle.ps_client_log.specs.Kept.{Kept, kept_of};

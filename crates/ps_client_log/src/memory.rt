@@ -1,3 +1,5 @@
+//! Keepers in memory, of which one fails at given calls and one never fails.
+
 ghost use Rattle.std.specs.Prelude.{◌≡◌, ◌≤◌, Some, None, IfOk, OnOk, OnErr};
 ghost use Rattle.ps_io.specs.Calls.{fails_next, Begins, IsCounted};
 ghost use Rattle.ps_client_log.specs.Kept.{kept_of, nothing_kept};

@@ -1,3 +1,5 @@
+//! The queue of local writes, which gives up its oldest in constant time.
+
 ghost use Rattle.std.specs.Prelude.{◌≡◌, ◌≢◌, ◌+◌, ◌≤◌, ◌∷◌, [], ◌++◌, drop, OnOk};
 
 use ps_data::Memory;

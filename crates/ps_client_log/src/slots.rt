@@ -1,3 +1,5 @@
+//! A bucket's place: its image, or room for one.
+
 ghost use Rattle.std.specs.Prelude.{◌≡◌, ◌+◌, ◌≤◌, Some, None, OnOk, fold, length, unwrap_or};
 ghost use Rattle.ps_bucket_log.specs.Buckets.{after, fresh};
 ghost use Rattle.ps_client_log.specs.Images.{slot_bucket, slot_room};

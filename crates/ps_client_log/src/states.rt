@@ -1,3 +1,5 @@
+//! All that a client keeps, as plain data.
+
 use ps_bucket_log::Key;
 use ps_checksum::Sum;
 use ps_data::{Items, OpId, Text};

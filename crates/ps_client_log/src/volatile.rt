@@ -1,3 +1,5 @@
+//! A keeper that keeps nothing.
+
 ghost use Rattle.std.specs.Prelude.{◌≡◌, IsOk, IfOk, None};
 ghost use Rattle.ps_client_log.specs.Kept.{kept_of, nothing_kept};
 ghost use Rattle.ps_client_log.specs.Soundness.{IsSoundState};

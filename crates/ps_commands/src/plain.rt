@@ -1,3 +1,5 @@
+//! Every command of files and sinks: its words, its files, its text, its status.
+
 ghost use Rattle.std.specs.Prelude.{◌≡◌, ◌≢◌, ◌≤◌, ◌⊎◌, ◌↔◌, ℕ, List, Option, Some, None};
 ghost use Rattle.ps_io.specs.Contents.{Contents, Joins};
 ghost use Rattle.ps_io.specs.Counts.{Rose};

@@ -1,3 +1,5 @@
+//! Why a script is not played to its end.
+
 use ps_data::Memory;
 use ps_script::ScriptFault;
 

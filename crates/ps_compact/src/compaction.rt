@@ -1,3 +1,5 @@
+//! Compaction of one bucket's log at a level.
+
 ghost use Rattle.std.specs.Prelude.{◌≡◌, length, filter, is_some, IfOk, OnOk, OnErr};
 ghost use Rattle.ps_compact.specs.Compaction.{moved as moved_of, with_clear as with_clear_of, targets_of, cleared_count, compacted as compacted_log, report_of};
 

@@ -1,3 +1,5 @@
+//! What an event of a script did.
+
 use crate::writable_lines::WritableLine;
 use ps_client::{Differing, Why};
 use ps_compact::Report;

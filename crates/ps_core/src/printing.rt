@@ -1,3 +1,5 @@
+//! Rows as they are printed.
+
 ghost use Rattle.std.specs.Prelude.{◌≡◌, ◌++◌, IfOk, OnOk};
 ghost use Rattle.ps_core.specs.Texts.{row_text, rows_text};
 

@@ -1,3 +1,5 @@
+//! A client of a script, with its stream.
+
 use ps_client::Client;
 use ps_client_log::VolatileKeeper;
 use ps_session::Session;

@@ -1,3 +1,5 @@
+//! The text of each effect of a script.
+
 ghost use Rattle.std.specs.Prelude.{◌≡◌, ◌++◌, ◌∷◌, [], ℕ, List, IfOk, OnOk, decimal};
 ghost use Rattle.ps_core.specs.Texts.{after_words, differing_words, effect_text as text_of_effect, line_of};
 

@@ -1,3 +1,5 @@
+//! The world of a script: a store and clients by their names, event by event.
+
 ghost use Rattle.std.specs.Prelude.{◌≡◌, true, Err, IfOk};
 ghost use Rattle.ps_core.specs.Readers.{HasBegun};
 ghost use Rattle.ps_store.specs.declared.fixed.Fixed.{Fixed as FixedSeen};

@@ -1,3 +1,5 @@
+//! One way for a condition to hold.
+
 use crate::Match;
 use ps_data::Items;
 use ps_queries::Expr;

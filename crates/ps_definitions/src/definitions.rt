@@ -1,3 +1,5 @@
+//! A bucket definition.
+
 use crate::Planned;
 use ps_data::{Items, Text};
 use ps_queries::ParameterQuery;

@@ -1,3 +1,5 @@
+//! A leaf of a condition that says which values a parameter may have.
+
 use ps_data::Text;
 use ps_queries::Expr;
 

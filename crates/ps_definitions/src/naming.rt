@@ -1,3 +1,5 @@
+//! The names of buckets.
+
 ghost use Rattle.std.specs.Prelude.{◌≡◌, ◌++◌, IfOk, OnOk};
 ghost use Rattle.std.specs.List.{AllByRecursion};
 ghost use Rattle.ps_values.specs.Writing.{value_tokens};

@@ -1,3 +1,5 @@
+//! A data query with its number and its branches.
+
 use crate::Branch;
 use ps_data::Items;
 use ps_queries::DataQuery;

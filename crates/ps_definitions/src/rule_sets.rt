@@ -1,3 +1,5 @@
+//! The rules of a service, and the queries of a table found by the table.
+
 ghost use Rattle.std.specs.Prelude.{◌≡◌, ℕ, List, IfOk};
 ghost use Rattle.std.specs.List.{AllByRecursion};
 ghost use Rattle.ps_definitions.specs.RuleSets.{AreRules};

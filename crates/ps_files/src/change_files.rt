@@ -1,3 +1,5 @@
+//! Change files, read line by line into a store.
+
 ghost use Rattle.std.specs.Prelude.{◌≡◌, ℕ, Err, List, Option, ◌<◌, ◌≤◌, ◌+◌, ◌^◌, ◌∷◌, ◌++◌, [], length, IfOk, OnOk};
 ghost use Rattle.ps_rows.specs.declared.changes.Transaction.{Transaction as TransactionData};
 ghost use Rattle.ps_changes.specs.Lines.{line_of};

@@ -1,3 +1,5 @@
+//! The text of `check`: definitions and warnings of rules.
+
 ghost use Rattle.std.specs.Prelude.{◌≡◌, ◌++◌, IfOk, OnOk};
 ghost use Rattle.ps_files.specs.Checking.{counted_line, definition_line, warning_line, kind_text as kind_text_of, check_text};
 

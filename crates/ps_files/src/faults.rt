@@ -1,3 +1,5 @@
+//! Why the program did not do what it was asked.
+
 use ps_data::{Memory, Text};
 use std::alloc::{AllocError, AllocFailed};
 

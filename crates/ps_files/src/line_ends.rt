@@ -1,3 +1,5 @@
+//! Whether the last line of a file lacks its line feed.
+
 ghost use Rattle.std.specs.Prelude.{◌≡◌};
 ghost use Rattle.ps_files.specs.LineEnds.{lacks_feed as lacks_feed_of};
 

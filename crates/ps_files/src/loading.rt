@@ -1,3 +1,5 @@
+//! Files read within their limits: rules, next rules, claims and keys.
+
 ghost use Rattle.std.specs.Prelude.{◌≡◌, ◌≤◌};
 ghost use Rattle.ps_files.specs.RulesFaults.{of_next as next_fault};
 ghost use Rattle.ps_files.specs.Loading.{Loads, MissesNamed, IsContent, RefusesNothing, FindsRules, IsRulesFault, IsNextFault, FindsKeys, IsKeysFault, FindsAsker, IsClaimsFault};

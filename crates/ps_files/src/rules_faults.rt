@@ -1,3 +1,5 @@
+//! What a fault of rules is to the program.
+
 ghost use Rattle.std.specs.Prelude.{◌≡◌, ◌<◌, length};
 ghost use Rattle.ps_files.specs.RulesFaults.{yaml_fault as yaml_fault_of, sql_fault as sql_fault_of, rules_fault as rules_fault_of, rules_of_file, ReadsRules};
 

@@ -1,3 +1,5 @@
+//! The line that is said of a fault.
+
 ghost use Rattle.std.specs.Prelude.{◌≡◌, ◌++◌, codes, decimal};
 ghost use Rattle.ps_files.specs.FaultTexts.{Tells, fault_line};
 ghost use Rattle.ps_files.specs.Saying.{SaysFault, IsCauseText, front_of, joined};

@@ -1,3 +1,5 @@
+//! The line of a signed token.
+
 ghost use Rattle.std.specs.Prelude.{◌≡◌, ◌++◌, codes, IfOk};
 ghost use Rattle.ps_files.specs.Loading.{SignsLine};
 

@@ -1,3 +1,5 @@
+//! The source at a position, as a map of its rows.
+
 ghost use Rattle.std.specs.Prelude.{◌≡◌, [], OnOk};
 ghost use Rattle.ps_rows.specs.Source.{after_changes};
 ghost use Rattle.ps_grant.specs.Mapped.{kept_rows};

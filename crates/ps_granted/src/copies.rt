@@ -1,3 +1,5 @@
+//! A copy of a source row that a data query makes for an asker.
+
 ghost use Rattle.std.specs.Prelude.{◌≡◌, IfOk};
 
 use ps_data::{Memory, Position, Text};

@@ -1,3 +1,5 @@
+//! A row of the source, as its last change left it.
+
 use ps_data::{Position, Text};
 use ps_rows::Row;
 

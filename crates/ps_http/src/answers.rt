@@ -1,3 +1,5 @@
+//! Heads of answers, written.
+
 ghost use Rattle.std.specs.Prelude.{◌≡◌, ◌++◌, Some, IfOk, OnOk, IsTrue, string_bytes};
 ghost use Rattle.std.specs.Fmt.{decimal};
 ghost use Rattle.ps_http.specs.Answers.{status_line, is_status, line_end, length_line, stream_line, json_line, last_lines, body_fields, answer_head};

@@ -1,3 +1,5 @@
+//! Bodies of requests, taken from a source in their stated length.
+
 ghost use Rattle.std.specs.Prelude.{◌≡◌, ◌≤◌, length};
 ghost use Rattle.ps_http.specs.Bodies.{ReadsBody, Fills};
 

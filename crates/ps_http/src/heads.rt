@@ -1,3 +1,5 @@
+//! Heads of requests: what is read of one, and why one is refused.
+
 ghost use Rattle.std.specs.Prelude.{◌≡◌};
 
 use ps_data::{Memory, Text};

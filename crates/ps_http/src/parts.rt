@@ -1,3 +1,5 @@
+//! The parts of a head's first line, and its fields as texts.
+
 ghost use Rattle.std.specs.Prelude.{◌≡◌, length, map, All, IfOk};
 ghost use Rattle.std.specs.List.{before_first, after_first};
 ghost use Rattle.std.specs.Option.{option_copied};

@@ -1,3 +1,5 @@
+//! The value of a name in a query.
+
 ghost use Rattle.std.specs.Prelude.{◌≡◌, IfOk};
 ghost use Rattle.ps_http.specs.Queries.{query_value_of};
 

@@ -1,3 +1,5 @@
+//! A head taken from a source byte by byte, up to its empty line.
+
 ghost use Rattle.std.specs.Prelude.{◌≡◌, ◌≤◌, ◌||◌, ◌&&◌, not, [], ◌∷◌, ◌++◌, OnOk};
 ghost use Rattle.httparse.specs.Grammar.{HasNoRequest};
 ghost use Rattle.ps_http.specs.Heads.{Reads};

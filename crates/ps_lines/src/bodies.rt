@@ -1,3 +1,5 @@
+//! The body of a stream's request, as data.
+
 use ps_data::{Items, OpId, Text};
 
 /// How far a client holds one bucket.

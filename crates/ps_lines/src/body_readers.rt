@@ -1,3 +1,5 @@
+//! Bodies of stream requests, read.
+
 ghost use Rattle.std.specs.Prelude.{◌≡◌, ◌<◌, ◌≤◌, All, IfOk, Ok, Err, IsSome, None, map, bytes_eq};
 ghost use Rattle.std.specs.Str.{IsUtf8};
 ghost use Rattle.ps_lines.specs.declared.faults.LineFault.TheVariants.{BadJson};

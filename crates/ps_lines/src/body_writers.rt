@@ -1,3 +1,5 @@
+//! Bodies of stream requests, written.
+
 ghost use Rattle.std.specs.Prelude.{◌≡◌, IfOk, Ok};
 ghost use Rattle.serde_json.specs.View.{view};
 ghost use Rattle.ps_lines.specs.Bodies.{body_of, IsBody};

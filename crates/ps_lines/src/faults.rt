@@ -1,3 +1,5 @@
+//! Why a line or a body is not read.
+
 use ps_data::Memory;
 use std::alloc::{AllocError, AllocFailed};
 

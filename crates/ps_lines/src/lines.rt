@@ -1,3 +1,5 @@
+//! The lines of a stream, as data.
+
 use ps_bucket_log::Op;
 use ps_checksum::Sum;
 use ps_data::{Items, OpId, Text};

@@ -1,3 +1,5 @@
+//! Lines of a stream, read.
+
 ghost use Rattle.std.specs.Prelude.{◌≡◌, IfOk, Ok, Err};
 ghost use Rattle.std.specs.Str.{IsUtf8};
 ghost use Rattle.ps_lines.specs.declared.faults.LineFault.TheVariants.{BadJson};

@@ -1,3 +1,5 @@
+//! Lines of a stream, written.
+
 ghost use Rattle.std.specs.Prelude.{◌≡◌, ◌<◌, ◌^◌, All, IfOk, OnOk, Ok};
 ghost use Rattle.ps_bucket_log.specs.Ops.{checksum};
 ghost use Rattle.ps_lines.specs.Reading.{line_of};

@@ -1,3 +1,5 @@
+//! The rows that parameter queries read, as they stood at each position, and an asker's buckets.
+
 ghost use Rattle.std.specs.Prelude.{◌≡◌, ◌≤◌, ◌+◌, max, List, [], ◌∷◌, ◌++◌, if◌then◌else◌, IfOk, OnOk};
 ghost use Rattle.ps_queries.specs.Vectors.{SourceRow};
 ghost use Rattle.ps_params.specs.Notes.{Note, SameFrom};

@@ -1,3 +1,5 @@
+//! A row as a change left it at a position.
+
 use ps_data::{Position, Text};
 use ps_rows::Row;
 

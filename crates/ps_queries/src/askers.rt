@@ -1,3 +1,5 @@
+//! Who asks.
+
 use ps_data::Text;
 
 /// Who asks.

@@ -1,3 +1,5 @@
+//! Expressions, and their copies.
+
 ghost use Rattle.std.specs.Prelude.{◌≡◌, IfOk};
 
 use ps_data::{Boxed, Copied, Items, Memory, Text};

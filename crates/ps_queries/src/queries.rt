@@ -1,3 +1,5 @@
+//! Parameter queries and data queries, and their copies.
+
 ghost use Rattle.std.specs.Prelude.{◌≡◌, IfOk};
 
 use crate::Expr;

@@ -1,3 +1,5 @@
+//! What an expression speaks of, and the laws that its value depends on nothing else.
+
 ghost use Rattle.std.specs.Prelude.{◌≡◌, map};
 ghost use Rattle.ps_queries.specs.Subjects.{any_true, speaks, IsSameForEveryAsker, IsSameForEveryBucket, IsSameOnEveryRow};
 

@@ -1,3 +1,5 @@
+//! Changes of source rows, and transactions of them.
+
 ghost use Rattle.std.specs.Prelude.{◌≡◌, IfOk};
 
 use crate::Row;

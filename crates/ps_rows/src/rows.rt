@@ -1,3 +1,5 @@
+//! Rows of the source: columns in the order of their names.
+
 ghost use Rattle.std.specs.Prelude.{◌≡◌, true, IfOk};
 ghost use Rattle.ps_rows.specs.Rows.{is_row};
 

@@ -1,3 +1,5 @@
+//! A row as a client shows it.
+
 use ps_data::{Copied, Memory, Text};
 use std::alloc::Global;
 

@@ -1,3 +1,5 @@
+//! Definitions on their way from a document to rules that are checked.
+
 use ps_data::{Items, Text};
 use ps_definitions::{Definition, Warning};
 use ps_queries::ParameterQuery;

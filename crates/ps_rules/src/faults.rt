@@ -1,3 +1,5 @@
+//! Why a text is no rules.
+
 use ps_data::Memory;
 use ps_sql::SqlFault;
 use ps_yaml::YamlFault;

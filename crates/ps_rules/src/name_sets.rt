@@ -1,3 +1,5 @@
+//! Names that are looked up, which contracts see as their list.
+
 ghost use Rattle.std.specs.Prelude.{◌≡◌, [], ◌∷◌, ◌++◌, IfOk};
 ghost use Rattle.ps_definitions.specs.Names.{is_in};
 

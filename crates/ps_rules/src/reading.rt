@@ -1,3 +1,5 @@
+//! Rules read from their document, definition by definition.
+
 ghost use Rattle.std.specs.Prelude.{◌≡◌, ◌≤◌, ◌<◌, ◌+◌, ◌^◌, length, MatchOption, IfOk, ◌++◌};
 ghost use Rattle.ps_yaml.specs.declared.nodes.Node.{Node as NodeData};
 ghost use Rattle.ps_yaml.specs.Grammar.{Spells};

@@ -1,3 +1,5 @@
+//! The shape of a rules document: which pairs a definition has, and its queries.
+
 ghost use Rattle.std.specs.Prelude.{◌≡◌, []};
 ghost use Rattle.std.specs.List.{list_all};
 ghost use Rattle.ps_rules.specs.Faults.{Reads};

@@ -1,3 +1,5 @@
+//! What a line of a script asks for.
+
 use ps_data::Text;
 use ps_rows::Change;
 use ps_sql_eval::Asker;

@@ -1,3 +1,5 @@
+//! Why a line of a script is refused.
+
 use ps_data::Memory;
 use std::alloc::AllocError;
 

@@ -1,3 +1,5 @@
+//! The law that the events of lines are those of the grammar.
+
 ghost use Rattle.ps_script.specs.Events.{ReadsWhatIsSpelled};
 
 use ps_changes::lone_changes_are_spelled;

@@ -1,3 +1,5 @@
+//! Lines of scripts, read as events.
+
 ghost use Rattle.std.specs.Prelude.{Some, IfOk, is_some, nat_le, length, ◌&&◌};
 ghost use Rattle.ps_changes.specs.Lines.{longest};
 ghost use Rattle.ps_script.specs.declared.events.ScriptEvent.{ScriptEvent as ScriptEventData};

@@ -1,3 +1,5 @@
+//! What a request asks for.
+
 use ps_data::{Items, Text};
 use ps_lines::Known;
 use ps_rows::Change;

@@ -1,3 +1,5 @@
+//! Why a request is refused, and the status of the answer.
+
 ghost use Rattle.std.specs.Prelude.{◌≡◌};
 ghost use Rattle.ps_serve.specs.Refusals.{status_of};
 

@@ -1,3 +1,5 @@
+//! What all connections of a service have in common.
+
 use ps_token::Keys;
 
 /// What all connections of a service have in common.

@@ -1,3 +1,5 @@
+//! What the service does, each under a path of its own.
+
 ghost use Rattle.std.specs.Prelude.{◌≡◌};
 ghost use Rattle.ps_serve.specs.Requests.{way_of as way_named, method_of};
 

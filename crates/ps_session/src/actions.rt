@@ -1,3 +1,5 @@
+//! What a session wants next of its store.
+
 use ps_data::OpId;
 
 /// What a session wants next of its store.

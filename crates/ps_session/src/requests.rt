@@ -1,3 +1,5 @@
+//! What a client asks a stream for.
+
 use ps_data::Items;
 use ps_lines::Known;
 use ps_sql_eval::Asker;

@@ -1,3 +1,5 @@
+//! The query that an expression stands in, and what was read of it so far.
+
 use crate::{Expr, Output};
 use ps_data::{Items, Text};
 

@@ -1,3 +1,5 @@
+//! The words of a text that are left to read.
+
 use crate::SqlFault;
 use crate::words::{Keyword, Lexeme, Mark, Word};
 use ps_data::Text;

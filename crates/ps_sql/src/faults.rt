@@ -1,3 +1,5 @@
+//! Why a text is no query.
+
 use ps_data::Memory;
 use std::alloc::{AllocError, AllocFailed};
 use thiserror::Error;

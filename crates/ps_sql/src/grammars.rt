@@ -1,3 +1,5 @@
+//! Expressions, read level by level.
+
 ghost use Rattle.ps_sql.specs.Answers.{ReadsOn};
 ghost use Rattle.ps_sql.specs.Inputs.{next};
 ghost use Rattle.ps_sql.specs.Grammar.{ands, arguments, bracketed, call_by, expr, joins, keyword_value, mark_value, more, negation, operand_at, orders, plain_name, prime, sames, step};

@@ -1,3 +1,5 @@
+//! The words of a text and where they stand, and its tokens.
+
 ghost use Rattle.std.specs.Prelude.{◌≡◌, ℕ, ◌<◌, List, length, IfOk, map};
 ghost use Rattle.ps_sql.specs.declared.words.Token.{Token};
 ghost use Rattle.ps_sql.specs.Answers.{AnswersLexemes, AnswersTokens, Reads};

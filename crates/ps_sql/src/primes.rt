@@ -1,3 +1,5 @@
+//! What an expression is made of, read: columns, parameters, values of the asker, functions, operators.
+
 ghost use Rattle.std.specs.Prelude.{◌≡◌, bytes_eq};
 ghost use Rattle.ps_sql.specs.Answers.{ReadsOn, StepsOn};
 ghost use Rattle.ps_sql.specs.Inputs.{next, second, plain_name_of};

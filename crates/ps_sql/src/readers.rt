@@ -1,3 +1,5 @@
+//! Parameter queries and data queries, read.
+
 ghost use Rattle.std.specs.Prelude.{◌≡◌, ℕ, ◌<◌, List, length, IfOk};
 ghost use Rattle.ps_sql.specs.declared.words.Lexeme.{Lexeme};
 ghost use Rattle.ps_sql.specs.Answers.{AnswersQuery, Reads, ReadsOn, StepsOn, input_of, StopsAtToken};

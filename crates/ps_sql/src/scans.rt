@@ -1,3 +1,5 @@
+//! One word at the front of a text: what it is, and how long.
+
 ghost use Rattle.std.specs.Prelude.{◌≡◌, true, ◌+◌, ◌-◌, ◌<◌, ◌≤◌, length, take, drop, slice_index, IfOk, IfSome, Some, None, option_map, if◌then◌else◌, nat_le};
 ghost use Rattle.std.specs.List.{prefix_len};
 ghost use Rattle.ps_sql.specs.declared.words.Word.TheVariants as words;

@@ -1,3 +1,5 @@
+//! What words there are: tokens, keywords and marks.
+
 use ps_data::Text;
 
 /// What a token is.

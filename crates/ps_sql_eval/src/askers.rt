@@ -1,3 +1,5 @@
+//! An asker of whom nothing is known.
+
 ghost use Rattle.std.specs.Prelude.{◌≡◌};
 ghost use Rattle.ps_sql_eval.specs.Evaluated.{nobody as nobody_asks};
 

@@ -1,3 +1,5 @@
+//! The value of a column of a row.
+
 ghost use Rattle.std.specs.Prelude.{◌≡◌, true, IfOk, option_map, unwrap_or};
 ghost use Rattle.ps_data.specs.declared.values.Value.TheVariants as values;
 ghost use Rattle.ps_rows.specs.Rows.{is_row};

@@ -1,3 +1,5 @@
+//! The value of an expression, on a row or for an asker.
+
 ghost use Rattle.std.specs.Prelude.{◌≡◌, false, map, [], ◌∷◌, IfOk};
 ghost use Rattle.ps_queries.specs.Meaning.{value_of, two_value, call_value};
 ghost use Rattle.ps_queries.specs.declared.subjects.Subject.TheVariants as subjects;

@@ -1,3 +1,5 @@
+//! Members and elements of the JSON in a value's text: `->`, `->>` and IN.
+
 ghost use Rattle.std.specs.Prelude.{◌≡◌, false, IfOk, IfSome, option_map};
 ghost use Rattle.serde_json.specs.Find.{as_array};
 ghost use Rattle.ps_sql_eval.specs.Evaluated.{json_in};

@@ -1,3 +1,5 @@
+//! Values as texts, and the functions of texts.
+
 ghost use Rattle.std.specs.Prelude.{◌≡◌, ◌≤◌, ◌^◌, ◌++◌, pos, length as length_of, MatchResult, IfOk, map, option_map};
 ghost use Rattle.std.specs.Str.{chars};
 ghost use Rattle.ps_data.specs.declared.values.Value.TheVariants as values;

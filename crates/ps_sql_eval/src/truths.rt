@@ -1,3 +1,5 @@
+//! Three-valued logic, and comparisons.
+
 ghost use Rattle.std.specs.Prelude.{◌≡◌, not, ◌||◌, if◌then◌else◌, Option, Some, None};
 ghost use Rattle.ps_data.specs.Values.{compare_values, is_null};
 ghost use Rattle.ps_queries.specs.Meaning.{least as least_of, greatest as greatest_of, opposite_truth, truth_value as value_of_truth, bool_value as value_of_bool, is_less, is_greater, ordered};

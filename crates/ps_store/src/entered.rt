@@ -1,3 +1,5 @@
+//! An operation, and the bucket that it is written into.
+
 use ps_bucket_log::Op;
 use ps_data::Text;
 

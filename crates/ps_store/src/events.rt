@@ -1,3 +1,5 @@
+//! The accepted changing calls of a store, of which a history is a list.
+
 use ps_data::Text;
 use ps_definitions::Rules;
 use ps_rows::Transaction;

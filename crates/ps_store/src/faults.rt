@@ -1,3 +1,5 @@
+//! Why a call of a store is refused.
+
 use ps_data::{Memory, OpId, Position, Text};
 
 /// Why a transaction or an upload was not fed.

@@ -1,3 +1,5 @@
+//! What an accepted token says.
+
 use ps_data::Text;
 
 /// What an accepted token says.

@@ -1,3 +1,5 @@
+//! Why a key file is not read, a token not signed, a token not accepted.
+
 use ps_data::Memory;
 use std::alloc::{AllocError, AllocFailed};
 

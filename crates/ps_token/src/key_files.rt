@@ -1,3 +1,5 @@
+//! Key files, read.
+
 ghost use Rattle.std.specs.Prelude.{◌≡◌, List, [], ◌∷◌, ◌++◌, IfOk, Ok, Err};
 ghost use Rattle.std.specs.Str.{IsUtf8};
 ghost use Rattle.ps_token.specs.Types.{Key as KeyData};

@@ -1,3 +1,5 @@
+//! Keys of a file, found by their kids.
+
 ghost use Rattle.std.specs.Prelude.{◌≡◌, [], ◌∷◌, ◌++◌, true, not, IfOk};
 ghost use Rattle.std.specs.Option.{option_copied};
 ghost use Rattle.ps_token.specs.KeyLists.{key_of, are_distinct, HaveDistinctKids, key_named};

@@ -1,3 +1,5 @@
+//! The law that base64url without padding is read strictly.
+
 ghost use Rattle.std.specs.Prelude.{◌≡◌, ◌↔◌, ℕ, List, Some};
 ghost use Rattle.base64.specs.GeneralPurpose.{IsBytes};
 ghost use Rattle.ps_token.specs.Parts.{part_of, bytes_of};

@@ -1,3 +1,5 @@
+//! The message authentication code HMAC with SHA-256.
+
 ghost use Rattle.std.specs.Prelude.{◌≡◌, ◌≤◌, ◌↔◌, length, IsTrue};
 ghost use Rattle.ps_token.specs.Macs.{filled as filled_key, block_of as block_of_key, masked as masked_block, hmac};
 

@@ -1,3 +1,5 @@
+//! The parts of a token, and base64url.
+
 ghost use Rattle.std.specs.Prelude.{◌≡◌, ◌+◌, Some, length, IfOk, IfSome, option_map, string_bytes};
 ghost use Rattle.ps_token.specs.Parts.{part_of, bytes_of, cut as cut_at_dot};
 ghost use Rattle.ps_token.specs.Seen.{IsSplit};

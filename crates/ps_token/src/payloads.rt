@@ -1,3 +1,5 @@
+//! The JSON of a token's parts: kid, expiry and claims.
+
 ghost use Rattle.std.specs.Prelude.{◌≡◌, IfOk};
 ghost use Rattle.serde_json.specs.View.{view};
 ghost use Rattle.ps_token.specs.Members.{Verifies, seen_by};

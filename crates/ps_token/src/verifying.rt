@@ -1,3 +1,5 @@
+//! Tokens, verified.
+
 ghost use Rattle.std.specs.Prelude.{◌≡◌, IfOk, None, Ok, Err};
 ghost use Rattle.serde_json.specs.View.{view};
 ghost use Rattle.ps_token.specs.Parts.{parts_of as parts_of_token, signed_of};

@@ -1,3 +1,5 @@
+//! JSON made values of SQL, and JSON made plain.
+
 ghost use Rattle.std.specs.Prelude.{◌≡◌, [], ◌∷◌, false, IfOk, IfSome, option_map};
 ghost use Rattle.serde_json.specs.View.{view, number_view, items_view, members_view};
 ghost use Rattle.serde_json.specs.Written.{has_float};

@@ -1,3 +1,5 @@
+//! JSON read, and the compact text of JSON without floats.
+
 ghost use Rattle.std.specs.Prelude.{◌≡◌, IfOk, OnOk, option_map, false, string_bytes};
 ghost use Rattle.std.specs.Str.{IsUtf8};
 ghost use Rattle.serde_json.specs.Data.{put};

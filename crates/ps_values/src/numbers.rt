@@ -1,3 +1,5 @@
+//! Decimal texts, written and read.
+
 ghost use Rattle.std.specs.Prelude.{◌≡◌, IfOk, Some, None};
 ghost use Rattle.std.specs.Fmt.{signed_decimal};
 ghost use Rattle.ps_data.specs.Numbers.{begins_plainly as begins_as_decimal, decimal_of};

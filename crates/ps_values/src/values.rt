@@ -1,3 +1,5 @@
+//! Values of SQL compared: their order, their truth, their equality.
+
 ghost use Rattle.std.specs.Prelude.{◌≡◌};
 ghost use Rattle.ps_data.specs.Values.{compare_values, truth_of as truth_of_value, equal_sql as equal_values};
 

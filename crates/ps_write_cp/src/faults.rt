@@ -1,3 +1,5 @@
+//! Why no number is given.
+
 use ps_data::Memory;
 use std::alloc::{AllocError, AllocFailed};
 

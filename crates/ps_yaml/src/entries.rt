@@ -1,3 +1,5 @@
+//! How a line of a map or of a list begins.
+
 ghost use Rattle.std.specs.Prelude.{◌≡◌, ◌<◌, ◌≤◌, length, IfSome};
 ghost use Rattle.std.specs.List.{position};
 ghost use Rattle.ps_yaml.specs.Lines as lines_of;

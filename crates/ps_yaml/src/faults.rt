@@ -1,3 +1,5 @@
+//! Why a text is no document.
+
 ghost use Rattle.std.specs.Prelude.{◌≡◌};
 ghost use Rattle.ps_yaml.specs.declared.faults.YamlFault.TheVariants as faults;
 

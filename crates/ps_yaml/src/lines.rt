@@ -1,3 +1,5 @@
+//! The lines of a document: their indents, their ends, and what each is.
+
 ghost use Rattle.std.specs.Prelude.{◌≡◌, ◌+◌, ◌<◌, ◌≤◌, [], ◌∷◌, length, take, drop, MatchOption, IfOk, IfSome, IsTrue};
 ghost use Rattle.std.specs.List.{list_all, position};
 ghost use Rattle.ps_yaml.specs.declared.faults.YamlFault.TheVariants as faults;

@@ -1,3 +1,5 @@
+//! The nodes of a document, with their places.
+
 use ps_data::{Items, Text};
 
 /// A node of a document, with the place of its first byte: lines and columns count from 1, columns in bytes.

@@ -1,3 +1,5 @@
+//! A map that is being read, of which no name stands twice.
+
 ghost use Rattle.std.specs.Prelude.{◌≡◌, [], ◌∷◌, ◌++◌, IfOk};
 ghost use Rattle.ps_yaml.specs.Trees.{is_named};
 

@@ -1,3 +1,5 @@
+//! Scalars: plain ones, quoted ones, and blocks of lines.
+
 ghost use Rattle.std.specs.Prelude.{◌≡◌, ◌+◌, ◌<◌, ◌≤◌, ◌==◌, ◌&&◌, ◌++◌, ◌∷◌, nat_lt, length, drop, slice_index, option_map, IfOk, IfSome, OnOk};
 ghost use Rattle.ps_yaml.specs.declared.nodes.Node.TheVariants as nodes;
 ghost use Rattle.ps_yaml.specs.Faults.{Reads};

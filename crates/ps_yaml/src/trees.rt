@@ -1,3 +1,5 @@
+//! Maps and lists of a document, read line by line.
+
 ghost use Rattle.std.specs.Prelude.{◌≡◌, ◌+◌, ◌<◌, ◌≤◌, [], ◌==◌, true, length, drop, option_map, IfOk};
 ghost use Rattle.std.specs.Str.{is_utf8};
 ghost use Rattle.ps_yaml.specs.declared.nodes.Node.TheVariants as nodes;

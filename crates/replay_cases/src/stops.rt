@@ -1,3 +1,5 @@
+//! Why a script is not played to its end.
+
 use std::fmt::Debug;
 
 /// Why a script is not played to its end. It has no `Debug`, so that every error that has it becomes one.

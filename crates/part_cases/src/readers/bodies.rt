@@ -1,3 +1,5 @@
+//! Cases of bodies of stream requests: what they are read as, and written as again.
+
 use crate::readers::written::shown_bytes;
 use ps_data::Memory;
 use ps_lines::{Known, StreamBody, read_body, write_body};

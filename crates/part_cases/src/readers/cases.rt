@@ -1,3 +1,5 @@
+//! The kinds of cases of readers, and the answer of each.
+
 use crate::readers::bodies::{body, rewritten_body};
 use crate::readers::changes::{change, change_line, changes, copied_change_line, same_rows};
 use crate::readers::evaluations::Asking;

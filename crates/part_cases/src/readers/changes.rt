@@ -1,3 +1,5 @@
+//! Cases of change lines, uploads and single changes, and of copies of what is read.
+
 use crate::readers::queries::text_of;
 use ps_changes::{ChangeFault, read_change, read_changes, read_line};
 use ps_data::{Column, Memory, Text, Value};

@@ -1,3 +1,5 @@
+//! Cases of expressions that are evaluated: who asks, on which row, and the values.
+
 use crate::readers::changes::show_change;
 use crate::readers::expressions::show_fault;
 use crate::readers::queries::text_of;

@@ -1,3 +1,5 @@
+//! Expressions as text, with brackets round all that has parts; faults of queries as text.
+
 use ps_queries::Expr;
 use ps_sql::SqlFault;
 use std::alloc::AllocError;

@@ -1,3 +1,5 @@
+//! Cases of stream lines: what they are read as.
+
 use ps_bucket_log::{Key, Op};
 use ps_data::{Memory, Text};
 use ps_lines::{Entry, Line, read_line};

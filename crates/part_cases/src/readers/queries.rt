@@ -1,3 +1,5 @@
+//! Cases of tokens and of both kinds of queries: what they are read as.
+
 use crate::readers::expressions::{show_condition, show_fault};
 use ps_data::{Memory, Text};
 use ps_queries::{DataQuery, Expr, Output, ParameterQuery};

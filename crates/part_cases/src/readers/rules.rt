@@ -1,3 +1,5 @@
+//! Cases of rules: what they are read as, their copies, their branches.
+
 use crate::readers::expressions::show;
 use crate::readers::rules_faults::show_fault;
 use ps_data::Memory;

@@ -1,3 +1,5 @@
+//! Faults of rules as text.
+
 use ps_rules::RulesFault;
 use ps_sql::SqlFault;
 use ps_yaml::YamlFault;

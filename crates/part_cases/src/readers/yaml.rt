@@ -1,3 +1,5 @@
+//! Cases of documents: the nodes that they are read as.
+
 use ps_data::Memory;
 use ps_yaml::{Node, Pair, YamlFault, read_yaml};
 use std::alloc::{AllocError, Global};
