@@ -46,7 +46,9 @@ pub fn add<R: Wait>(
     requires { IsSeatOf lock.now seat }
     ensures lock { IsSeatOf lock.now result.0 }
     ensures seen { IsPrefix (seen_by seat) (seen_by result.0) }
-    ensures own { MatchBool result.1 (own_entries_of result.0 ≡ own_entries_of seat ++ (amount, length (seen_by result.0)) ∷ []) (own_entries_of result.0 ≡ own_entries_of seat) }
+    ensures own { MatchBool result.1
+        (own_entries_of result.0 ≡ own_entries_of seat ++ (amount, length (seen_by result.0)) ∷ [])
+        (own_entries_of result.0 ≡ own_entries_of seat) }
 {
     let mut turn = lock.turn(rt, seat);
     let counter = turn.value();

@@ -75,8 +75,10 @@ pub fn note<R: Wait>(
     number: u64,
 ) -> Result<Seat<Diary>, Seat<Diary>>
     requires { IsSeatOf lock.now seat }
-    ensures lock { IfOk result (λ s. IsSeatOf lock.now s) × IfErr result (λ s. IsSeatOf lock.now s) }
-    ensures noted { IfOk result (λ s. own_entries_of s ≡ own_entries_of seat ++ (Event.Note number, length (seen_by s)) ∷ []) }
+    ensures lock { IfOk result (λ s.
+        IsSeatOf lock.now s) × IfErr result (λ s. IsSeatOf lock.now s) }
+    ensures noted { IfOk result (λ s.
+        own_entries_of s ≡ own_entries_of seat ++ (Event.Note number, length (seen_by s)) ∷ []) }
     ensures refused { IfErr result (λ s. own_entries_of s ≡ own_entries_of seat) }
 {
     let mut turn = lock.turn(rt, seat);
@@ -96,7 +98,8 @@ pub fn remark<R: Wait>(
 ) -> Seat<Diary>
     requires { IsSeatOf lock.now seat }
     ensures lock { IsSeatOf lock.now result }
-    ensures own { own_entries_of result ≡ own_entries_of seat ++ (Event.Remark text, length (seen_by result)) ∷ [] }
+    ensures own { own_entries_of result
+        ≡ own_entries_of seat ++ (Event.Remark text, length (seen_by result)) ∷ [] }
 {
     lock.turn(rt, seat).leave_with(Event::Remark { text })
 }

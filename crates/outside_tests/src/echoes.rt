@@ -21,7 +21,8 @@ fn pull<S: Source>(from: &mut S, into: &mut [u8; 64]) -> usize
 
 // Writes once, whether the sink takes it or not.
 fn send<K: Sink>(to: &mut K, bytes: &[u8])
-    ensures sent { IsSent (K.taken to.old) (K.taken to.new) (K.faults to.old) (K.faults to.new) bytes.now }
+    ensures sent { IsSent (K.taken to.old) (K.taken to.new) (K.faults to.old)
+        (K.faults to.new) bytes.now }
     ensures number { K.number to.new ≡ K.number to.old }
 {
     let _sent = to.write(bytes);

@@ -95,9 +95,11 @@ impl Reader {
     pub fn next_head<S: Source>(&mut self, from: &mut S) -> Result<AnswerHead, AnswerFault>
         ensures head { (before : List ℕ) → HasGiven (S.input from.old) (before ++ left_of self.old)
             → TakesHead (S.input from.new) before (part_of self.new) (left_of self.new) result }
-        ensures ahead { length (left_of self.old) ≤ line_limit → length (left_of self.new) ≤ line_limit }
+        ensures ahead { length (left_of self.old) ≤ line_limit
+            → length (left_of self.new) ≤ line_limit }
         ensures told { is_some (S.input from.new) ≡ is_some (S.input from.old) }
-        ensures failed { result ≡ Err AnswerFault.ReadFault → Rose (S.faults from.old) (S.faults from.new) }
+        ensures failed { result ≡ Err AnswerFault.ReadFault
+            → Rose (S.faults from.old) (S.faults from.new) }
         ensures faults { S.faults from.old ≤ S.faults from.new }
         ensures quiet { result ≢ Err AnswerFault.ReadFault → S.faults from.new ≡ S.faults from.old }
         ensures number { S.number from.new ≡ S.number from.old }

@@ -114,7 +114,8 @@ impl Reader {
         ensures few { IfOk result (λ count. count ≤ read_size) }
         ensures told { is_some (S.input from.new) ≡ is_some (S.input from.old) }
         ensures end { result ≡ Ok 0 → HasEnded (S.input from.new) }
-        ensures failed { result ≡ Err ReadFault.Failed → Rose (S.faults from.old) (S.faults from.new) }
+        ensures failed { result ≡ Err ReadFault.Failed
+            → Rose (S.faults from.old) (S.faults from.new) }
         ensures faults { S.faults from.old ≤ S.faults from.new }
         ensures quiet { result ≢ Err ReadFault.Failed → S.faults from.new ≡ S.faults from.old }
         ensures number { S.number from.new ≡ S.number from.old }
@@ -151,9 +152,11 @@ impl Reader {
     pub fn next_line<S: Source>(&mut self, from: &mut S) -> Result<Part, LineFault>
         ensures line { (before : List ℕ) → HasGiven (S.input from.old) (before ++ left_of self.old)
             → TakesLine (S.input from.new) before (part_of self.new) (left_of self.new) result }
-        ensures ahead { length (left_of self.old) ≤ line_limit → LeavesFew (left_of self.new) result }
+        ensures ahead { length (left_of self.old) ≤ line_limit
+            → LeavesFew (left_of self.new) result }
         ensures told { is_some (S.input from.new) ≡ is_some (S.input from.old) }
-        ensures failed { result ≡ Err LineFault.Failed → Rose (S.faults from.old) (S.faults from.new) }
+        ensures failed { result ≡ Err LineFault.Failed
+            → Rose (S.faults from.old) (S.faults from.new) }
         ensures faults { S.faults from.old ≤ S.faults from.new }
         ensures quiet { result ≢ Err LineFault.Failed → S.faults from.new ≡ S.faults from.old }
         ensures number { S.number from.new ≡ S.number from.old }
@@ -182,9 +185,11 @@ impl Reader {
     /// Takes a body of that length. After a fault, or where the input ended before it was whole, what was read is left.
     pub fn next_body<S: Source>(&mut self, from: &mut S, length: u64) -> Result<Part, ReadFault>
         ensures body { (before : List ℕ) → HasGiven (S.input from.old) (before ++ left_of self.old)
-            → TakesBody (S.input from.new) length before (part_of self.new) (left_of self.new) result }
+            → TakesBody (S.input from.new) length before (part_of self.new)
+            (left_of self.new) result }
         ensures told { is_some (S.input from.new) ≡ is_some (S.input from.old) }
-        ensures failed { result ≡ Err ReadFault.Failed → Rose (S.faults from.old) (S.faults from.new) }
+        ensures failed { result ≡ Err ReadFault.Failed
+            → Rose (S.faults from.old) (S.faults from.new) }
         ensures faults { S.faults from.old ≤ S.faults from.new }
         ensures quiet { result ≢ Err ReadFault.Failed → S.faults from.new ≡ S.faults from.old }
         ensures number { S.number from.new ≡ S.number from.old }

@@ -36,7 +36,8 @@ fn read_at<S: Source>(from: &mut S, buffer: &mut [u8], place: usize) -> Result<u
     requires { place < length buffer.old }
     ensures front { take place buffer.new ≡ take place buffer.old }
     ensures fits { IfOk result (λ count. place + count ≤ length buffer.old) }
-    ensures given { IfOk result (λ count. (before : List ℕ) → HasGiven (S.input from.old) (before ++ take place buffer.old)
+    ensures given { IfOk result (λ count.
+        (before : List ℕ) → HasGiven (S.input from.old) (before ++ take place buffer.old)
         → HasGiven (S.input from.new) (before ++ take (place + count) buffer.new)) }
     ensures none { OnErr result (S.input from.new ≡ S.input from.old) }
     ensures told { is_some (S.input from.new) ≡ is_some (S.input from.old) }

@@ -34,7 +34,8 @@ fn push_first(
     address: &Text,
     token: &[u8],
 ) -> Result<(), Memory>
-    ensures { OnOk result (text.new.items ≡ text.old.items ++ first_lines method.now target.now address.now token.now) }
+    ensures { OnOk result (text.new.items
+        ≡ text.old.items ++ first_lines method.now target.now address.now token.now) }
 {
     push(text, method)?;
     push_field(text, target, b" HTTP/1.1")?;
@@ -84,7 +85,8 @@ fn post(
     token: &[u8],
     body: &[u8],
 ) -> Result<Vec<u8>, Memory>
-    ensures { IfOk result (λ text. text.items ≡ post_text target.now address.now token.now body.now) }
+    ensures { IfOk result (λ text.
+        text.items ≡ post_text target.now address.now token.now body.now) }
 {
     let mut text = Vec::new(alloc);
     push_first(&mut text, b"POST ", target, address, token)?;

@@ -66,12 +66,15 @@ pub fn audit(
     lines: &[Vec<u8>],
 ) -> Result<Verdict, AuditFault>
     requires { Rises 0 transactions.now }
-    ensures verdict { IfOk result (IsVerdict (case_for rules.now transactions.now asker.now) (texts lines.now)) }
+    ensures verdict { IfOk result (IsVerdict
+        (case_for rules.now transactions.now asker.now) (texts lines.now)) }
     ensures wide { TellsWide (has_wide rules.now.definitions transactions.now) result }
     // What Yes and No mean.
-    ensures means { IfOk result (λ verdict. Means verdict (case_for rules.now transactions.now asker.now) (texts lines.now)) }
+    ensures means { IfOk result (λ verdict.
+        Means verdict (case_for rules.now transactions.now asker.now) (texts lines.now)) }
     // A front of the lines that an honest service wrote for such a request is answered with Yes, whatever happened between them.
-    ensures honest { IfOk result (PassesHonest (texts lines.now) (case_for rules.now transactions.now asker.now) rules.now) }
+    ensures honest { IfOk result (PassesHonest (texts lines.now)
+        (case_for rules.now transactions.now asker.now) rules.now) }
 {
     verdicts_mean();
     honest_streams_pass();

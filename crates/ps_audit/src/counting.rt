@@ -19,7 +19,8 @@ const ENTRIES: u32 = 1000;
 // The entries that a row has after a change.
 fn entries_after(alloc: Global, rules: &Rules, change: &Change) -> Result<Items<Placed>, AuditFault>
     ensures wide { TellsWide (is_wide rules.now.definitions change.now) result }
-    ensures entries { IfOk result (λ entries. entries ≡ entries_of_key rules.now.definitions (change.now.table, change.now.id) change.now.row) }
+    ensures entries { IfOk result (λ entries. entries
+        ≡ entries_of_key rules.now.definitions (change.now.table, change.now.id) change.now.row) }
 {
     let Some(row) = &change.row else {
         return Ok(Items::new(alloc));
@@ -49,10 +50,13 @@ fn count_change(
     change: &Change,
 ) -> Result<u64, AuditFault>
     ensures wide { TellsWide (is_wide rules.now.definitions change.now) result }
-    ensures counted { IfOk result (λ count. (source : SourceSeen) (position index : ℕ) → Stands rules.now.definitions standing.old source
+    ensures counted { IfOk result (λ count. (source : SourceSeen) (position index : ℕ)
+        → Stands rules.now.definitions standing.old source
         → count ≡ change_count rules.now.definitions source (timed_at position index change.now)) }
-    ensures stands { OnOk result ((source : SourceSeen) (position index : ℕ) → Stands rules.now.definitions standing.old source
-        → Stands rules.now.definitions standing.new (after source (timed_at position index change.now))) }
+    ensures stands { OnOk result ((source : SourceSeen) (position index : ℕ)
+        → Stands rules.now.definitions standing.old source
+        → Stands rules.now.definitions standing.new
+        (after source (timed_at position index change.now))) }
 {
     let entries = entries_after(alloc, rules, change)?;
     let key = (change.table.copy(alloc)?, change.id.copy(alloc)?);
@@ -70,10 +74,13 @@ fn count_changes(
     changes: &[Change],
 ) -> Result<u64, AuditFault>
     ensures wide { TellsWide (has_wide_change rules.now.definitions changes.now) result }
-    ensures counted { IfOk result (λ count. (source : SourceSeen) (position : ℕ) → Stands rules.now.definitions standing.old source
+    ensures counted { IfOk result (λ count.
+        (source : SourceSeen) (position : ℕ) → Stands rules.now.definitions standing.old source
         → count ≡ count_from rules.now.definitions source (timed_from position 0 changes.now)) }
-    ensures stands { OnOk result ((source : SourceSeen) (position : ℕ) → Stands rules.now.definitions standing.old source
-        → Stands rules.now.definitions standing.new (fold after source (timed_from position 0 changes.now))) }
+    ensures stands { OnOk result ((source : SourceSeen) (position : ℕ)
+        → Stands rules.now.definitions standing.old source
+        → Stands rules.now.definitions standing.new
+        (fold after source (timed_from position 0 changes.now))) }
 {
     let mut total = 0u64;
     'changes: for change in changes {
@@ -91,7 +98,8 @@ pub(crate) fn count_all(
     transactions: &[Transaction],
 ) -> Result<Vec<u64>, AuditFault>
     ensures wide { TellsWide (has_wide rules.now.definitions transactions.now) result }
-    ensures counts { IfOk result (λ counts. AreCounts rules.now.definitions transactions.now counts.items) }
+    ensures counts { IfOk result (λ counts.
+        AreCounts rules.now.definitions transactions.now counts.items) }
 {
     let mut standing = Standing::new(alloc);
     let mut total = 0u64;

@@ -90,8 +90,10 @@ impl Cursor {
     ) -> Result<bool, Memory>
         requires counted { IsCounted subject.now }
         requires stands { StandsAt (case_of subject.now) self.now }
-        ensures yes { IfOk result (λ fits. fits ≡ true → FitsAt (case_of subject.now) op.0 rows.now self.now.place) }
-        ensures no { IfOk result (λ fits. fits ≡ false → ¬ (FitsAt (case_of subject.now) op.0 rows.now self.now.place)) }
+        ensures yes { IfOk result (λ fits.
+            fits ≡ true → FitsAt (case_of subject.now) op.0 rows.now self.now.place) }
+        ensures no { IfOk result (λ fits.
+            fits ≡ false → ¬ (FitsAt (case_of subject.now) op.0 rows.now self.now.place)) }
     {
         if subject.counts[self.place] != op.0 {
             return Ok(false);
@@ -111,9 +113,13 @@ impl Cursor {
         requires counted { IsCounted subject.now }
         requires stands { StandsAt (case_of subject.now) self.old }
         ensures stands { OnOk result (StandsAt (case_of subject.now) self.new) }
-        ensures before { OnOk result (NoneFitsBelow (case_of subject.now) op.0 rows.now self.old.place self.new.place) }
-        ensures found { IfOk result (λ found. found ≡ true → FitsAt (case_of subject.now) op.0 rows.now self.new.place) }
-        ensures none { IfOk result (λ found. found ≡ false → NoneFitsBelow (case_of subject.now) op.0 rows.now self.old.place (length subject.now.transactions.now + 1)) }
+        ensures before { OnOk result (NoneFitsBelow (case_of subject.now) op.0 rows.now
+            self.old.place self.new.place) }
+        ensures found { IfOk result (λ found.
+            found ≡ true → FitsAt (case_of subject.now) op.0 rows.now self.new.place) }
+        ensures none { IfOk result (λ found. found ≡ false
+            → NoneFitsBelow (case_of subject.now) op.0 rows.now self.old.place
+            (length subject.now.transactions.now + 1)) }
         ensures on { OnOk result (self.old.place ≤ self.new.place) }
     {
         'places: while self.place < subject.transactions.len() {
@@ -136,8 +142,10 @@ impl Cursor {
         requires counted { IsCounted subject.now }
         requires stands { StandsAt (case_of subject.now) self.old }
         ensures stands { OnOk result (StandsAt (case_of subject.now) self.new) }
-        ensures found { IfOk result (λ found. MatchOption found (NoneFits (case_of subject.now) op.0 rows.now self.old.position.0)
-            (λ position. IsLeast (case_of subject.now) op.0 rows.now self.old.position.0 position.0 × (self.new.position ≡ position))) }
+        ensures found { IfOk result (λ found.
+            MatchOption found (NoneFits (case_of subject.now) op.0 rows.now self.old.position.0)
+            (λ position. IsLeast (case_of subject.now) op.0 rows.now self.old.position.0 position.0
+            × (self.new.position ≡ position))) }
     {
         if self.go_on(alloc, subject, op, rows)? {
             Ok(Some(self.position))

@@ -42,9 +42,11 @@ fn settle(
 ) -> Result<Outcome, Memory>
     requires counted { IsCounted subject.now }
     requires stands { StandsAt (case_of subject.now) cursor.old }
-    ensures settled { IfOk result (IsSettled (case_of subject.now) op rows.now cursor.old.position.0) }
+    ensures settled { IfOk result (IsSettled (case_of subject.now) op rows.now
+        cursor.old.position.0) }
     ensures stands { OnOk result (StandsAt (case_of subject.now) cursor.new) }
-    ensures on { IfOk result (λ outcome. IsNext outcome cursor.old.position.0 cursor.new.position.0) }
+    ensures on { IfOk result (λ outcome.
+        IsNext outcome cursor.old.position.0 cursor.new.position.0) }
 {
     match cursor.seek(alloc, subject, op, rows)? {
         Some(position) => Ok(Outcome::Completes { op, position }),
@@ -64,10 +66,13 @@ fn complete(
 ) -> Result<Outcome, Memory>
     requires counted { IsCounted subject.now }
     requires stands { StandsAt (case_of subject.now) cursor.old }
-    ensures settled { IfOk result (λ outcome. (kept : Kept) → AreHeld kept (state client.now).kept.shown
-        → (rows : List ShownSeen) × AreLatestRows kept rows × IsSettled (case_of subject.now) op rows cursor.old.position.0 outcome) }
+    ensures settled { IfOk result (λ outcome.
+        (kept : Kept) → AreHeld kept (state client.now).kept.shown
+        → (rows : List ShownSeen) × AreLatestRows kept rows
+        × IsSettled (case_of subject.now) op rows cursor.old.position.0 outcome) }
     ensures stands { OnOk result (StandsAt (case_of subject.now) cursor.new) }
-    ensures on { IfOk result (λ outcome. IsNext outcome cursor.old.position.0 cursor.new.position.0) }
+    ensures on { IfOk result (λ outcome.
+        IsNext outcome cursor.old.position.0 cursor.new.position.0) }
 {
     let rows = client.rows(alloc)?;
     settle(alloc, subject, cursor, op, rows.as_slice())
@@ -83,10 +88,12 @@ fn hear_event(
 ) -> Result<Outcome, Memory>
     requires counted { IsCounted subject.now }
     requires stands { StandsAt (case_of subject.now) cursor.old }
-    ensures judged { IfOk result (λ outcome. (took : Took) (kept : Kept) → IsTaken took kept event (state client.now)
+    ensures judged { IfOk result (λ outcome.
+        (took : Took) (kept : Kept) → IsTaken took kept event (state client.now)
         → IsJudged took.answer (case_of subject.now) kept cursor.old.position.0 outcome) }
     ensures stands { OnOk result (StandsAt (case_of subject.now) cursor.new) }
-    ensures on { IfOk result (λ outcome. IsNext outcome cursor.old.position.0 cursor.new.position.0) }
+    ensures on { IfOk result (λ outcome.
+        IsNext outcome cursor.old.position.0 cursor.new.position.0) }
 {
     match event {
         Event::Nothing => Ok(Outcome::Taken),
@@ -103,7 +110,8 @@ fn hear_event(
 fn hear_fault(fault: ClientFault) -> Result<Outcome, Memory>
     requires { MayCome fault }
     ensures breaks { IfOk result AreBreaking }
-    ensures judged { IfOk result (λ outcome. (took : Took) (case : Case) (kept : Kept) (low : ℕ) → IsFault took fault → IsJudged took.answer case kept low outcome) }
+    ensures judged { IfOk result (λ outcome. (took : Took) (case : Case) (kept : Kept) (low : ℕ)
+        → IsFault took fault → IsJudged took.answer case kept low outcome) }
 {
     match fault {
         ClientFault::OutOfOrder => Ok(Outcome::Breaks {
@@ -129,10 +137,13 @@ fn hear(
 ) -> Result<Outcome, Memory>
     requires counted { IsCounted subject.now }
     requires stands { StandsAt (case_of subject.now) cursor.old }
-    ensures judged { IfOk result (IsJudged (line_taken (state client.old) line.now).answer (case_of subject.now) (state client.old).kept cursor.old.position.0) }
-    ensures client { IfOk result (λ outcome. Became outcome (line_taken (state client.old) line.now) (state client.new)) }
+    ensures judged { IfOk result (IsJudged (line_taken (state client.old) line.now).answer
+        (case_of subject.now) (state client.old).kept cursor.old.position.0) }
+    ensures client { IfOk result (λ outcome.
+        Became outcome (line_taken (state client.old) line.now) (state client.new)) }
     ensures stands { OnOk result (StandsAt (case_of subject.now) cursor.new) }
-    ensures on { IfOk result (λ outcome. IsNext outcome cursor.old.position.0 cursor.new.position.0) }
+    ensures on { IfOk result (λ outcome.
+        IsNext outcome cursor.old.position.0 cursor.new.position.0) }
 {
     match client.take_line(alloc, line) {
         Ok(event) => hear_event(alloc, subject, client, cursor, event),
@@ -169,7 +180,8 @@ pub(crate) fn hear_all(
     lines: &[Vec<u8>],
 ) -> Result<Verdict, Memory>
     requires { IsCounted subject.now }
-    ensures { IfOk result (Judges (texts lines.now) (case_of subject.now) no_progress asking_client) }
+    ensures { IfOk result (Judges (texts lines.now) (case_of subject.now)
+        no_progress asking_client) }
 {
     let mut client = begin_client(alloc)?;
     let mut cursor = Cursor::new(alloc);

@@ -45,7 +45,8 @@ impl Standing {
         key: &RowKey,
         after: &[Placed],
     ) -> Result<usize, Memory>
-        ensures { IfOk result (λ count. count ≡ length (leaving (entries_in self.now key.now) after.now)) }
+        ensures { IfOk result (λ count.
+            count ≡ length (leaving (entries_in self.now key.now) after.now)) }
     {
         match self.entries.get(key) {
             Some(before) => count_leaving(alloc, before.as_slice(), after),
@@ -55,7 +56,9 @@ impl Standing {
 
     /// A row has these entries from now on.
     pub(crate) fn set(&mut self, key: RowKey, entries: Items<Placed>) -> Result<(), Memory>
-        ensures { OnOk result ((other : KeySeen) → entries_in self.new other ≡ (if eq_by_cmp key_cmp other key then entries else entries_in self.old other)) }
+        ensures { OnOk result ((other : KeySeen)
+            → entries_in self.new other
+            ≡ (if eq_by_cmp key_cmp other key then entries else entries_in self.old other)) }
     {
         self.entries.insert(key, entries)?;
         Ok(())
@@ -108,7 +111,8 @@ fn places_of(alloc: Global, entries: &[Placed]) -> Result<BTreeSet<Place>, Memor
 
 // Whether the bucket and the key of an entry are among them.
 fn is_in(alloc: Global, places: &BTreeSet<Place>, entry: &Placed) -> Result<bool, Memory>
-    ensures { IfOk result (λ found. found ≡ contains place_cmp places.now (place_of_entry entry.now)) }
+    ensures { IfOk result (λ found.
+        found ≡ contains place_cmp places.now (place_of_entry entry.now)) }
 {
     let place = place_of(alloc, entry)?;
     Ok(places.contains(&place))

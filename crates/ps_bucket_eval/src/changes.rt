@@ -51,7 +51,8 @@ fn entries_upto(
     top: u32,
 ) -> Result<Items<Placed>, PlaceFault>
     requires { top < 4294967295 }
-    ensures { IsPlaced (entries_at rules.now.definitions (key_of_change change.now) (option_copied row.entry)) top result }
+    ensures { IsPlaced (entries_at rules.now.definitions (key_of_change change.now)
+        (option_copied row.entry)) top result }
 {
     match row {
         Some(row) => entries_of_row(alloc, rules, &change.table, &change.id, row, top),
@@ -66,7 +67,8 @@ fn all_entries(
     change: &Change,
     row: Option<&Row>,
 ) -> Result<Items<Placed>, Memory>
-    ensures { IfOk result (λ entries. entries ≡ entries_at rules.now.definitions (key_of_change change.now) (option_copied row.entry)) }
+    ensures { IfOk result (λ entries. entries
+        ≡ entries_at rules.now.definitions (key_of_change change.now) (option_copied row.entry)) }
 {
     match entries_upto(alloc, rules, change, row, MOST) {
         Ok(entries) => Ok(entries),

@@ -15,8 +15,10 @@ use ps_values::{compare_is_a_total_order, equal_where_both_are_present};
 /// A law: for every vector at all, a data query's condition holds on a row for which it shows an object exactly where the
 /// vector's entry is among the row's entries. And these rise by number and bucket.
 pub fn entries_stand_where_conditions_hold()
-    ensures placed { (rules : RuleSet) (source : SourceRow) → AreRules rules → PlacedWhereItHolds rules source (entries_of rules.definitions source) }
-    ensures order { (rules : RuleSet) (source : SourceRow) → AreRules rules → EntriesRise (entries_of rules.definitions source) }
+    ensures placed { (rules : RuleSet) (source : SourceRow) → AreRules rules
+        → PlacedWhereItHolds rules source (entries_of rules.definitions source) }
+    ensures order { (rules : RuleSet) (source : SourceRow) → AreRules rules
+        → EntriesRise (entries_of rules.definitions source) }
 {
     conditions_hold_where_a_branch_is_met();
     spread_as_written();

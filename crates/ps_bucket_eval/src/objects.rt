@@ -16,7 +16,8 @@ pub(crate) fn shown_id(
     query: &DataQuery,
     source: &SourceRowRef<'_>,
 ) -> Result<Option<Text>, Memory>
-    ensures { IfOk result (λ object. object ≡ object_id_of (alone source.now.id.now source.now.row.now) query.now) }
+    ensures { IfOk result (λ object.
+        object ≡ object_id_of (alone source.now.id.now source.now.row.now) query.now) }
 {
     object_id(alloc, query, &nobody(alloc), source.id, source.row)
 }
@@ -28,7 +29,8 @@ pub(crate) fn shown_content(
     object: &Text,
     source: &SourceRowRef<'_>,
 ) -> Result<Text, Memory>
-    ensures { IfOk result (λ content. content ≡ content_of (alone source.now.id.now source.now.row.now) query.now object.now) }
+    ensures { IfOk result (λ content.
+        content ≡ content_of (alone source.now.id.now source.now.row.now) query.now object.now) }
 {
     content(alloc, query, object, &nobody(alloc), source.id, source.row)
 }

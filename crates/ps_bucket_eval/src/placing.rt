@@ -39,8 +39,10 @@ pub fn entries_of_row(
     top: u32,
 ) -> Result<Items<Placed>, PlaceFault>
     requires { top < 4294967295 }
-    ensures placed { IsPlaced (entries_of rules.now.definitions (row_of table.now id.now row.now)) top result }
-    ensures every_vector { IfOk result (PlacedWhereItHolds rules.now (row_of table.now id.now row.now)) }
+    ensures placed { IsPlaced (entries_of rules.now.definitions (row_of table.now id.now row.now))
+        top result }
+    ensures every_vector { IfOk result (PlacedWhereItHolds rules.now
+        (row_of table.now id.now row.now)) }
     ensures order { IfOk result EntriesRise }
 {
     entries_stand_where_conditions_hold();
@@ -70,7 +72,8 @@ fn place_query(
     requires sound { IsSoundQuery definition.now.names planned.now }
     requires within { length placed.old ≤ top }
     requires top { top < 4294967295 }
-    ensures { AddsEntries top placed.old placed.new (query_entries definition.now (row_at source.now) planned.now) result }
+    ensures { AddsEntries top placed.old placed.new
+        (query_entries definition.now (row_at source.now) planned.now) result }
 {
     let Some(object) = shown_id(alloc, &planned.query, source)? else {
         return Ok(());
@@ -93,7 +96,8 @@ fn place_in(
     placed: &mut Items<Placed>,
 ) -> Result<(), Memory>
     requires { outputs_have_parameter planned.now.query.outputs ≡ false }
-    ensures { OnOk result (placed.new ≡ placed.old ++ map (placed_in planned.now (row_at source.now) object) buckets.keys) }
+    ensures { OnOk result (placed.new
+        ≡ placed.old ++ map (placed_in planned.now (row_at source.now) object) buckets.keys) }
 {
     if buckets.is_empty() {
         return Ok(());
@@ -113,7 +117,8 @@ fn push_entries(
     mut buckets: BTreeSet<Text>,
     placed: &mut Items<Placed>,
 ) -> Result<(), Memory>
-    ensures { OnOk result (placed.new ≡ placed.old ++ map (made_in planned.now object subkey content) buckets.keys) }
+    ensures { OnOk result (placed.new
+        ≡ placed.old ++ map (made_in planned.now object subkey content) buckets.keys) }
 {
     let Some(last) = buckets.pop_last() else {
         return Ok(());
@@ -132,7 +137,8 @@ fn push_copies(
     buckets: BTreeSet<Text>,
     placed: &mut Items<Placed>,
 ) -> Result<(), Memory>
-    ensures { OnOk result (placed.new ≡ placed.old ++ map (made_in planned.now object.now subkey.now content.now) buckets.keys) }
+    ensures { OnOk result (placed.new
+        ≡ placed.old ++ map (made_in planned.now object.now subkey.now content.now) buckets.keys) }
 {
     'buckets: for bucket in buckets {
         let id = object.copy(alloc)?;
@@ -153,7 +159,8 @@ fn push_entry(
     bucket: Text,
     placed: &mut Items<Placed>,
 ) -> Result<(), Memory>
-    ensures { OnOk result (placed.new ≡ placed.old ++ made_in planned.now object subkey content bucket ∷ []) }
+    ensures { OnOk result (placed.new
+        ≡ placed.old ++ made_in planned.now object subkey content bucket ∷ []) }
 {
     let kind = planned.query.kind.copy(alloc)?;
     placed.push(Placed {
@@ -190,7 +197,8 @@ fn buckets(
 ) -> Result<Option<BTreeSet<Text>>, Memory>
     requires differ { has_repeated definition.now.names ≡ false }
     requires sound { IsSoundQuery definition.now.names planned.now }
-    ensures { IfOk result (FitsWith room (buckets_of definition.now (row_at source.now) planned.now)) }
+    ensures { IfOk result (FitsWith room
+        (buckets_of definition.now (row_at source.now) planned.now)) }
 {
     branches_are_solved();
     let mut found = BTreeSet::new(alloc);
@@ -214,7 +222,8 @@ fn name_branches(
     requires plain { list_any (λ (b : BranchData). sides_have_parameter b) branches.now ≡ false }
     requires within { length found.old.keys ≤ room }
     ensures { IfOk result (Fits room found.old.keys found.new.keys
-        (flat_map (branch_names (alone source.now.id.now source.now.row.now) definition.now.name definition.now.names) branches.now)) }
+        (flat_map (branch_names (alone source.now.id.now source.now.row.now) definition.now.name
+        definition.now.names) branches.now)) }
 {
     'branches: for branch in branches {
         if !name_branch(alloc, definition, branch, source, room, found)? {
@@ -236,7 +245,8 @@ fn name_branch(
     requires plain { sides_have_parameter branch.now ≡ false }
     requires within { length found.old.keys ≤ room }
     ensures { IfOk result (Fits room found.old.keys found.new.keys
-        (branch_names (alone source.now.id.now source.now.row.now) definition.now.name definition.now.names branch.now)) }
+        (branch_names (alone source.now.id.now source.now.row.now) definition.now.name
+        definition.now.names branch.now)) }
 {
     if !all_hold(alloc, branch.rest.as_slice(), source.id, source.row)? {
         return Ok(true);
@@ -263,7 +273,8 @@ fn name_lists(
     found: &mut BTreeSet<Text>,
 ) -> Result<bool, Memory>
     requires { length found.old.keys ≤ room }
-    ensures { IfOk result (Fits room found.old.keys found.new.keys (names_from definition.now [] lists.now)) }
+    ensures { IfOk result (Fits room found.old.keys found.new.keys
+        (names_from definition.now [] lists.now)) }
 {
     if has_empty(lists) {
         return Ok(true);
@@ -299,7 +310,8 @@ fn name_each(
     found: &mut BTreeSet<Text>,
 ) -> Result<bool, Memory>
     requires { length found.old.keys ≤ room }
-    ensures { IfOk result (Fits room found.old.keys found.new.keys (names_from definition.now [] (values.now ∷ []))) }
+    ensures { IfOk result (Fits room found.old.keys found.new.keys
+        (names_from definition.now [] (values.now ∷ []))) }
 {
     'values: for value in values {
         if !name_vector(alloc, definition, slice::from_ref(value), room, found)? {
@@ -317,7 +329,8 @@ fn name_vector(
     room: usize,
     found: &mut BTreeSet<Text>,
 ) -> Result<bool, Memory>
-    ensures { IfOk result (Fits room found.old.keys found.new.keys (bucket_name_of definition.now values.now ∷ [])) }
+    ensures { IfOk result (Fits room found.old.keys found.new.keys
+        (bucket_name_of definition.now values.now ∷ [])) }
 {
     found.insert(bucket_name(alloc, definition, values)?)?;
     Ok(found.len() <= room)

@@ -27,7 +27,8 @@ pub(crate) fn allowed_each(
     row: &Row,
 ) -> Result<Items<Items<Value>>, Memory>
     requires { list_any (λ (m : MatchData). has_parameter m.other) matches.now ≡ false }
-    ensures { IfOk result (λ lists. lists ≡ map (allowed_values (alone id.now row.now) matches.now) names.now) }
+    ensures { IfOk result (λ lists.
+        lists ≡ map (allowed_values (alone id.now row.now) matches.now) names.now) }
 {
     let mut lists = Items::new(alloc);
     'names: for name in names {
@@ -45,7 +46,8 @@ fn allowed(
     row: &Row,
 ) -> Result<Items<Value>, Memory>
     requires { list_any (λ (m : MatchData). has_parameter m.other) matches.now ≡ false }
-    ensures { IfOk result (λ values. values ≡ allowed_values (alone id.now row.now) matches.now name.now) }
+    ensures { IfOk result (λ values.
+        values ≡ allowed_values (alone id.now row.now) matches.now name.now) }
 {
     let mut values = None;
     'matches: for one in matches {
@@ -67,7 +69,8 @@ fn narrow(
     row: &Row,
 ) -> Result<Option<Items<Value>>, Memory>
     requires { has_parameter one.now.other ≡ false }
-    ensures { IfOk result (λ left. left ≡ narrowed_by (alone id.now row.now) name.now values one.now) }
+    ensures { IfOk result (λ left.
+        left ≡ narrowed_by (alone id.now row.now) name.now values one.now) }
 {
     if !one.name.equals(name) {
         return Ok(values);
@@ -112,7 +115,8 @@ fn allowed_too(
     row: &Row,
 ) -> Result<Items<Value>, Memory>
     requires { has_parameter one.now.other ≡ false }
-    ensures { IfOk result (λ both. both ≡ in_common values (allowed_by_match (alone id.now row.now) one.now)) }
+    ensures { IfOk result (λ both.
+        both ≡ in_common values (allowed_by_match (alone id.now row.now) one.now)) }
 {
     let set = allowed_by(alloc, one, id, row)?;
     common(alloc, values, &set)

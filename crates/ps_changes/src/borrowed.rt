@@ -164,7 +164,8 @@ pub fn as_text<'a>(json: &Borrowed<'a>) -> Option<&'a str>
 }
 
 pub fn as_list<'v, 'a>(json: &'v Borrowed<'a>) -> Option<&'v Vec<Borrowed<'a>>>
-    ensures { option_map (λ list. items_in (items_view list.now.items)) result ≡ as_array (seen json.now) }
+    ensures { option_map (λ list.
+        items_in (items_view list.now.items)) result ≡ as_array (seen json.now) }
 {
     if let Borrowed::Array(list) = json {
         Some(list)
@@ -174,7 +175,8 @@ pub fn as_list<'v, 'a>(json: &'v Borrowed<'a>) -> Option<&'v Vec<Borrowed<'a>>>
 }
 
 pub fn as_members<'v, 'a>(json: &'v Borrowed<'a>) -> Option<&'v Vec<(&'a str, Borrowed<'a>)>>
-    ensures { option_map (λ members. members_in (members_view members.now.items) no_members) result ≡ as_object (seen json.now) }
+    ensures { option_map (λ members.
+        members_in (members_view members.now.items) no_members) result ≡ as_object (seen json.now) }
 {
     if let Borrowed::Object(members) = json {
         Some(members)
@@ -188,7 +190,8 @@ pub fn in_order<'v, 'a>(
     alloc: Global,
     members: &'v Vec<(&'a str, Borrowed<'a>)>,
 ) -> Result<BTreeMap<&'a str, &'v Borrowed<'a>>, Memory>
-    ensures { IfOk result (λ ordered. entries_seen ordered.entries ≡ members_in (members_view members.now.items) no_members) }
+    ensures { IfOk result (λ ordered.
+        entries_seen ordered.entries ≡ members_in (members_view members.now.items) no_members) }
 {
     let mut ordered = BTreeMap::new(alloc);
     'members: for member in members {
@@ -214,7 +217,8 @@ pub fn owned(alloc: Global, json: &Borrowed<'_>) -> Result<Json, Memory>
 
 #[cycle(owned)]
 fn owned_items(alloc: Global, items: &Vec<Borrowed<'_>>) -> Result<Vec<Json>, Memory>
-    ensures { IfOk result (λ made. tree_items_view made.items ≡ items_in (items_view items.now.items)) }
+    ensures { IfOk result (λ made.
+        tree_items_view made.items ≡ items_in (items_view items.now.items)) }
 {
     let mut made = Vec::with_capacity(alloc, items.len())?;
     'items: for item in items {

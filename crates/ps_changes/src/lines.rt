@@ -40,7 +40,8 @@ impl LineReader {
         // What is read is spelled so.
         ensures found { IfOk result (λ read. IsLine bytes.now read) }
         // What is spelled so is read, unless memory runs out.
-        ensures only { (meant : TransactionData) → IsLine bytes.now meant → Reads result (Ok meant) }
+        ensures only { (meant : TransactionData) → IsLine bytes.now meant
+            → Reads result (Ok meant) }
         // Which fault is the first.
         ensures exact { Reads result (line_of bytes.now) }
         // A line that is too long is refused before any memory is asked for.

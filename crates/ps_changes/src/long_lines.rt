@@ -23,7 +23,8 @@ pub fn read_long_line(alloc: Global, bytes: &[u8]) -> Result<Transaction, Change
     // What is read is spelled so.
     ensures found { IfOk result (λ read. IsLongLine bytes.now read) }
     // What is spelled so is read, unless memory runs out.
-    ensures only { (meant : TransactionData) → IsLongLine bytes.now meant → Reads result (Ok meant) }
+    ensures only { (meant : TransactionData) → IsLongLine bytes.now meant
+        → Reads result (Ok meant) }
     // Which fault is the first.
     ensures exact { Reads result (long_line_of bytes.now) }
 {

@@ -23,7 +23,8 @@ use std::alloc::Global;
 pub fn write_line(alloc: Global, transaction: &Transaction) -> Result<Vec<u8>, Memory>
     requires { IsWritable transaction.now }
     ensures value { IfOk result (λ bytes. bytes.items ≡ line_text transaction.now) }
-    ensures read_again { IfOk result (λ bytes. length bytes.items ≤ longest → line_of bytes.items ≡ Ok transaction.now) }
+    ensures read_again { IfOk result (λ bytes.
+        length bytes.items ≤ longest → line_of bytes.items ≡ Ok transaction.now) }
 {
     decimals_read_back();
     let json = transaction_json(alloc, transaction.position, &transaction.changes)?;
@@ -35,7 +36,8 @@ pub fn write_line(alloc: Global, transaction: &Transaction) -> Result<Vec<u8>, M
 pub fn write_change(alloc: Global, change: &Change) -> Result<Vec<u8>, Memory>
     requires { change.now.table ≢ [] }
     ensures value { IfOk result (λ bytes. bytes.items ≡ change_text change.now) }
-    ensures read_again { IfOk result (λ bytes. length bytes.items ≤ longest → lone_change_of bytes.items ≡ Ok change.now) }
+    ensures read_again { IfOk result (λ bytes.
+        length bytes.items ≤ longest → lone_change_of bytes.items ≡ Ok change.now) }
 {
     let json = change_json(alloc, change)?;
     Ok(json.to_vec(alloc)?)
@@ -50,8 +52,10 @@ pub fn json_of_changes(
     changes: &Items<Change>,
 ) -> Result<Json, Memory>
     requires { IsWritable (record { position = position; changes = changes.now }) }
-    ensures value { IfOk result (λ json. view json ≡ json_of_transaction (record { position = position; changes = changes.now })) }
-    ensures read_again { IfOk result (λ json. transaction_in (view json) ≡ Ok (record { position = position; changes = changes.now })) }
+    ensures value { IfOk result (λ json.
+        view json ≡ json_of_transaction (record { position = position; changes = changes.now })) }
+    ensures read_again { IfOk result (λ json.
+        transaction_in (view json) ≡ Ok (record { position = position; changes = changes.now })) }
     ensures plain { IfOk result (λ json. has_float (view json) ≡ false) }
     ensures shallow { IfOk result (λ json. depth (view json) ≤ 4) }
 {
@@ -66,8 +70,11 @@ fn transaction_json(
     changes: &Items<Change>,
 ) -> Result<Json, Memory>
     requires { IsWritable (record { position = position; changes = changes.now }) }
-    ensures value { IfOk result (λ json. view json ≡ json_of_transaction (record { position = position; changes = changes.now })) }
-    ensures spelled { IfOk result (λ _. IsTransaction (json_of_transaction (record { position = position; changes = changes.now })) (record { position = position; changes = changes.now })) }
+    ensures value { IfOk result (λ json.
+        view json ≡ json_of_transaction (record { position = position; changes = changes.now })) }
+    ensures spelled { IfOk result (λ _. IsTransaction
+        (json_of_transaction (record { position = position; changes = changes.now }))
+        (record { position = position; changes = changes.now })) }
 {
     let changes = list_json(alloc, changes.as_slice())?;
     let mut members = Map::new(alloc);
@@ -78,8 +85,10 @@ fn transaction_json(
 
 fn list_json(alloc: Global, changes: &[Change]) -> Result<Json, Memory>
     requires { All (λ change. change.table ≢ []) changes.now }
-    ensures value { IfOk result (λ json. view json ≡ array (items_of (map json_of_change changes.now))) }
-    ensures spelled { IfOk result (λ _. AreChanges (items_of (map json_of_change changes.now)) changes.now) }
+    ensures value { IfOk result (λ json.
+        view json ≡ array (items_of (map json_of_change changes.now))) }
+    ensures spelled { IfOk result (λ _.
+        AreChanges (items_of (map json_of_change changes.now)) changes.now) }
 {
     let mut list = Vec::new(alloc);
     'changes: for change in changes {
@@ -107,7 +116,8 @@ pub fn put_text(
     name: &str,
     text: &str,
 ) -> Result<(), Memory>
-    ensures { OnOk result (members_view members.new.entries ≡ with_member name.now (string text.now) (members_view members.old.entries)) }
+    ensures { OnOk result (members_view members.new.entries
+        ≡ with_member name.now (string text.now) (members_view members.old.entries)) }
 {
     let text = Json::String(String::from_str(alloc, text)?);
     put(members, alloc, name, text)?;
@@ -121,7 +131,8 @@ pub fn put_decimal(
     name: &str,
     number: u64,
 ) -> Result<(), Memory>
-    ensures { OnOk result (members_view members.new.entries ≡ with_member name.now (string (decimal number)) (members_view members.old.entries)) }
+    ensures { OnOk result (members_view members.new.entries
+        ≡ with_member name.now (string (decimal number)) (members_view members.old.entries)) }
 {
     let text = Json::String(format!(in alloc; "{number}")?);
     put(members, alloc, name, text)?;
@@ -130,8 +141,10 @@ pub fn put_decimal(
 
 // Puts the operation of a change, and the row that a PUT has.
 fn put_row(members: &mut Map<String, Json>, alloc: Global, row: &Option<Row>) -> Result<(), Memory>
-    ensures value { OnOk result (members_view members.new.entries ≡ with_row row.now (members_view members.old.entries)) }
-    ensures spelled { OnOk result (IfSome row.now (λ columns. AreColumns (members_of columns) columns)) }
+    ensures value { OnOk result (members_view members.new.entries
+        ≡ with_row row.now (members_view members.old.entries)) }
+    ensures spelled { OnOk result (IfSome row.now (λ columns.
+        AreColumns (members_of columns) columns)) }
 {
     match row {
         Some(row) => {

@@ -15,7 +15,8 @@ use std::alloc::Global;
 
 // The parameters' text, `{}` where they are missing; None where they are no object.
 fn parameters_text(alloc: Global, claims: &Json) -> Result<Option<Text>, Memory>
-    ensures { IfOk result (λ text. text ≡ parameters_text_of (get (codes "parameters") (view claims.now))) }
+    ensures { IfOk result (λ text.
+        text ≡ parameters_text_of (get (codes "parameters") (view claims.now))) }
 {
     match claims.get("parameters") {
         None => Ok(Some(Text::from_str(alloc, "{}")?)),
@@ -26,7 +27,8 @@ fn parameters_text(alloc: Global, claims: &Json) -> Result<Option<Text>, Memory>
 
 // The client's id, if it has one; None where it is no text.
 fn client_id(alloc: Global, claims: &Json) -> Result<Option<Option<Text>>, Memory>
-    ensures { IfOk result (λ client. client ≡ client_id_of (get (codes "client_id") (view claims.now))) }
+    ensures { IfOk result (λ client.
+        client ≡ client_id_of (get (codes "client_id") (view claims.now))) }
 {
     let Some(id) = claims.get("client_id") else {
         return Ok(Some(None));

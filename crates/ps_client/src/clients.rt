@@ -91,9 +91,12 @@ impl<K: Keeper> Client<K> {
         ensures faults { IfOk result (λ opened. K.faults (keeper_of opened) ≡ K.faults keeper) }
         ensures refused_held { IfErr result (λ refused. K.held refused.0 ≡ K.held keeper) }
         ensures refused_faults { IfErr result (λ refused. K.faults keeper ≤ K.faults refused.0) }
-        ensures failed { IfErr result (λ refused. RoseAt refused.1 (K.faults keeper) (K.faults refused.0)) }
-        ensures loaded { IfOk result (λ opened. K.calls (keeper_of opened) ≡ one_more (K.calls keeper)) }
-        ensures refused_loaded { IfErr result (λ refused. K.calls refused.0 ≡ one_more (K.calls keeper)) }
+        ensures failed { IfErr result (λ refused.
+            RoseAt refused.1 (K.faults keeper) (K.faults refused.0)) }
+        ensures loaded { IfOk result (λ opened.
+            K.calls (keeper_of opened) ≡ one_more (K.calls keeper)) }
+        ensures refused_loaded { IfErr result (λ refused.
+            K.calls refused.0 ≡ one_more (K.calls keeper)) }
     {
         Client::open_hashed(alloc, keeper, client, Hashing::Fixed)
     }
@@ -114,9 +117,12 @@ impl<K: Keeper> Client<K> {
         ensures faults { IfOk result (λ opened. K.faults (keeper_of opened) ≡ K.faults keeper) }
         ensures refused_held { IfErr result (λ refused. K.held refused.0 ≡ K.held keeper) }
         ensures refused_faults { IfErr result (λ refused. K.faults keeper ≤ K.faults refused.0) }
-        ensures failed { IfErr result (λ refused. RoseAt refused.1 (K.faults keeper) (K.faults refused.0)) }
-        ensures loaded { IfOk result (λ opened. K.calls (keeper_of opened) ≡ one_more (K.calls keeper)) }
-        ensures refused_loaded { IfErr result (λ refused. K.calls refused.0 ≡ one_more (K.calls keeper)) }
+        ensures failed { IfErr result (λ refused.
+            RoseAt refused.1 (K.faults keeper) (K.faults refused.0)) }
+        ensures loaded { IfOk result (λ opened.
+            K.calls (keeper_of opened) ≡ one_more (K.calls keeper)) }
+        ensures refused_loaded { IfErr result (λ refused.
+            K.calls refused.0 ≡ one_more (K.calls keeper)) }
     {
         match ClientLog::open_hashed(alloc, keeper, hashing) {
             Ok(log) => Ok(Client {
@@ -160,17 +166,24 @@ impl<K: Keeper> Client<K> {
     /// `KeeperFault` where the keeper failed, and when out of memory. The keeper is asked for a commit, and
     /// can fail, only where a checkpoint is applied or refused, buckets go, or operations come. After a fault the stream is over and what is kept is as before.
     pub fn take_line(&mut self, alloc: Global, line: &[u8]) -> Result<Event, ClientFault>
-        ensures taken { Answers (line_taken (state self.old) line.now) (state self.old) (state self.new) result }
+        ensures taken { Answers (line_taken (state self.old) line.now) (state self.old)
+            (state self.new) result }
         ensures err { OnErr result (state self.new ≡ ended (state self.old)) }
-        ensures follows { Follows (K.held (keeper_of self.old)) (K.held (keeper_of self.new)) (state self.new).kept }
-        ensures failed { RoseWhereFaulted result (K.faults (keeper_of self.old)) (K.faults (keeper_of self.new)) }
+        ensures follows { Follows (K.held (keeper_of self.old))
+            (K.held (keeper_of self.new)) (state self.new).kept }
+        ensures failed { RoseWhereFaulted result (K.faults (keeper_of self.old))
+            (K.faults (keeper_of self.new)) }
         ensures faults { K.faults (keeper_of self.old) ≤ K.faults (keeper_of self.new) }
-        ensures quiet { OnOk result (K.faults (keeper_of self.new) ≡ K.faults (keeper_of self.old)) }
+        ensures quiet { OnOk result (K.faults (keeper_of self.new)
+            ≡ K.faults (keeper_of self.old)) }
         ensures name { name_of self.new ≡ name_of self.old }
         // The keeper's fault comes only where the plain client's answer is one that commits.
-        ensures commits { FaultsOnlyWhere (Commits (EditsIf (state self.old).kept (line_of line.now)) (line_taken (state self.old) line.now).answer) result }
+        ensures commits { FaultsOnlyWhere
+            (Commits (EditsIf (state self.old).kept (line_of line.now))
+            (line_taken (state self.old) line.now).answer) result }
         // Where the plain client says something, so does this one, but for out of memory and for its keeper.
-        ensures says { Says (line_taken (state self.old) line.now).answer result (K.faults (keeper_of self.old)) (K.faults (keeper_of self.new)) }
+        ensures says { Says (line_taken (state self.old) line.now).answer result
+            (K.faults (keeper_of self.old)) (K.faults (keeper_of self.new)) }
         // What is no text is no line, whatever memory there is.
         ensures no_text { ¬ (IsUtf8 (without_feed line.now)) → result ≡ Err (BadLine BadJson) }
     {
@@ -179,14 +192,20 @@ impl<K: Keeper> Client<K> {
 
     // Takes a line of the stream.
     fn take(&mut self, alloc: Global, line: &[u8]) -> Result<Event, ClientFault>
-        ensures taken { Answers (line_taken (state self.old) line.now) (state self.old) (state self.new) result }
+        ensures taken { Answers (line_taken (state self.old) line.now) (state self.old)
+            (state self.new) result }
         ensures err { OnErr result (state self.new ≡ ended (state self.old)) }
-        ensures follows { Follows (K.held (keeper_of self.old)) (K.held (keeper_of self.new)) (state self.new).kept }
-        ensures failed { RoseWhereFaulted result (K.faults (keeper_of self.old)) (K.faults (keeper_of self.new)) }
+        ensures follows { Follows (K.held (keeper_of self.old))
+            (K.held (keeper_of self.new)) (state self.new).kept }
+        ensures failed { RoseWhereFaulted result (K.faults (keeper_of self.old))
+            (K.faults (keeper_of self.new)) }
         ensures faults { K.faults (keeper_of self.old) ≤ K.faults (keeper_of self.new) }
-        ensures quiet { OnOk result (K.faults (keeper_of self.new) ≡ K.faults (keeper_of self.old)) }
+        ensures quiet { OnOk result (K.faults (keeper_of self.new)
+            ≡ K.faults (keeper_of self.old)) }
         ensures name { name_of self.new ≡ name_of self.old }
-        ensures commits { FaultsOnlyWhere (Commits (EditsIf (state self.old).kept (line_of line.now)) (line_taken (state self.old) line.now).answer) result }
+        ensures commits { FaultsOnlyWhere
+            (Commits (EditsIf (state self.old).kept (line_of line.now))
+            (line_taken (state self.old) line.now).answer) result }
         ensures no_text { ¬ (IsUtf8 (without_feed line.now)) → result ≡ Err (BadLine BadJson) }
     {
         let _target = self.log.target();
@@ -220,7 +239,8 @@ impl<K: Keeper> Client<K> {
     /// Copies of the rows of the checkpoint that was applied last with later local writes over them, in the order of kind and id.
     pub fn rows(&self, alloc: Global) -> Result<Items<Shown>, Memory>
         ensures in_order { IfOk result AreInOrder }
-        ensures shown { IfOk result (λ rows. (object : Object) → row_at object rows ≡ (state self.now).kept.shown object.0 object.1) }
+        ensures shown { IfOk result (λ rows. (object : Object)
+            → row_at object rows ≡ (state self.now).kept.shown object.0 object.1) }
     {
         rows_in_order(alloc, self.log.shown())
     }
@@ -231,13 +251,17 @@ impl<K: Keeper> Client<K> {
     /// nothing else. After a fault nothing has changed.
     pub fn write_local(&mut self, alloc: Global, change: Change) -> Result<(), ClientFault>
         requires { change.table ≢ [] }
-        ensures ok { OnOk result (state self.new ≡ keeping (written change (state self.old).kept) (state self.old)) }
+        ensures ok { OnOk result (state self.new
+            ≡ keeping (written change (state self.old).kept) (state self.old)) }
         ensures err { OnErr result (state self.new ≡ state self.old) }
         ensures fault { FailsBelow result }
-        ensures follows { Follows (K.held (keeper_of self.old)) (K.held (keeper_of self.new)) (state self.new).kept }
-        ensures failed { RoseWhereFaulted result (K.faults (keeper_of self.old)) (K.faults (keeper_of self.new)) }
+        ensures follows { Follows (K.held (keeper_of self.old))
+            (K.held (keeper_of self.new)) (state self.new).kept }
+        ensures failed { RoseWhereFaulted result (K.faults (keeper_of self.old))
+            (K.faults (keeper_of self.new)) }
         ensures faults { K.faults (keeper_of self.old) ≤ K.faults (keeper_of self.new) }
-        ensures quiet { OnOk result (K.faults (keeper_of self.new) ≡ K.faults (keeper_of self.old)) }
+        ensures quiet { OnOk result (K.faults (keeper_of self.new)
+            ≡ K.faults (keeper_of self.old)) }
         ensures name { name_of self.new ≡ name_of self.old }
     {
         write(alloc, &mut self.log, change)?;
@@ -246,7 +270,8 @@ impl<K: Keeper> Client<K> {
 
     /// The oldest local write that waits for its upload, whose table is not empty. None where none waits.
     pub fn next_change(&self) -> Option<&Change>
-        ensures next { option_map (λ change. change.now) result ≡ oldest (state self.now).kept.queue }
+        ensures next { option_map (λ change.
+            change.now) result ≡ oldest (state self.now).kept.queue }
         ensures table { IfSome result (λ change. change.now.table ≢ []) }
     {
         match self.log.queue() {
@@ -258,8 +283,10 @@ impl<K: Keeper> Client<K> {
     /// The body that uploads the oldest local write that waits: docs/FORMATS.md, "Uploads and written changes".
     /// `read_changes` gives that write alone, where the body is no more than a line may have. None where none waits.
     pub fn upload_next(&self, alloc: Global) -> Result<Option<Vec<u8>>, Memory>
-        ensures value { IfOk result (λ body. option_map (λ bytes. bytes.items) body ≡ next_upload (state self.now).kept.queue) }
-        ensures read_again { IfOk result (λ body. IfSome body (λ bytes. IsReadAgain (state self.now).kept.queue bytes.items)) }
+        ensures value { IfOk result (λ body.
+            option_map (λ bytes. bytes.items) body ≡ next_upload (state self.now).kept.queue) }
+        ensures read_again { IfOk result (λ body.
+            IfSome body (λ bytes. IsReadAgain (state self.now).kept.queue bytes.items)) }
     {
         next_body(alloc, &self.log)
     }
@@ -267,13 +294,17 @@ impl<K: Keeper> Client<K> {
     /// The oldest local write was uploaded, and waits no more. Fails with `QueueEmpty` exactly where none waits, with
     /// `KeeperFault` where the keeper failed, and when out of memory. After a fault nothing has changed.
     pub fn uploaded(&mut self, alloc: Global) -> Result<(), ClientFault>
-        ensures ok { OnOk result (state self.new ≡ keeping (popped (state self.old).kept) (state self.old)) }
+        ensures ok { OnOk result (state self.new
+            ≡ keeping (popped (state self.old).kept) (state self.old)) }
         ensures err { OnErr result (state self.new ≡ state self.old) }
         ensures fault { WantsWrites (state self.old).kept.queue result }
-        ensures follows { Follows (K.held (keeper_of self.old)) (K.held (keeper_of self.new)) (state self.new).kept }
-        ensures failed { RoseWhereFaulted result (K.faults (keeper_of self.old)) (K.faults (keeper_of self.new)) }
+        ensures follows { Follows (K.held (keeper_of self.old))
+            (K.held (keeper_of self.new)) (state self.new).kept }
+        ensures failed { RoseWhereFaulted result (K.faults (keeper_of self.old))
+            (K.faults (keeper_of self.new)) }
         ensures faults { K.faults (keeper_of self.old) ≤ K.faults (keeper_of self.new) }
-        ensures quiet { OnOk result (K.faults (keeper_of self.new) ≡ K.faults (keeper_of self.old)) }
+        ensures quiet { OnOk result (K.faults (keeper_of self.new)
+            ≡ K.faults (keeper_of self.old)) }
         ensures name { name_of self.new ≡ name_of self.old }
     {
         let _target = self.log.target();
@@ -289,13 +320,17 @@ impl<K: Keeper> Client<K> {
     /// `KeeperFault` where the keeper failed, and when out of memory. After a fault nothing has changed.
     pub fn set_write_checkpoint(&mut self, alloc: Global, number: u64) -> Result<(), ClientFault>
         requires { number ≤ greatest }
-        ensures ok { OnOk result (state self.new ≡ keeping (aimed number (state self.old).kept) (state self.old)) }
+        ensures ok { OnOk result (state self.new
+            ≡ keeping (aimed number (state self.old).kept) (state self.old)) }
         ensures err { OnErr result (state self.new ≡ state self.old) }
         ensures fault { WantsNoWrites (state self.old).kept.queue result }
-        ensures follows { Follows (K.held (keeper_of self.old)) (K.held (keeper_of self.new)) (state self.new).kept }
-        ensures failed { RoseWhereFaulted result (K.faults (keeper_of self.old)) (K.faults (keeper_of self.new)) }
+        ensures follows { Follows (K.held (keeper_of self.old))
+            (K.held (keeper_of self.new)) (state self.new).kept }
+        ensures failed { RoseWhereFaulted result (K.faults (keeper_of self.old))
+            (K.faults (keeper_of self.new)) }
         ensures faults { K.faults (keeper_of self.old) ≤ K.faults (keeper_of self.new) }
-        ensures quiet { OnOk result (K.faults (keeper_of self.new) ≡ K.faults (keeper_of self.old)) }
+        ensures quiet { OnOk result (K.faults (keeper_of self.new)
+            ≡ K.faults (keeper_of self.old)) }
         ensures name { name_of self.new ≡ name_of self.old }
     {
         let _target = self.log.target();

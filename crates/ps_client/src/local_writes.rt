@@ -24,8 +24,10 @@ pub fn write<K: Keeper>(
     requires { change.table ≢ [] }
     ensures ok { OnOk result (kept log.new ≡ written change (kept log.old)) }
     ensures err { OnErr result (kept log.new ≡ kept log.old) }
-    ensures follows { Follows (K.held (keeper_of log.old)) (K.held (keeper_of log.new)) (kept log.new) }
-    ensures failed { RoseWhereFailed result (K.faults (keeper_of log.old)) (K.faults (keeper_of log.new)) }
+    ensures follows { Follows (K.held (keeper_of log.old))
+        (K.held (keeper_of log.new)) (kept log.new) }
+    ensures failed { RoseWhereFailed result (K.faults (keeper_of log.old))
+        (K.faults (keeper_of log.new)) }
     ensures faults { K.faults (keeper_of log.old) ≤ K.faults (keeper_of log.new) }
     ensures quiet { OnOk result (K.faults (keeper_of log.new) ≡ K.faults (keeper_of log.old)) }
 {
@@ -46,8 +48,10 @@ pub fn pop<K: Keeper>(alloc: Global, log: &mut ClientLog<K>) -> Result<(), KeepF
     requires { (kept log.old).queue ≢ [] }
     ensures ok { OnOk result (kept log.new ≡ popped (kept log.old)) }
     ensures err { OnErr result (kept log.new ≡ kept log.old) }
-    ensures follows { Follows (K.held (keeper_of log.old)) (K.held (keeper_of log.new)) (kept log.new) }
-    ensures failed { RoseWhereFailed result (K.faults (keeper_of log.old)) (K.faults (keeper_of log.new)) }
+    ensures follows { Follows (K.held (keeper_of log.old))
+        (K.held (keeper_of log.new)) (kept log.new) }
+    ensures failed { RoseWhereFailed result (K.faults (keeper_of log.old))
+        (K.faults (keeper_of log.new)) }
     ensures faults { K.faults (keeper_of log.old) ≤ K.faults (keeper_of log.new) }
     ensures quiet { OnOk result (K.faults (keeper_of log.new) ≡ K.faults (keeper_of log.old)) }
 {
@@ -62,8 +66,10 @@ pub fn aim<K: Keeper>(alloc: Global, log: &mut ClientLog<K>, number: u64) -> Res
     requires { number ≤ greatest }
     ensures ok { OnOk result (kept log.new ≡ aimed number (kept log.old)) }
     ensures err { OnErr result (kept log.new ≡ kept log.old) }
-    ensures follows { Follows (K.held (keeper_of log.old)) (K.held (keeper_of log.new)) (kept log.new) }
-    ensures failed { RoseWhereFailed result (K.faults (keeper_of log.old)) (K.faults (keeper_of log.new)) }
+    ensures follows { Follows (K.held (keeper_of log.old))
+        (K.held (keeper_of log.new)) (kept log.new) }
+    ensures failed { RoseWhereFailed result (K.faults (keeper_of log.old))
+        (K.faults (keeper_of log.new)) }
     ensures faults { K.faults (keeper_of log.old) ≤ K.faults (keeper_of log.new) }
     ensures quiet { OnOk result (K.faults (keeper_of log.new) ≡ K.faults (keeper_of log.old)) }
 {
@@ -123,8 +129,10 @@ fn upload_of(alloc: Global, change: &Change) -> Result<Vec<u8>, Memory>
 
 /// The body that uploads the oldest local write.
 pub fn next_body<K: Keeper>(alloc: Global, log: &ClientLog<K>) -> Result<Option<Vec<u8>>, Memory>
-    ensures value { IfOk result (λ body. option_map (λ bytes. bytes.items) body ≡ next_upload (kept log.now).queue) }
-    ensures read_again { IfOk result (λ body. IfSome body (λ bytes. IsReadAgain (kept log.now).queue bytes.items)) }
+    ensures value { IfOk result (λ body.
+        option_map (λ bytes. bytes.items) body ≡ next_upload (kept log.now).queue) }
+    ensures read_again { IfOk result (λ body.
+        IfSome body (λ bytes. IsReadAgain (kept log.now).queue bytes.items)) }
 {
     match log.queue() {
         [] => Ok(None),

@@ -40,7 +40,8 @@ fn comes_before(row: &Shown, next: &Shown) -> bool
 // Whether the row at a place comes before the next one, where there is one.
 fn is_in_place(rows: &[Shown], place: usize) -> bool
     requires { place < length rows.now }
-    ensures { IsTrue result → AreInOrder (drop (place + 1) rows.now) → AreInOrder (drop place rows.now) }
+    ensures { IsTrue result → AreInOrder (drop (place + 1) rows.now)
+        → AreInOrder (drop place rows.now) }
 {
     let is_last = place + 1 == rows.len();
     if is_last {
@@ -68,7 +69,8 @@ fn indexed<'a>(
     alloc: Global,
     rows: &'a [Shown],
 ) -> Result<BTreeMap<(&'a Text, &'a Text), &'a Text>, Memory>
-    ensures { IfOk result (λ index. (object : Object) → content_at index object ≡ shown_in rows.now object.0 object.1) }
+    ensures { IfOk result (λ index.
+        (object : Object) → content_at index object ≡ shown_in rows.now object.0 object.1) }
 {
     let mut index = BTreeMap::new(alloc);
     'rows: for row in rows {
@@ -96,7 +98,8 @@ fn listed<'a>(
 // Copies of rows, put in the order of kind and id.
 fn rows_sorted(alloc: Global, rows: &[Shown]) -> Result<Items<Shown>, Memory>
     ensures in_order { IfOk result AreInOrder }
-    ensures same { IfOk result (λ listed. (object : Object) → row_at object listed ≡ shown_in rows.now object.0 object.1) }
+    ensures same { IfOk result (λ listed.
+        (object : Object) → row_at object listed ≡ shown_in rows.now object.0 object.1) }
 {
     let index = indexed(alloc, rows)?;
     listed(alloc, index)
@@ -105,7 +108,8 @@ fn rows_sorted(alloc: Global, rows: &[Shown]) -> Result<Items<Shown>, Memory>
 /// Copies of rows, in the order of kind and id.
 pub fn rows_in_order(alloc: Global, rows: &[Shown]) -> Result<Items<Shown>, Memory>
     ensures in_order { IfOk result AreInOrder }
-    ensures same { IfOk result (λ listed. (object : Object) → row_at object listed ≡ shown_in rows.now object.0 object.1) }
+    ensures same { IfOk result (λ listed.
+        (object : Object) → row_at object listed ≡ shown_in rows.now object.0 object.1) }
 {
     // Those of a checkpoint are in order as they are shown.
     if are_in_order(rows) {
@@ -123,7 +127,8 @@ fn is_changed(row: &Shown, change: &Change) -> bool
 
 // Copies of the rows that a change is not of.
 fn unchanged(alloc: Global, rows: &[Shown], change: &Change) -> Result<Items<Shown>, Memory>
-    ensures { IfOk result (λ others. others ≡ filter (λ row. not (is_of change.now row.kind row.id)) rows.now) }
+    ensures { IfOk result (λ others.
+        others ≡ filter (λ row. not (is_of change.now row.kind row.id)) rows.now) }
 {
     let mut others = Items::new(alloc);
     'rows: for row in rows {
@@ -137,7 +142,8 @@ fn unchanged(alloc: Global, rows: &[Shown], change: &Change) -> Result<Items<Sho
 /// The rows once a change was made: no kind and id stand twice.
 pub fn rows_with(alloc: Global, rows: &[Shown], change: &Change) -> Result<Items<Shown>, Memory>
     requires { IsDistinct same_row rows.now }
-    ensures shown { IfOk result (λ changed. shown_in changed ≡ shown_with change.now (shown_in rows.now)) }
+    ensures shown { IfOk result (λ changed.
+        shown_in changed ≡ shown_with change.now (shown_in rows.now)) }
     ensures distinct { IfOk result (IsDistinct same_row) }
 {
     let mut changed = unchanged(alloc, rows, change)?;

@@ -52,8 +52,10 @@ pub fn commit<K: Keeper>(
     requires { CanMakeAll (kept log.old) edits.items }
     ensures ok { OnOk result (kept log.new ≡ with_edits (kept log.old) edits.items) }
     ensures err { OnErr result (kept log.new ≡ kept log.old) }
-    ensures follows { Follows (K.held (keeper_of log.old)) (K.held (keeper_of log.new)) (kept log.new) }
-    ensures failed { RoseWhereFailed result (K.faults (keeper_of log.old)) (K.faults (keeper_of log.new)) }
+    ensures follows { Follows (K.held (keeper_of log.old))
+        (K.held (keeper_of log.new)) (kept log.new) }
+    ensures failed { RoseWhereFailed result (K.faults (keeper_of log.old))
+        (K.faults (keeper_of log.new)) }
     ensures faults { K.faults (keeper_of log.old) ≤ K.faults (keeper_of log.new) }
     ensures quiet { OnOk result (K.faults (keeper_of log.new) ≡ K.faults (keeper_of log.old)) }
     ensures none { edits.items ≡ [] → IsOk result }
@@ -85,8 +87,10 @@ fn delete_all<K: Keeper>(
 ) -> Result<(), KeepFault>
     ensures ok { OnOk result (kept log.new ≡ without_buckets names.items (kept log.old)) }
     ensures err { OnErr result (kept log.new ≡ kept log.old) }
-    ensures follows { Follows (K.held (keeper_of log.old)) (K.held (keeper_of log.new)) (kept log.new) }
-    ensures failed { RoseWhereFailed result (K.faults (keeper_of log.old)) (K.faults (keeper_of log.new)) }
+    ensures follows { Follows (K.held (keeper_of log.old))
+        (K.held (keeper_of log.new)) (kept log.new) }
+    ensures failed { RoseWhereFailed result (K.faults (keeper_of log.old))
+        (K.faults (keeper_of log.new)) }
     ensures faults { K.faults (keeper_of log.old) ≤ K.faults (keeper_of log.new) }
     ensures quiet { OnOk result (K.faults (keeper_of log.new) ≡ K.faults (keeper_of log.old)) }
     ensures some { FailsOnlyWhere (names.items ≢ []) result }
@@ -110,8 +114,10 @@ fn untold(names: Vec<Text>, told: &Told) -> Vec<Text>
 fn keep_told<K: Keeper>(alloc: Global, log: &mut ClientLog<K>, told: &Told) -> Result<(), KeepFault>
     ensures ok { OnOk result (kept log.new ≡ only_told told.now (kept log.old)) }
     ensures err { OnErr result (kept log.new ≡ kept log.old) }
-    ensures follows { Follows (K.held (keeper_of log.old)) (K.held (keeper_of log.new)) (kept log.new) }
-    ensures failed { RoseWhereFailed result (K.faults (keeper_of log.old)) (K.faults (keeper_of log.new)) }
+    ensures follows { Follows (K.held (keeper_of log.old))
+        (K.held (keeper_of log.new)) (kept log.new) }
+    ensures failed { RoseWhereFailed result (K.faults (keeper_of log.old))
+        (K.faults (keeper_of log.new)) }
     ensures faults { K.faults (keeper_of log.old) ≤ K.faults (keeper_of log.new) }
     ensures quiet { OnOk result (K.faults (keeper_of log.new) ≡ K.faults (keeper_of log.old)) }
     ensures some { FailsOnlyWhere (KeepsUntold told.now (kept log.old)) result }
@@ -130,12 +136,16 @@ fn take_checkpoint<K: Keeper>(
     number: Option<u64>,
     buckets: Items<Entry>,
 ) -> Result<Step, ClientFault>
-    ensures taken { Takes (checkpoint_taken (kept log.old) last_op number buckets) (kept log.old) (kept log.new) result }
-    ensures follows { Follows (K.held (keeper_of log.old)) (K.held (keeper_of log.new)) (kept log.new) }
-    ensures failed { RoseWhereFaulted result (K.faults (keeper_of log.old)) (K.faults (keeper_of log.new)) }
+    ensures taken { Takes (checkpoint_taken (kept log.old) last_op number buckets)
+        (kept log.old) (kept log.new) result }
+    ensures follows { Follows (K.held (keeper_of log.old))
+        (K.held (keeper_of log.new)) (kept log.new) }
+    ensures failed { RoseWhereFaulted result (K.faults (keeper_of log.old))
+        (K.faults (keeper_of log.new)) }
     ensures faults { K.faults (keeper_of log.old) ≤ K.faults (keeper_of log.new) }
     ensures quiet { OnOk result (K.faults (keeper_of log.new) ≡ K.faults (keeper_of log.old)) }
-    ensures commits { FaultsOnlyWhere (KeepsUntold (with_entries [] buckets) (kept log.old)) result }
+    ensures commits { FaultsOnlyWhere
+        (KeepsUntold (with_entries [] buckets) (kept log.old)) result }
 {
     let _target = log.target();
     let mut told = Told::new(alloc);
@@ -159,12 +169,17 @@ fn take_diff<K: Keeper>(
     removed: Items<Text>,
     updated: Items<Entry>,
 ) -> Result<Step, ClientFault>
-    ensures taken { Takes (diff_taken (kept log.old) table last_op number removed updated) (kept log.old) (kept log.new) result }
-    ensures follows { Follows (K.held (keeper_of log.old)) (K.held (keeper_of log.new)) (kept log.new) }
-    ensures failed { RoseWhereFaulted result (K.faults (keeper_of log.old)) (K.faults (keeper_of log.new)) }
+    ensures taken { Takes (diff_taken (kept log.old) table last_op number removed updated)
+        (kept log.old) (kept log.new) result }
+    ensures follows { Follows (K.held (keeper_of log.old))
+        (K.held (keeper_of log.new)) (kept log.new) }
+    ensures failed { RoseWhereFaulted result (K.faults (keeper_of log.old))
+        (K.faults (keeper_of log.new)) }
     ensures faults { K.faults (keeper_of log.old) ≤ K.faults (keeper_of log.new) }
     ensures quiet { OnOk result (K.faults (keeper_of log.new) ≡ K.faults (keeper_of log.old)) }
-    ensures commits { FaultsOnlyWhere (Commits (removed ≢ []) (diff_taken (kept log.old) table last_op number removed updated).answer) result }
+    ensures commits { FaultsOnlyWhere
+        (Commits (removed ≢ [])
+        (diff_taken (kept log.old) table last_op number removed updated).answer) result }
 {
     let _target = log.target();
     let mut told = table.told;
@@ -215,12 +230,16 @@ fn take_data<K: Keeper>(
 ) -> Result<Step, ClientFault>
     requires rising { IsRising after.0 ops }
     requires within { newest ops ≤ greatest }
-    ensures taken { Takes (data_taken (kept log.old) table bucket after ops) (kept log.old) (kept log.new) result }
-    ensures follows { Follows (K.held (keeper_of log.old)) (K.held (keeper_of log.new)) (kept log.new) }
-    ensures failed { RoseWhereFaulted result (K.faults (keeper_of log.old)) (K.faults (keeper_of log.new)) }
+    ensures taken { Takes (data_taken (kept log.old) table bucket after ops)
+        (kept log.old) (kept log.new) result }
+    ensures follows { Follows (K.held (keeper_of log.old))
+        (K.held (keeper_of log.new)) (kept log.new) }
+    ensures failed { RoseWhereFaulted result (K.faults (keeper_of log.old))
+        (K.faults (keeper_of log.new)) }
     ensures faults { K.faults (keeper_of log.old) ≤ K.faults (keeper_of log.new) }
     ensures quiet { OnOk result (K.faults (keeper_of log.new) ≡ K.faults (keeper_of log.old)) }
-    ensures commits { FaultsOnlyWhere (Commits (Unit {0}) (data_taken (kept log.old) table bucket after ops).answer) result }
+    ensures commits { FaultsOnlyWhere
+        (Commits (Unit {0}) (data_taken (kept log.old) table bucket after ops).answer) result }
 {
     let _target = log.target();
     if !comes_next(log, &table, &bucket, after, ops.as_slice()) {
@@ -247,9 +266,12 @@ fn refuse<K: Keeper>(
     log: &mut ClientLog<K>,
     buckets: Items<Differing>,
 ) -> Result<Step, ClientFault>
-    ensures taken { Takes (refused_for buckets (kept log.old)) (kept log.old) (kept log.new) result }
-    ensures follows { Follows (K.held (keeper_of log.old)) (K.held (keeper_of log.new)) (kept log.new) }
-    ensures failed { RoseWhereFaulted result (K.faults (keeper_of log.old)) (K.faults (keeper_of log.new)) }
+    ensures taken { Takes (refused_for buckets (kept log.old))
+        (kept log.old) (kept log.new) result }
+    ensures follows { Follows (K.held (keeper_of log.old))
+        (K.held (keeper_of log.new)) (kept log.new) }
+    ensures failed { RoseWhereFaulted result (K.faults (keeper_of log.old))
+        (K.faults (keeper_of log.new)) }
     ensures faults { K.faults (keeper_of log.old) ≤ K.faults (keeper_of log.new) }
     ensures quiet { OnOk result (K.faults (keeper_of log.new) ≡ K.faults (keeper_of log.old)) }
 {
@@ -286,11 +308,14 @@ fn held_by<K: Keeper>(log: &ClientLog<K>, number: Option<u64>) -> Option<Why>
 
 // The rows that are held are shown, and the target is free.
 fn show_held<K: Keeper>(alloc: Global, log: &mut ClientLog<K>) -> Result<(), KeepFault>
-    ensures ok { OnOk result (kept log.new ≡ record (freed (kept log.old)) { shown = (kept log.new).shown }) }
+    ensures ok { OnOk result (kept log.new
+        ≡ record (freed (kept log.old)) { shown = (kept log.new).shown }) }
     ensures rows { OnOk result (AreHeld (kept log.old) (kept log.new).shown) }
     ensures err { OnErr result (kept log.new ≡ kept log.old) }
-    ensures follows { Follows (K.held (keeper_of log.old)) (K.held (keeper_of log.new)) (kept log.new) }
-    ensures failed { RoseWhereFailed result (K.faults (keeper_of log.old)) (K.faults (keeper_of log.new)) }
+    ensures follows { Follows (K.held (keeper_of log.old))
+        (K.held (keeper_of log.new)) (kept log.new) }
+    ensures failed { RoseWhereFailed result (K.faults (keeper_of log.old))
+        (K.faults (keeper_of log.new)) }
     ensures faults { K.faults (keeper_of log.old) ≤ K.faults (keeper_of log.new) }
     ensures quiet { OnOk result (K.faults (keeper_of log.new) ≡ K.faults (keeper_of log.old)) }
 {
@@ -309,12 +334,19 @@ fn settle<K: Keeper>(
     log: &mut ClientLog<K>,
     table: Table,
 ) -> Result<Step, ClientFault>
-    ensures taken { Takes (applied_by (held_for (kept log.old).queue (kept log.old).target (unwrap_or table.number 0)) (kept log.old) table) (kept log.old) (kept log.new) result }
-    ensures follows { Follows (K.held (keeper_of log.old)) (K.held (keeper_of log.new)) (kept log.new) }
-    ensures failed { RoseWhereFaulted result (K.faults (keeper_of log.old)) (K.faults (keeper_of log.new)) }
+    ensures taken { Takes (applied_by
+        (held_for (kept log.old).queue (kept log.old).target (unwrap_or table.number 0))
+        (kept log.old) table) (kept log.old) (kept log.new) result }
+    ensures follows { Follows (K.held (keeper_of log.old))
+        (K.held (keeper_of log.new)) (kept log.new) }
+    ensures failed { RoseWhereFaulted result (K.faults (keeper_of log.old))
+        (K.faults (keeper_of log.new)) }
     ensures faults { K.faults (keeper_of log.old) ≤ K.faults (keeper_of log.new) }
     ensures quiet { OnOk result (K.faults (keeper_of log.new) ≡ K.faults (keeper_of log.old)) }
-    ensures commits { FaultsOnlyWhere (Commits ⊥ (applied_by (held_for (kept log.old).queue (kept log.old).target (unwrap_or table.number 0)) (kept log.old) table).answer) result }
+    ensures commits { FaultsOnlyWhere
+        (Commits ⊥ (applied_by
+        (held_for (kept log.old).queue (kept log.old).target (unwrap_or table.number 0))
+        (kept log.old) table).answer) result }
 {
     let _target = log.target();
     if let Some(why) = held_by(log, table.number) {
@@ -337,12 +369,16 @@ fn take_complete<K: Keeper>(
     table: Table,
     last_op: OpId,
 ) -> Result<Step, ClientFault>
-    ensures taken { Takes (complete_taken (kept log.old) table last_op) (kept log.old) (kept log.new) result }
-    ensures follows { Follows (K.held (keeper_of log.old)) (K.held (keeper_of log.new)) (kept log.new) }
-    ensures failed { RoseWhereFaulted result (K.faults (keeper_of log.old)) (K.faults (keeper_of log.new)) }
+    ensures taken { Takes (complete_taken (kept log.old) table last_op)
+        (kept log.old) (kept log.new) result }
+    ensures follows { Follows (K.held (keeper_of log.old))
+        (K.held (keeper_of log.new)) (kept log.new) }
+    ensures failed { RoseWhereFaulted result (K.faults (keeper_of log.old))
+        (K.faults (keeper_of log.new)) }
     ensures faults { K.faults (keeper_of log.old) ≤ K.faults (keeper_of log.new) }
     ensures quiet { OnOk result (K.faults (keeper_of log.new) ≡ K.faults (keeper_of log.old)) }
-    ensures commits { FaultsOnlyWhere (Commits ⊥ (complete_taken (kept log.old) table last_op).answer) result }
+    ensures commits { FaultsOnlyWhere
+        (Commits ⊥ (complete_taken (kept log.old) table last_op).answer) result }
 {
     let _target = log.target();
     if last_op.0 != table.last_op.0 {
@@ -363,11 +399,14 @@ fn take_first<K: Keeper>(
     line: Line,
 ) -> Result<Step, ClientFault>
     ensures taken { Takes (first_taken (kept log.old) line) (kept log.old) (kept log.new) result }
-    ensures follows { Follows (K.held (keeper_of log.old)) (K.held (keeper_of log.new)) (kept log.new) }
-    ensures failed { RoseWhereFaulted result (K.faults (keeper_of log.old)) (K.faults (keeper_of log.new)) }
+    ensures follows { Follows (K.held (keeper_of log.old))
+        (K.held (keeper_of log.new)) (kept log.new) }
+    ensures failed { RoseWhereFaulted result (K.faults (keeper_of log.old))
+        (K.faults (keeper_of log.new)) }
     ensures faults { K.faults (keeper_of log.old) ≤ K.faults (keeper_of log.new) }
     ensures quiet { OnOk result (K.faults (keeper_of log.new) ≡ K.faults (keeper_of log.old)) }
-    ensures commits { FaultsOnlyWhere (Commits (Edits (kept log.old) line) (first_taken (kept log.old) line).answer) result }
+    ensures commits { FaultsOnlyWhere
+        (Commits (Edits (kept log.old) line) (first_taken (kept log.old) line).answer) result }
 {
     let _target = log.target();
     match line {
@@ -395,12 +434,16 @@ fn take_next<K: Keeper>(
     line: Line,
 ) -> Result<Step, ClientFault>
     requires { IsInOrder line }
-    ensures taken { Takes (next_taken (kept log.old) table line) (kept log.old) (kept log.new) result }
-    ensures follows { Follows (K.held (keeper_of log.old)) (K.held (keeper_of log.new)) (kept log.new) }
-    ensures failed { RoseWhereFaulted result (K.faults (keeper_of log.old)) (K.faults (keeper_of log.new)) }
+    ensures taken { Takes (next_taken (kept log.old) table line)
+        (kept log.old) (kept log.new) result }
+    ensures follows { Follows (K.held (keeper_of log.old))
+        (K.held (keeper_of log.new)) (kept log.new) }
+    ensures failed { RoseWhereFaulted result (K.faults (keeper_of log.old))
+        (K.faults (keeper_of log.new)) }
     ensures faults { K.faults (keeper_of log.old) ≤ K.faults (keeper_of log.new) }
     ensures quiet { OnOk result (K.faults (keeper_of log.new) ≡ K.faults (keeper_of log.old)) }
-    ensures commits { FaultsOnlyWhere (Commits (Edits (kept log.old) line) (next_taken (kept log.old) table line).answer) result }
+    ensures commits { FaultsOnlyWhere
+        (Commits (Edits (kept log.old) line) (next_taken (kept log.old) table line).answer) result }
 {
     let _target = log.target();
     match line {
@@ -439,12 +482,16 @@ pub fn take<K: Keeper>(
     line: Line,
 ) -> Result<Step, ClientFault>
     requires { IsInOrder line }
-    ensures taken { Takes (taken_in stream (kept log.old) line) (kept log.old) (kept log.new) result }
-    ensures follows { Follows (K.held (keeper_of log.old)) (K.held (keeper_of log.new)) (kept log.new) }
-    ensures failed { RoseWhereFaulted result (K.faults (keeper_of log.old)) (K.faults (keeper_of log.new)) }
+    ensures taken { Takes (taken_in stream (kept log.old) line)
+        (kept log.old) (kept log.new) result }
+    ensures follows { Follows (K.held (keeper_of log.old))
+        (K.held (keeper_of log.new)) (kept log.new) }
+    ensures failed { RoseWhereFaulted result (K.faults (keeper_of log.old))
+        (K.faults (keeper_of log.new)) }
     ensures faults { K.faults (keeper_of log.old) ≤ K.faults (keeper_of log.new) }
     ensures quiet { OnOk result (K.faults (keeper_of log.new) ≡ K.faults (keeper_of log.old)) }
-    ensures commits { FaultsOnlyWhere (Commits (Edits (kept log.old) line) (taken_in stream (kept log.old) line).answer) result }
+    ensures commits { FaultsOnlyWhere
+        (Commits (Edits (kept log.old) line) (taken_in stream (kept log.old) line).answer) result }
 {
     let _target = log.target();
     match stream {

@@ -24,8 +24,10 @@ pub fn open_store<S: Start>(
     start: S,
     hashing: Hashing,
 ) -> Result<FileKeeper<S>, StoreFault>
-    ensures stands { IfOk result (λ keeper. Stands (state_of keeper) (writes_of keeper) (file_state (connection_of keeper))) }
-    ensures found { IfOk result (λ keeper. HasCleanDisk (file_state (connection_of keeper)) → IsTrue (file_state (connection_of keeper)).is_open
+    ensures stands { IfOk result (λ keeper.
+        Stands (state_of keeper) (writes_of keeper) (file_state (connection_of keeper))) }
+    ensures found { IfOk result (λ keeper. HasCleanDisk (file_state (connection_of keeper))
+        → IsTrue (file_state (connection_of keeper)).is_open
         → IsFoundIn (image_at S.Start) (state_of keeper) (writes_of keeper)) }
     ensures uncounted { IfOk result (λ keeper. faults_of keeper ≡ 0) }
 {

@@ -33,7 +33,8 @@ fn images_of(
     states: Items<BucketState>,
 ) -> Result<IndexMap<Text, Image, Hashing>, Memory>
     requires { All (λ bucket. IsDistinct same_key (map (λ one. one.key) bucket.held)) states }
-    ensures { IfOk result (λ images. (name : List ℕ) → image_at images name ≡ bucket_in states name) }
+    ensures { IfOk result (λ images.
+        (name : List ℕ) → image_at images name ≡ bucket_in states name) }
 {
     let mut images = IndexMap::with_hasher(alloc, hashing);
     'states: for state in states.into_vec() {
@@ -57,7 +58,9 @@ fn take_in(
     ops: &[Op],
 ) -> Result<(), Memory>
     ensures { OnOk result ((other : List ℕ) → image_at images.new other
-        ≡ (if bytes_eq name.now other then Some (fold after (unwrap_or (image_at images.old name.now) fresh) ops.now) else image_at images.old other)) }
+        ≡ (if bytes_eq name.now other then Some
+        (fold after (unwrap_or (image_at images.old name.now) fresh) ops.now) else
+        image_at images.old other)) }
 {
     if let Some(image) = images.get_mut(name) {
         return image.take_all(alloc, ops);
@@ -73,9 +76,12 @@ fn states_of(
     alloc: Global,
     images: IndexMap<Text, Image, Hashing>,
 ) -> Result<Items<BucketState>, Memory>
-    ensures kept { IfOk result (λ states. (name : List ℕ) → bucket_in states name ≡ image_at images name) }
-    ensures names { IfOk result (λ states. IsDistinct bytes_eq (map (λ bucket. bucket.name) states)) }
-    ensures keys { IfOk result (λ states. All (λ bucket. IsDistinct same_key (map (λ one. one.key) bucket.held)) states) }
+    ensures kept { IfOk result (λ states.
+        (name : List ℕ) → bucket_in states name ≡ image_at images name) }
+    ensures names { IfOk result (λ states.
+        IsDistinct bytes_eq (map (λ bucket. bucket.name) states)) }
+    ensures keys { IfOk result (λ states.
+        All (λ bucket. IsDistinct same_key (map (λ one. one.key) bucket.held)) states) }
 {
     let mut states = Items::new(alloc);
     'images: for (name, image) in images {
@@ -97,8 +103,10 @@ impl Draft {
     // Makes an edit.
     fn make(&mut self, alloc: Global, edit: &Edit) -> Result<(), Memory>
         requires { CanMake (draft_kept self.old) edit.now }
-        ensures kept { OnOk result (draft_kept self.new ≡ with_edit (draft_kept self.old) edit.now) }
-        ensures shown { IsDistinct same_row self.old.shown → OnOk result (IsDistinct same_row self.new.shown) }
+        ensures kept { OnOk result (draft_kept self.new
+            ≡ with_edit (draft_kept self.old) edit.now) }
+        ensures shown { IsDistinct same_row self.old.shown
+            → OnOk result (IsDistinct same_row self.new.shown) }
     {
         match edit {
             Edit::Take { bucket, ops } => {
@@ -121,7 +129,8 @@ impl Draft {
     fn make_all(&mut self, alloc: Global, edits: &[Edit]) -> Result<(), Memory>
         requires can { CanMakeAll (draft_kept self.old) edits.now }
         requires shown { IsDistinct same_row self.old.shown }
-        ensures kept { OnOk result (draft_kept self.new ≡ with_edits (draft_kept self.old) edits.now) }
+        ensures kept { OnOk result (draft_kept self.new
+            ≡ with_edits (draft_kept self.old) edits.now) }
         ensures shown { OnOk result (IsDistinct same_row self.new.shown) }
     {
         'edits: for edit in edits {

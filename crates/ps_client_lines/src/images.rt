@@ -83,7 +83,8 @@ impl Image {
 
     // A PUT: the key has this entry, and what it had is made up for.
     fn put(&mut self, key: Key, entry: Entry) -> Result<(), Memory>
-        ensures { OnOk result (image_kept self.new ≡ after (image_kept self.old) (Op.Put entry.id key entry.content entry.sum)) }
+        ensures { OnOk result (image_kept self.new
+            ≡ after (image_kept self.old) (Op.Put entry.id key entry.content entry.sum)) }
     {
         let _entries = self.held.as_slice();
         let id = entry.id;

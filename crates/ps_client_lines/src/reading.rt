@@ -63,7 +63,9 @@ pub fn bucket_in(alloc: Global, row: &[Cell]) -> Result<BucketLine, Refusal>
 
 // The bucket's name and the key that the first four columns of an entry are.
 fn key_in(alloc: Global, columns: &[Cell]) -> Result<(Text, Key), Refusal>
-    ensures columns { IfOk result (λ found. columns.now ≡ Cell.Text found.0 ∷ Cell.Text found.1.kind ∷ Cell.Text found.1.id ∷ Cell.Text found.1.subkey ∷ []) }
+    ensures columns { IfOk result (λ found. columns.now
+        ≡ Cell.Text found.0 ∷ Cell.Text found.1.kind ∷ Cell.Text found.1.id
+        ∷ Cell.Text found.1.subkey ∷ []) }
     ensures bad { IfErr result (OnBad (¬ IsKeyColumns columns.now)) }
 {
     let [
@@ -86,7 +88,8 @@ fn key_in(alloc: Global, columns: &[Cell]) -> Result<(Text, Key), Refusal>
 // The entry of a key that the other columns are.
 fn held_in(alloc: Global, key: Key, columns: &[Cell]) -> Result<Held, Refusal>
     ensures key { IfOk result (λ held. held.key ≡ key) }
-    ensures columns { IfOk result (λ held. columns.now ≡ Cell.Int (pos held.id.0) ∷ Cell.Text held.content ∷ Cell.Int (pos held.sum.0) ∷ []) }
+    ensures columns { IfOk result (λ held. columns.now
+        ≡ Cell.Int (pos held.id.0) ∷ Cell.Text held.content ∷ Cell.Int (pos held.sum.0) ∷ []) }
     ensures bound { IfOk result (λ held. held.id.0 ≤ greatest) }
     ensures bad { IfErr result (OnBad (¬ IsHeldColumns columns.now)) }
 {
@@ -168,9 +171,12 @@ pub fn queued_in(alloc: Global, row: &[Cell]) -> Result<Queued, Refusal>
 
 // The target of a kind and a number.
 fn target_of(kind: i64, number: i64) -> Option<Target>
-    ensures row { IfSome result (λ target. aim_row target ≡ Cell.Int (pos 1) ∷ Cell.Int kind ∷ Cell.Int number ∷ []) }
+    ensures row { IfSome result (λ target.
+        aim_row target ≡ Cell.Int (pos 1) ∷ Cell.Int kind ∷ Cell.Int number ∷ []) }
     ensures sound { IfSome result IsSoundTarget }
-    ensures none { IfNone result ((target : TargetData) → aim_row target ≢ Cell.Int (pos 1) ∷ Cell.Int kind ∷ Cell.Int number ∷ []) }
+    ensures none { IfNone result
+        ((target : TargetData)
+        → aim_row target ≢ Cell.Int (pos 1) ∷ Cell.Int kind ∷ Cell.Int number ∷ []) }
 {
     match (kind, number) {
         (0, 0) => Some(Target::Free),

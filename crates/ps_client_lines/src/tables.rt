@@ -27,8 +27,10 @@ pub fn bucket_lines(
     rows: &[Items<Cell>],
 ) -> Result<Vec<BucketLine>, Refusal>
     ensures rows { IfOk result (λ lines. map bucket_row lines.items ≡ rows.now) }
-    ensures positions { IfOk result (λ lines. All (λ line. line.position.0 ≤ greatest) lines.items) }
-    ensures names { IfOk result (λ lines. IsDistinct bytes_eq (map (λ line. line.name) lines.items)) }
+    ensures positions { IfOk result (λ lines.
+        All (λ line. line.position.0 ≤ greatest) lines.items) }
+    ensures names { IfOk result (λ lines.
+        IsDistinct bytes_eq (map (λ line. line.name) lines.items)) }
     ensures bad { IfErr result (OnBad (HasBadBucket rows.now)) }
 {
     let mut names: IndexSet<Text, Hashing> = IndexSet::with_hasher(alloc, hashing);
@@ -48,7 +50,8 @@ fn held_from(
     name: &Text,
     rows: &[Items<Cell>],
 ) -> Result<Items<Held>, Refusal>
-    ensures rows { IfOk result (λ held. map (entry_row name.now) held ≡ take (length held) rows.now) }
+    ensures rows { IfOk result (λ held.
+        map (entry_row name.now) held ≡ take (length held) rows.now) }
     ensures within { IfOk result (λ held. length held ≤ length rows.now) }
     ensures ids { IfOk result (λ held. All (λ one. one.id.0 ≤ greatest) held) }
     ensures keys { IfOk result (λ held. IsDistinct same_key (map (λ one. one.key) held)) }
@@ -77,9 +80,13 @@ pub fn bucket_states(
 ) -> Result<Items<BucketState>, Refusal>
     ensures lines { IfOk result (λ states. map line_of states ≡ lines.items) }
     ensures rows { IfOk result (λ states. entry_rows states ≡ rows.now) }
-    ensures ids { IfOk result (λ states. All (λ state. All (λ one. one.id.0 ≤ greatest) state.held) states) }
-    ensures keys { IfOk result (λ states. All (λ state. IsDistinct same_key (map (λ one. one.key) state.held)) states) }
-    ensures bad { IfErr result (OnBad (IsDistinct bytes_eq (map (λ line. line.name) lines.items) → AreInOrder (map bucket_row lines.items) → AreInOrder rows.now
+    ensures ids { IfOk result (λ states.
+        All (λ state. All (λ one. one.id.0 ≤ greatest) state.held) states) }
+    ensures keys { IfOk result (λ states.
+        All (λ state. IsDistinct same_key (map (λ one. one.key) state.held)) states) }
+    ensures bad { IfErr result
+        (OnBad (IsDistinct bytes_eq (map (λ line. line.name) lines.items)
+        → AreInOrder (map bucket_row lines.items) → AreInOrder rows.now
         → HasBadEntry (map bucket_row lines.items) rows.now)) }
 {
     let mut states = Items::new(alloc);
@@ -105,7 +112,9 @@ pub fn bucket_states(
 fn is_past(lines: &[Queued], seq: i64) -> bool
     requires { AreRising lines.now }
     ensures past { IsTrue result → All (λ line. line.seq <ℤ seq) lines.now }
-    ensures none { result ≡ false → (line : QueuedData) × (slice_get lines.now (length lines.now - 1) ≡ Some line) × (seq ≤ℤ line.seq) }
+    ensures none { result ≡ false
+        → (line : QueuedData)
+        × (slice_get lines.now (length lines.now - 1) ≡ Some line) × (seq ≤ℤ line.seq) }
 {
     match lines.last() {
         Some(line) => line.seq < seq,

@@ -38,7 +38,10 @@ impl Buckets {
 
     // Keeps one more bucket.
     fn keep(&mut self, alloc: Global, bucket: BucketState) -> Result<(), Memory>
-        ensures { OnOk result ((other : List ℕ) → bucket_found self.new other ≡ (if bytes_eq bucket.name other then Some (bucket_kept bucket) else bucket_found self.old other)) }
+        ensures { OnOk result ((other : List ℕ)
+            → bucket_found self.new other
+            ≡ (if bytes_eq bucket.name other then Some (bucket_kept bucket) else
+            bucket_found self.old other)) }
     {
         let BucketState {
             name,
@@ -57,7 +60,8 @@ impl Buckets {
         hashing: Hashing,
         states: Items<BucketState>,
     ) -> Result<Buckets, Memory>
-        ensures { IfOk result (λ buckets. (name : List ℕ) → bucket_found buckets name ≡ bucket_in states name) }
+        ensures { IfOk result (λ buckets.
+            (name : List ℕ) → bucket_found buckets name ≡ bucket_in states name) }
     {
         let mut buckets = Buckets::new(alloc, hashing);
         'states: for state in states.into_vec() {
@@ -68,7 +72,8 @@ impl Buckets {
 
     // Makes room for more entries in a bucket, whether it is there or not.
     pub fn reserve(&mut self, alloc: Global, name: &Text, count: usize) -> Result<(), Memory>
-        ensures buckets { (other : List ℕ) → bucket_found self.new other ≡ bucket_found self.old other }
+        ensures buckets { (other : List ℕ)
+            → bucket_found self.new other ≡ bucket_found self.old other }
         ensures rooms { (other : List ℕ) → room_for self.old other ≤ room_for self.new other }
         ensures ok { OnOk result (count ≤ room_for self.new name.now) }
     {
@@ -87,8 +92,10 @@ impl Buckets {
         alloc: Global,
         rooms: &IndexMap<Text, usize, Hashing>,
     ) -> Result<(), Memory>
-        ensures buckets { (other : List ℕ) → bucket_found self.new other ≡ bucket_found self.old other }
-        ensures rooms { OnOk result ((name : List ℕ) → given rooms.now name ≤ room_for self.new name) }
+        ensures buckets { (other : List ℕ)
+            → bucket_found self.new other ≡ bucket_found self.old other }
+        ensures rooms { OnOk result ((name : List ℕ)
+            → given rooms.now name ≤ room_for self.new name) }
     {
         'rooms: for (name, count) in rooms.iter() {
             self.reserve(alloc, name, *count)?;
@@ -101,8 +108,12 @@ impl Buckets {
         requires some { ops.items ≢ [] }
         requires room { length ops.items ≤ room_for self.old name.now }
         ensures buckets { (other : List ℕ) → bucket_found self.new other
-            ≡ (if bytes_eq name.now other then Some (fold after (unwrap_or (bucket_found self.old name.now) fresh) ops.items) else bucket_found self.old other) }
-        ensures rooms { (other : List ℕ) → room_for self.old other ≤ room_for self.new other + (if bytes_eq name.now other then length ops.items else 0) }
+            ≡ (if bytes_eq name.now other then Some
+            (fold after (unwrap_or (bucket_found self.old name.now) fresh) ops.items) else
+            bucket_found self.old other) }
+        ensures rooms { (other : List ℕ)
+            → room_for self.old other
+            ≤ room_for self.new other + (if bytes_eq name.now other then length ops.items else 0) }
     {
         if let Some(slot) = self.slots.get_mut(name) {
             slot.take(ops);
@@ -111,7 +122,9 @@ impl Buckets {
 
     // A bucket goes, and its room stays.
     pub fn leave(&mut self, name: &Text)
-        ensures buckets { (other : List ℕ) → bucket_found self.new other ≡ (if bytes_eq name.now other then None else bucket_found self.old other) }
+        ensures buckets { (other : List ℕ)
+            → bucket_found self.new other
+            ≡ (if bytes_eq name.now other then None else bucket_found self.old other) }
         ensures rooms { (other : List ℕ) → room_for self.old other ≤ room_for self.new other }
     {
         if let Some(slot) = self.slots.get_mut(name) {

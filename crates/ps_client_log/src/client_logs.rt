@@ -73,9 +73,11 @@ impl<K: Keeper> ClientLog<K> {
         ensures faults { IfOk result (λ log. K.faults (keeper_of log) ≡ K.faults keeper) }
         ensures refused_held { IfErr result (λ refused. K.held refused.0 ≡ K.held keeper) }
         ensures refused_faults { IfErr result (λ refused. K.faults keeper ≤ K.faults refused.0) }
-        ensures failed { IfErr result (λ refused. RoseAt refused.1 (K.faults keeper) (K.faults refused.0)) }
+        ensures failed { IfErr result (λ refused.
+            RoseAt refused.1 (K.faults keeper) (K.faults refused.0)) }
         ensures loaded { IfOk result (λ log. K.calls (keeper_of log) ≡ one_more (K.calls keeper)) }
-        ensures refused_loaded { IfErr result (λ refused. K.calls refused.0 ≡ one_more (K.calls keeper)) }
+        ensures refused_loaded { IfErr result (λ refused.
+            K.calls refused.0 ≡ one_more (K.calls keeper)) }
     {
         ClientLog::open_hashed(alloc, keeper, Hashing::Fixed)
     }
@@ -94,9 +96,11 @@ impl<K: Keeper> ClientLog<K> {
         ensures faults { IfOk result (λ log. K.faults (keeper_of log) ≡ K.faults keeper) }
         ensures refused_held { IfErr result (λ refused. K.held refused.0 ≡ K.held keeper) }
         ensures refused_faults { IfErr result (λ refused. K.faults keeper ≤ K.faults refused.0) }
-        ensures failed { IfErr result (λ refused. RoseAt refused.1 (K.faults keeper) (K.faults refused.0)) }
+        ensures failed { IfErr result (λ refused.
+            RoseAt refused.1 (K.faults keeper) (K.faults refused.0)) }
         ensures loaded { IfOk result (λ log. K.calls (keeper_of log) ≡ one_more (K.calls keeper)) }
-        ensures refused_loaded { IfErr result (λ refused. K.calls refused.0 ≡ one_more (K.calls keeper)) }
+        ensures refused_loaded { IfErr result (λ refused.
+            K.calls refused.0 ≡ one_more (K.calls keeper)) }
     {
         let mut keeper = keeper;
         match keeper.load(alloc) {
@@ -127,13 +131,17 @@ impl<K: Keeper> ClientLog<K> {
         requires { CanMakeAll (kept self.old) edits.items }
         ensures ok { OnOk result (kept self.new ≡ with_edits (kept self.old) edits.items) }
         ensures err { OnErr result (kept self.new ≡ kept self.old) }
-        ensures told { OnOk result (K.held (keeper_of self.new) ≡ option_map (λ own. with_edits own edits.items) (K.held (keeper_of self.old))) }
+        ensures told { OnOk result (K.held (keeper_of self.new) ≡ option_map (λ own.
+            with_edits own edits.items) (K.held (keeper_of self.old))) }
         ensures held { OnErr result (K.held (keeper_of self.new) ≡ K.held (keeper_of self.old)) }
         ensures tells { Tells (K.held (keeper_of self.new)) (kept self.new) }
-        ensures failed { RoseWhereFailed result (K.faults (keeper_of self.old)) (K.faults (keeper_of self.new)) }
+        ensures failed { RoseWhereFailed result (K.faults (keeper_of self.old))
+            (K.faults (keeper_of self.new)) }
         ensures faults { K.faults (keeper_of self.old) ≤ K.faults (keeper_of self.new) }
-        ensures quiet { OnOk result (K.faults (keeper_of self.new) ≡ K.faults (keeper_of self.old)) }
-        ensures called { OnOk result (K.calls (keeper_of self.new) ≡ one_more (K.calls (keeper_of self.old))) }
+        ensures quiet { OnOk result (K.faults (keeper_of self.new)
+            ≡ K.faults (keeper_of self.old)) }
+        ensures called { OnOk result (K.calls (keeper_of self.new)
+            ≡ one_more (K.calls (keeper_of self.old))) }
     {
         let rooms = self.holdings.prepare(alloc, edits.as_slice())?;
         match self.keeper.commit(alloc, edits.as_slice()) {
@@ -157,15 +165,21 @@ impl<K: Keeper> ClientLog<K> {
     pub fn take_ops(&mut self, alloc: Global, bucket: &Text, ops: Vec<Op>) -> Result<(), KeepFault>
         requires { CanTake (bucket_at (kept self.old) bucket.now).position ops.items }
         ensures ok { OnOk result (kept self.new ≡ with_taken bucket.now ops.items (kept self.old)) }
-        ensures image { OnOk result ((before : List Operation) → bucket_at (kept self.old) bucket.now ≡ bucket_of before → bucket_at (kept self.new) bucket.now ≡ bucket_of (before ++ ops.items)) }
+        ensures image { OnOk result ((before : List Operation)
+            → bucket_at (kept self.old) bucket.now ≡ bucket_of before
+            → bucket_at (kept self.new) bucket.now ≡ bucket_of (before ++ ops.items)) }
         ensures err { OnErr result (kept self.new ≡ kept self.old) }
-        ensures told { OnOk result (K.held (keeper_of self.new) ≡ option_map (λ own. with_taken bucket.now ops.items own) (K.held (keeper_of self.old))) }
+        ensures told { OnOk result (K.held (keeper_of self.new) ≡ option_map (λ own.
+            with_taken bucket.now ops.items own) (K.held (keeper_of self.old))) }
         ensures held { OnErr result (K.held (keeper_of self.new) ≡ K.held (keeper_of self.old)) }
         ensures tells { Tells (K.held (keeper_of self.new)) (kept self.new) }
-        ensures failed { RoseWhereFailed result (K.faults (keeper_of self.old)) (K.faults (keeper_of self.new)) }
+        ensures failed { RoseWhereFailed result (K.faults (keeper_of self.old))
+            (K.faults (keeper_of self.new)) }
         ensures faults { K.faults (keeper_of self.old) ≤ K.faults (keeper_of self.new) }
-        ensures quiet { OnOk result (K.faults (keeper_of self.new) ≡ K.faults (keeper_of self.old)) }
-        ensures called { OnOk result (K.calls (keeper_of self.new) ≡ one_more (K.calls (keeper_of self.old))) }
+        ensures quiet { OnOk result (K.faults (keeper_of self.new)
+            ≡ K.faults (keeper_of self.old)) }
+        ensures called { OnOk result (K.calls (keeper_of self.new)
+            ≡ one_more (K.calls (keeper_of self.old))) }
     {
         let _target = self.target();
         let bucket = bucket.copy(alloc)?;
@@ -180,13 +194,17 @@ impl<K: Keeper> ClientLog<K> {
     pub fn delete_bucket(&mut self, alloc: Global, bucket: &Text) -> Result<(), KeepFault>
         ensures ok { OnOk result (kept self.new ≡ with_bucket bucket.now None (kept self.old)) }
         ensures err { OnErr result (kept self.new ≡ kept self.old) }
-        ensures told { OnOk result (K.held (keeper_of self.new) ≡ option_map (λ own. with_bucket bucket.now None own) (K.held (keeper_of self.old))) }
+        ensures told { OnOk result (K.held (keeper_of self.new) ≡ option_map (λ own.
+            with_bucket bucket.now None own) (K.held (keeper_of self.old))) }
         ensures held { OnErr result (K.held (keeper_of self.new) ≡ K.held (keeper_of self.old)) }
         ensures tells { Tells (K.held (keeper_of self.new)) (kept self.new) }
-        ensures failed { RoseWhereFailed result (K.faults (keeper_of self.old)) (K.faults (keeper_of self.new)) }
+        ensures failed { RoseWhereFailed result (K.faults (keeper_of self.old))
+            (K.faults (keeper_of self.new)) }
         ensures faults { K.faults (keeper_of self.old) ≤ K.faults (keeper_of self.new) }
-        ensures quiet { OnOk result (K.faults (keeper_of self.new) ≡ K.faults (keeper_of self.old)) }
-        ensures called { OnOk result (K.calls (keeper_of self.new) ≡ one_more (K.calls (keeper_of self.old))) }
+        ensures quiet { OnOk result (K.faults (keeper_of self.new)
+            ≡ K.faults (keeper_of self.old)) }
+        ensures called { OnOk result (K.calls (keeper_of self.new)
+            ≡ one_more (K.calls (keeper_of self.old))) }
     {
         let _target = self.target();
         let bucket = bucket.copy(alloc)?;
@@ -235,8 +253,10 @@ impl<K: Keeper> ClientLog<K> {
 
     /// The names of the buckets that are there, in order.
     pub fn names(&self, alloc: Global) -> Result<Vec<Text>, Memory>
-        ensures in_order { IfOk result (λ names. IsStrictlySortedBy (slice_cmp nat_cmp) names.items) }
-        ensures held { IfOk result (λ names. (name : List ℕ) → list_any (bytes_eq name) names.items ≡ is_some ((kept self.now).bucket name)) }
+        ensures in_order { IfOk result (λ names.
+            IsStrictlySortedBy (slice_cmp nat_cmp) names.items) }
+        ensures held { IfOk result (λ names. (name : List ℕ)
+            → list_any (bytes_eq name) names.items ≡ is_some ((kept self.now).bucket name)) }
     {
         bucket_names(alloc, &self.holdings)
     }
@@ -246,8 +266,10 @@ impl<K: Keeper> ClientLog<K> {
     pub fn held_rows(&self, alloc: Global) -> Result<Vec<Shown>, Memory>
         ensures in_order { IfOk result (λ rows. AreInOrder rows.items) }
         ensures distinct { IfOk result (λ rows. IsDistinct same_row rows.items) }
-        ensures latest { IfOk result (λ rows. (object : Object) → IfSome (row_at object rows.items) (IsLatestContent (kept self.now) object)) }
-        ensures all { IfOk result (λ rows. (copy : HeldCopy) → Holds (kept self.now) copy → IsSome (row_at (object_of copy) rows.items)) }
+        ensures latest { IfOk result (λ rows. (object : Object)
+            → IfSome (row_at object rows.items) (IsLatestContent (kept self.now) object)) }
+        ensures all { IfOk result (λ rows. (copy : HeldCopy) → Holds (kept self.now) copy
+            → IsSome (row_at (object_of copy) rows.items)) }
     {
         held_rows(alloc, &self.holdings)
     }

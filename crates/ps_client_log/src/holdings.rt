@@ -81,7 +81,8 @@ impl Holdings {
     ) -> Result<(), Memory>
         ensures kept { kept_by self.new ≡ kept_by self.old }
         ensures shown { self.new.shown ≡ self.old.shown }
-        ensures entries { OnOk result ((name : List ℕ) → given rooms.now name ≤ room_for self.new.buckets name) }
+        ensures entries { OnOk result ((name : List ℕ)
+            → given rooms.now name ≤ room_for self.new.buckets name) }
         ensures queue { OnOk result (pushed ≤ self.new.queue.room) }
     {
         self.queue.reserve(pushed)?;
@@ -102,7 +103,8 @@ impl Holdings {
         requires room { HasRoom self.old (edit ∷ []) }
         ensures kept { kept_by self.new ≡ with_edit (kept_by self.old) edit }
         ensures shown { IsDistinct same_row self.old.shown → IsDistinct same_row self.new.shown }
-        ensures entries { (name : List ℕ) → room_for self.old.buckets name ≤ room_for self.new.buckets name + brings name edit }
+        ensures entries { (name : List ℕ)
+            → room_for self.old.buckets name ≤ room_for self.new.buckets name + brings name edit }
         ensures queue { self.old.queue.room ≤ self.new.queue.room + pushes edit }
     {
         match edit {

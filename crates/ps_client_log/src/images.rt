@@ -58,7 +58,8 @@ impl Image {
 
     // Holds entries, and adds their sums.
     fn hold_all(&mut self, entries: Vec<Held>) -> Result<(), Memory>
-        ensures { OnOk result (image_of self.new ≡ fold with_held (image_of self.old) entries.items) }
+        ensures { OnOk result (image_of self.new
+            ≡ fold with_held (image_of self.old) entries.items) }
     {
         'entries: for entry in entries {
             self.hold(entry)?;

@@ -23,7 +23,8 @@ pub trait Keeper {
 
     /// The state that it keeps, which is sound. `Failed` comes only where the count of faults rose; a success leaves it as it was.
     fn load(&mut self, alloc: Global) -> Result<State, KeepFault>
-        ensures state { IfOk result (λ state. IfSome (held self.old) (λ kept. kept_of state ≡ kept)) }
+        ensures state { IfOk result (λ state.
+            IfSome (held self.old) (λ kept. kept_of state ≡ kept)) }
         ensures sound { IfOk result IsSoundState }
         ensures told { IfSome (held self.old) IsSound }
         ensures held { held self.new ≡ held self.old }
@@ -35,7 +36,8 @@ pub trait Keeper {
     /// Makes all the edits, one after another, or none. `Failed` comes only where the count of faults rose; a success leaves it as it was.
     fn commit(&mut self, alloc: Global, edits: &[Edit]) -> Result<(), KeepFault>
         requires { IfSome (held self.old) (λ kept. CanMakeAll kept edits.now) }
-        ensures ok { OnOk result (held self.new ≡ option_map (λ kept. with_edits kept edits.now) (held self.old)) }
+        ensures ok { OnOk result (held self.new ≡ option_map (λ kept.
+            with_edits kept edits.now) (held self.old)) }
         ensures err { OnErr result (held self.new ≡ held self.old) }
         ensures told { IfSome (held self.new) IsSound }
         ensures failed { RoseWhereFailed result (faults self.old) (faults self.new) }

@@ -82,7 +82,8 @@ impl Keeper for MemoryKeeper {
 
     fn commit(&mut self, alloc: Global, edits: &[Edit]) -> Result<(), KeepFault>
         requires { CanMakeAll (kept_by self.old.0) edits.now }
-        ensures ok { OnOk result (Some (kept_by self.new.0) ≡ Some (with_edits (kept_by self.old.0) edits.now)) }
+        ensures ok { OnOk result (Some (kept_by self.new.0)
+            ≡ Some (with_edits (kept_by self.old.0) edits.now)) }
         ensures err { OnErr result (Some (kept_by self.new.0) ≡ Some (kept_by self.old.0)) }
         ensures told { IsSound (kept_by self.new.0) }
         ensures failed { RoseWhereFailed result self.old.1.faults self.new.1.faults }

@@ -25,7 +25,9 @@ fn give(
     name: &Text,
     count: usize,
 ) -> Result<(), Memory>
-    ensures { OnOk result ((other : List ℕ) → given rooms.new other ≡ given rooms.old other + (if bytes_eq name.now other then count else 0)) }
+    ensures { OnOk result ((other : List ℕ)
+        → given rooms.new other
+        ≡ given rooms.old other + (if bytes_eq name.now other then count else 0)) }
 {
     if let Some(room) = rooms.get_mut(name) {
         *room = both(*room, count)?;
@@ -41,7 +43,8 @@ fn give_for(
     alloc: Global,
     edit: &Edit,
 ) -> Result<(), Memory>
-    ensures { OnOk result ((name : List ℕ) → given rooms.new name ≡ given rooms.old name + brings name edit.now) }
+    ensures { OnOk result ((name : List ℕ)
+        → given rooms.new name ≡ given rooms.old name + brings name edit.now) }
 {
     match edit {
         Edit::Take { bucket, ops } => give(rooms, alloc, bucket, ops.len()),
@@ -56,7 +59,8 @@ pub fn rooms_for(
     hashing: Hashing,
     edits: &[Edit],
 ) -> Result<IndexMap<Text, usize, Hashing>, Memory>
-    ensures { IfOk result (λ rooms. (name : List ℕ) → given rooms name ≡ sum_by (brings name) edits.now) }
+    ensures { IfOk result (λ rooms.
+        (name : List ℕ) → given rooms name ≡ sum_by (brings name) edits.now) }
 {
     let mut rooms = IndexMap::with_hasher(alloc, hashing);
     'edits: for edit in edits {

@@ -38,7 +38,8 @@ pub struct Latest<'a> {
 impl Latest<'_> {
     // Whether a copy stands past it.
     fn is_before(&self, id: OpId, bucket: &Text, subkey: &Text) -> bool
-        ensures { result ≡ is_lt (place_cmp (noted_place (note_at self.now)) (id.0, bucket.now, subkey.now)) }
+        ensures { result ≡ is_lt
+            (place_cmp (noted_place (note_at self.now)) (id.0, bucket.now, subkey.now)) }
     {
         let names = self.bucket.cmp(bucket).then(self.subkey.cmp(subkey));
         self.entry.id.0.cmp(&id.0).then(names).is_lt()
@@ -53,7 +54,8 @@ fn is_news<'a>(
     bucket: &Text,
     subkey: &Text,
 ) -> bool
-    ensures { result ≡ is_past (noted rows.now (object_at object.now)) (id.0, bucket.now, subkey.now) }
+    ensures { result ≡ is_past (noted rows.now (object_at object.now))
+        (id.0, bucket.now, subkey.now) }
 {
     match rows.get(object) {
         Some(known) => known.is_before(id, bucket, subkey),
@@ -68,7 +70,9 @@ fn see<'a>(
     key: &'a Key,
     entry: &'a Entry,
 ) -> Result<(), Memory>
-    ensures { OnOk result ((object : Object) → noted rows.new object ≡ seen object (noted rows.old object) (copy_of bucket.now (key.now, entry.now))) }
+    ensures { OnOk result ((object : Object)
+        → noted rows.new object
+        ≡ seen object (noted rows.old object) (copy_of bucket.now (key.now, entry.now))) }
 {
     let object = (&key.kind, &key.id);
     let subkey = &key.subkey;
@@ -90,7 +94,9 @@ fn see_held<'a>(
     bucket: &'a Text,
     held: &'a IndexMap<Key, Entry, Hashing>,
 ) -> Result<(), Memory>
-    ensures rows { OnOk result ((object : Object) → noted rows.new object ≡ all_seen object (noted rows.old object) (copies_in bucket.now held.now.entries)) }
+    ensures rows { OnOk result ((object : Object)
+        → noted rows.new object
+        ≡ all_seen object (noted rows.old object) (copies_in bucket.now held.now.entries)) }
     ensures once { IsDistinct key_eq (keys_of held.now.entries) }
 {
     'copies: for (key, entry) in held.iter() {
@@ -105,7 +111,9 @@ fn see_slot<'a>(
     bucket: &'a Text,
     slot: &'a Slot,
 ) -> Result<(), Memory>
-    ensures rows { OnOk result ((object : Object) → noted rows.new object ≡ all_seen object (noted rows.old object) (copies_at bucket.now slot.now)) }
+    ensures rows { OnOk result ((object : Object)
+        → noted rows.new object
+        ≡ all_seen object (noted rows.old object) (copies_at bucket.now slot.now)) }
     ensures once { HoldsKeysOnce (bucket.now, slot.now) }
 {
     if slot.there {
@@ -119,7 +127,8 @@ fn latest_copies<'a>(
     alloc: Global,
     buckets: &'a Buckets,
 ) -> Result<BTreeMap<(&'a Text, &'a Text), Latest<'a>>, Memory>
-    ensures rows { IfOk result (λ rows. (object : Object) → noted rows object ≡ all_seen object None (copies_of buckets.now.slots.entries)) }
+    ensures rows { IfOk result (λ rows. (object : Object)
+        → noted rows object ≡ all_seen object None (copies_of buckets.now.slots.entries)) }
     ensures once { OnOk result (AllByRecursion HoldsKeysOnce buckets.now.slots.entries) }
     ensures names { IsDistinct bytes_eq (keys_of buckets.now.slots.entries) }
 {
@@ -160,8 +169,10 @@ fn rows_of<'a>(
 pub fn held_rows(alloc: Global, holdings: &Holdings) -> Result<Vec<Shown>, Memory>
     ensures in_order { IfOk result (λ rows. AreInOrder rows.items) }
     ensures distinct { IfOk result (λ rows. IsDistinct same_row rows.items) }
-    ensures latest { IfOk result (λ rows. (object : Object) → IfSome (row_at object rows.items) (IsLatestContent (kept_by holdings.now) object)) }
-    ensures all { IfOk result (λ rows. (copy : HeldCopy) → Holds (kept_by holdings.now) copy → IsSome (row_at (object_of copy) rows.items)) }
+    ensures latest { IfOk result (λ rows. (object : Object)
+        → IfSome (row_at object rows.items) (IsLatestContent (kept_by holdings.now) object)) }
+    ensures all { IfOk result (λ rows. (copy : HeldCopy) → Holds (kept_by holdings.now) copy
+        → IsSome (row_at (object_of copy) rows.items)) }
 {
     let latest = latest_copies(alloc, &holdings.buckets)?;
     rows_of(alloc, latest)
@@ -175,7 +186,8 @@ fn add_name(
     slot: &Slot,
 ) -> Result<(), Memory>
     ensures { OnOk result ((other : List ℕ) → contains (slice_cmp nat_cmp) names.new other
-        ≡ (slot.now.there && bytes_eq other name.now || contains (slice_cmp nat_cmp) names.old other)) }
+        ≡ (slot.now.there && bytes_eq other name.now || contains
+        (slice_cmp nat_cmp) names.old other)) }
 {
     if !slot.there {
         return Ok(());
@@ -186,7 +198,8 @@ fn add_name(
 
 // The names of the buckets that are there.
 fn names_of(alloc: Global, buckets: &Buckets) -> Result<BTreeSet<Text>, Memory>
-    ensures names { IfOk result (λ names. (name : List ℕ) → contains (slice_cmp nat_cmp) names name ≡ is_there name buckets.now.slots.entries) }
+    ensures names { IfOk result (λ names. (name : List ℕ)
+        → contains (slice_cmp nat_cmp) names name ≡ is_there name buckets.now.slots.entries) }
     ensures distinct { IsDistinct bytes_eq (keys_of buckets.now.slots.entries) }
 {
     let mut names = BTreeSet::new(alloc);
@@ -212,7 +225,8 @@ fn listed_names(alloc: Global, found: BTreeSet<Text>) -> Result<Vec<Text>, Memor
 // The names of the buckets that are there, in order.
 pub fn bucket_names(alloc: Global, holdings: &Holdings) -> Result<Vec<Text>, Memory>
     ensures in_order { IfOk result (λ names. IsStrictlySortedBy (slice_cmp nat_cmp) names.items) }
-    ensures held { IfOk result (λ names. (name : List ℕ) → list_any (bytes_eq name) names.items ≡ is_some ((kept_by holdings.now).bucket name)) }
+    ensures held { IfOk result (λ names. (name : List ℕ)
+        → list_any (bytes_eq name) names.items ≡ is_some ((kept_by holdings.now).bucket name)) }
 {
     let found = names_of(alloc, &holdings.buckets)?;
     listed_names(alloc, found)

@@ -98,9 +98,11 @@ fn add_state(
 
 // The states of all buckets.
 fn states_of(alloc: Global, buckets: &Buckets) -> Result<Items<BucketState>, Memory>
-    ensures kept { IfOk result (λ states. (name : List ℕ) → bucket_in states name ≡ bucket_found buckets.now name) }
+    ensures kept { IfOk result (λ states.
+        (name : List ℕ) → bucket_in states name ≡ bucket_found buckets.now name) }
     ensures names { IfOk result (λ states. IsDistinct bytes_eq (names_of states)) }
-    ensures keys { IfOk result (λ states. All (λ bucket. IsDistinct same_key (keys_held bucket)) states) }
+    ensures keys { IfOk result (λ states.
+        All (λ bucket. IsDistinct same_key (keys_held bucket)) states) }
 {
     let mut states = Items::new(alloc);
     'slots: for (name, slot) in buckets.slots.iter() {

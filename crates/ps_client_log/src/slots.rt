@@ -40,7 +40,8 @@ impl Slot {
     // The bucket takes operations, one after another; it begins with them where it was not there.
     pub fn take(&mut self, ops: Vec<Op>)
         requires { length ops.items ≤ slot_room self.old }
-        ensures bucket { slot_bucket self.new ≡ Some (fold after (unwrap_or (slot_bucket self.old) fresh) ops.items) }
+        ensures bucket { slot_bucket self.new
+            ≡ Some (fold after (unwrap_or (slot_bucket self.old) fresh) ops.items) }
         ensures room { slot_room self.old ≤ slot_room self.new + length ops.items }
     {
         if !self.there {

@@ -38,7 +38,8 @@ fn add_held(
     alloc: Global,
     bucket: &BucketState,
 ) -> Result<(), Memory>
-    ensures { OnOk result (rows.new.items ≡ rows.old.items ++ map (entry_pair bucket.now.name) bucket.now.held) }
+    ensures { OnOk result (rows.new.items
+        ≡ rows.old.items ++ map (entry_pair bucket.now.name) bucket.now.held) }
 {
     'held: for held in bucket.held.as_slice() {
         let at = (bucket.name.copy(alloc)?, held.key.copy(alloc)?);
@@ -134,7 +135,8 @@ fn add_bucket_writes(
     writes: &mut Vec<RowWrite>,
     changes: Vec<(Text, Option<(u64, u32)>)>,
 ) -> Result<(), Memory>
-    ensures { OnOk result (writes.new.items ≡ writes.old.items ++ writes_of bucket_write changes.items) }
+    ensures { OnOk result (writes.new.items
+        ≡ writes.old.items ++ writes_of bucket_write changes.items) }
 {
     'changes: for (name, bucket) in changes {
         writes.push(bucket_write(name, bucket))?;
@@ -147,7 +149,8 @@ fn add_entry_writes(
     writes: &mut Vec<RowWrite>,
     changes: Vec<((Text, Key), Option<Held>)>,
 ) -> Result<(), Memory>
-    ensures { OnOk result (writes.new.items ≡ writes.old.items ++ writes_of entry_write changes.items) }
+    ensures { OnOk result (writes.new.items
+        ≡ writes.old.items ++ writes_of entry_write changes.items) }
 {
     'changes: for (at, held) in changes {
         writes.push(entry_write(at, held))?;
@@ -160,7 +163,8 @@ fn add_queued_writes(
     writes: &mut Vec<RowWrite>,
     changes: Vec<(i64, Option<Text>)>,
 ) -> Result<(), Memory>
-    ensures { OnOk result (writes.new.items ≡ writes.old.items ++ writes_of queued_write changes.items) }
+    ensures { OnOk result (writes.new.items
+        ≡ writes.old.items ++ writes_of queued_write changes.items) }
 {
     'changes: for (seq, text) in changes {
         writes.push(queued_write(seq, text))?;
@@ -173,7 +177,8 @@ fn add_shown_writes(
     writes: &mut Vec<RowWrite>,
     changes: Vec<((Text, Text), Option<Text>)>,
 ) -> Result<(), Memory>
-    ensures { OnOk result (writes.new.items ≡ writes.old.items ++ writes_of shown_write changes.items) }
+    ensures { OnOk result (writes.new.items
+        ≡ writes.old.items ++ writes_of shown_write changes.items) }
 {
     'changes: for (at, content) in changes {
         writes.push(shown_write(at, content))?;
@@ -189,7 +194,8 @@ fn add_buckets(
     old: &[BucketState],
     new: &[BucketState],
 ) -> Result<(), Memory>
-    ensures { OnOk result (AddsChanges bytes_eq bucket_write (map bucket_pair old.now) (map bucket_pair new.now) writes.old.items writes.new.items) }
+    ensures { OnOk result (AddsChanges bytes_eq bucket_write (map bucket_pair old.now)
+        (map bucket_pair new.now) writes.old.items writes.new.items) }
 {
     let before = bucket_rows(alloc, old)?;
     let changes = row_changes(alloc, hashing, before, bucket_rows(alloc, new)?)?;
@@ -204,7 +210,8 @@ fn add_entries(
     old: &[BucketState],
     new: &[BucketState],
 ) -> Result<(), Memory>
-    ensures { OnOk result (AddsChanges place_eq entry_write (entry_pairs old.now) (entry_pairs new.now) writes.old.items writes.new.items) }
+    ensures { OnOk result (AddsChanges place_eq entry_write (entry_pairs old.now)
+        (entry_pairs new.now) writes.old.items writes.new.items) }
 {
     let before = entry_rows(alloc, old)?;
     let changes = row_changes(alloc, hashing, before, entry_rows(alloc, new)?)?;
@@ -219,7 +226,8 @@ fn add_queued(
     old: &[Queued],
     new: &[Queued],
 ) -> Result<(), Memory>
-    ensures { OnOk result (AddsChanges int_eq queued_write (map queued_pair old.now) (map queued_pair new.now) writes.old.items writes.new.items) }
+    ensures { OnOk result (AddsChanges int_eq queued_write (map queued_pair old.now)
+        (map queued_pair new.now) writes.old.items writes.new.items) }
 {
     let before = queued_rows(alloc, old)?;
     let changes = row_changes(alloc, hashing, before, queued_rows(alloc, new)?)?;
@@ -244,7 +252,8 @@ fn add_shown(
     old: &[Shown],
     new: &[Shown],
 ) -> Result<(), Memory>
-    ensures { OnOk result (AddsChanges object_eq shown_write (map shown_pair old.now) (map shown_pair new.now) writes.old.items writes.new.items) }
+    ensures { OnOk result (AddsChanges object_eq shown_write (map shown_pair old.now)
+        (map shown_pair new.now) writes.old.items writes.new.items) }
 {
     let before = shown_rows(alloc, old)?;
     let changes = row_changes(alloc, hashing, before, shown_rows(alloc, new)?)?;
@@ -262,9 +271,11 @@ pub fn difference(
     new_queue: &[Queued],
 ) -> Result<Vec<RowWrite>, Memory>
     requires { IsSoundState new.now }
-    ensures reached { IfOk result (λ writes. with_writes (stored_of old.now old_queue.now) writes.items ≡ stored_of new.now new_queue.now) }
+    ensures reached { IfOk result (λ writes. with_writes (stored_of old.now old_queue.now)
+        writes.items ≡ stored_of new.now new_queue.now) }
     ensures writable { IfOk result (λ writes. All IsWritable writes.items) }
-    ensures differ { IfOk result (λ writes. All (Differs (stored_of old.now old_queue.now)) writes.items) }
+    ensures differ { IfOk result (λ writes.
+        All (Differs (stored_of old.now old_queue.now)) writes.items) }
 {
     let mut writes = Vec::new(alloc);
     add_buckets(

@@ -34,7 +34,8 @@ fn had<K: Eq + Hash + Drop, V: Eq + Drop>(
     value: &V,
 ) -> bool
     requires values { (a b : V) → Decides (V.eq a b) (a ≡ b) }
-    ensures left { (other : K) → get K.eq left.new other ≡ (if K.eq key.now other then None else get K.eq left.old other) }
+    ensures left { (other : K) → get K.eq left.new other
+        ≡ (if K.eq key.now other then None else get K.eq left.old other) }
     ensures had { Decides result (get K.eq left.old key.now ≡ Some value.now) }
 {
     match left.swap_remove(key) {
@@ -53,7 +54,8 @@ pub fn row_changes<K: Eq + Hash + Drop, V: Eq + Drop>(
 ) -> Result<Vec<(K, Option<V>)>, Memory>
     requires keys { (a b : K) → Decides (K.eq a b) (a ≡ b) }
     requires values { (a b : V) → Decides (V.eq a b) (a ≡ b) }
-    ensures { IfOk result (λ changes. AreChanges K.eq (rows_at K.eq old.items) (rows_at K.eq new.items) changes.items) }
+    ensures { IfOk result (λ changes.
+        AreChanges K.eq (rows_at K.eq old.items) (rows_at K.eq new.items) changes.items) }
 {
     let mut left = by_key(alloc, hashing, old)?;
     let mut changes = Vec::new(alloc);

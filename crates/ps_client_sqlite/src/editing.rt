@@ -72,8 +72,10 @@ fn after_edit(alloc: Global, queue: Items<Queued>, edit: &Edit) -> Result<Items<
     requires named { NamesTable edit.now }
     ensures rising { IfOk result AreRising }
     ensures texts { IfOk result (All IsTextOf) }
-    ensures changes { IfOk result (λ all. changes_of all ≡ waiting_after (changes_of queue) edit.now) }
-    ensures numbers { IfOk result (λ all. numbers_of all ≡ numbers_after (numbers_of queue) edit.now) }
+    ensures changes { IfOk result (λ all.
+        changes_of all ≡ waiting_after (changes_of queue) edit.now) }
+    ensures numbers { IfOk result (λ all.
+        numbers_of all ≡ numbers_after (numbers_of queue) edit.now) }
 {
     match edit {
         Edit::Push { change } => written(alloc, queue, change),
@@ -93,8 +95,10 @@ pub fn after_edits(
     requires named { All NamesTable edits.now }
     ensures rising { IfOk result AreRising }
     ensures texts { IfOk result (All IsTextOf) }
-    ensures changes { IfOk result (λ all. changes_of all ≡ waiting_after_all (changes_of queue) edits.now) }
-    ensures numbers { IfOk result (λ all. numbers_of all ≡ numbers_after_all (numbers_of queue) edits.now) }
+    ensures changes { IfOk result (λ all.
+        changes_of all ≡ waiting_after_all (changes_of queue) edits.now) }
+    ensures numbers { IfOk result (λ all.
+        numbers_of all ≡ numbers_after_all (numbers_of queue) edits.now) }
 {
     let mut lines = queue;
     'edits: for edit in edits {

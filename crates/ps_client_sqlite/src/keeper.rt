@@ -97,10 +97,14 @@ fn read<S: Alter + Drop>(
 ) -> Result<SqliteKeeper<S>, StoreFault>
     requires outside { (state S.Store connection).in_transaction ≡ false }
     requires settled { Settles (state S.Store connection) }
-    ensures stands { IfOk result (λ keeper. Stands (state_of keeper) (writes_of keeper) (state S.Store (connection_of keeper))) }
-    ensures clean { IfOk result (λ keeper. HasCleanDisk (state S.Store (connection_of keeper)) → HasCleanDisk (state S.Store connection)) }
-    ensures opened { IfOk result (λ keeper. HasCleanDisk (state S.Store (connection_of keeper)) → IsTrue (state S.Store connection).is_open) }
-    ensures same { IfOk result (λ keeper. HasCleanDisk (state S.Store (connection_of keeper)) → (state S.Store (connection_of keeper)).now ≡ (state S.Store connection).now) }
+    ensures stands { IfOk result (λ keeper.
+        Stands (state_of keeper) (writes_of keeper) (state S.Store (connection_of keeper))) }
+    ensures clean { IfOk result (λ keeper. HasCleanDisk (state S.Store (connection_of keeper))
+        → HasCleanDisk (state S.Store connection)) }
+    ensures opened { IfOk result (λ keeper. HasCleanDisk (state S.Store (connection_of keeper))
+        → IsTrue (state S.Store connection).is_open) }
+    ensures same { IfOk result (λ keeper. HasCleanDisk (state S.Store (connection_of keeper))
+        → (state S.Store (connection_of keeper)).now ≡ (state S.Store connection).now) }
     ensures uncounted { IfOk result (λ keeper. faults_of keeper ≡ 0) }
     ensures blames { IfErr result (IsFaultRead (state S.Store) (state S.Store connection)) }
 {
@@ -121,10 +125,13 @@ impl<S: Alter + Drop> SqliteKeeper<S> {
     /// Keeps what the tables of a database hold, by maps that hash by a seed that everyone knows: for keys that nobody chose for it, as those in files of
     /// one's own. Fails as `open_hashed` does.
     pub fn open(alloc: Global, connection: Connection<S>) -> Result<SqliteKeeper<S>, StoreFault>
-        ensures stands { IfOk result (λ keeper. Stands (state_of keeper) (writes_of keeper) (state S.Store (connection_of keeper))) }
-        ensures rows { IfOk result (λ keeper. HasCleanDisk (state S.Store (connection_of keeper)) → IsTrue (state S.Store (connection_of keeper)).is_open
+        ensures stands { IfOk result (λ keeper.
+            Stands (state_of keeper) (writes_of keeper) (state S.Store (connection_of keeper))) }
+        ensures rows { IfOk result (λ keeper. HasCleanDisk (state S.Store (connection_of keeper))
+            → IsTrue (state S.Store (connection_of keeper)).is_open
             → IsFrom (state S.Store connection) (state_of keeper) (writes_of keeper)) }
-        ensures clean { IfOk result (λ keeper. HasCleanDisk (state S.Store (connection_of keeper)) → HasCleanDisk (state S.Store connection)) }
+        ensures clean { IfOk result (λ keeper. HasCleanDisk (state S.Store (connection_of keeper))
+            → HasCleanDisk (state S.Store connection)) }
         ensures uncounted { IfOk result (λ keeper. faults_of keeper ≡ 0) }
         ensures blames { IfErr result (IsFaultFrom (state S.Store) (state S.Store connection)) }
     {
@@ -139,10 +146,13 @@ impl<S: Alter + Drop> SqliteKeeper<S> {
         connection: Connection<S>,
         hashing: Hashing,
     ) -> Result<SqliteKeeper<S>, StoreFault>
-        ensures stands { IfOk result (λ keeper. Stands (state_of keeper) (writes_of keeper) (state S.Store (connection_of keeper))) }
-        ensures rows { IfOk result (λ keeper. HasCleanDisk (state S.Store (connection_of keeper)) → IsTrue (state S.Store (connection_of keeper)).is_open
+        ensures stands { IfOk result (λ keeper.
+            Stands (state_of keeper) (writes_of keeper) (state S.Store (connection_of keeper))) }
+        ensures rows { IfOk result (λ keeper. HasCleanDisk (state S.Store (connection_of keeper))
+            → IsTrue (state S.Store (connection_of keeper)).is_open
             → IsFrom (state S.Store connection) (state_of keeper) (writes_of keeper)) }
-        ensures clean { IfOk result (λ keeper. HasCleanDisk (state S.Store (connection_of keeper)) → HasCleanDisk (state S.Store connection)) }
+        ensures clean { IfOk result (λ keeper. HasCleanDisk (state S.Store (connection_of keeper))
+            → HasCleanDisk (state S.Store connection)) }
         ensures uncounted { IfOk result (λ keeper. faults_of keeper ≡ 0) }
         // The table that is named has a row that is none of a state, and the rows of those before it are those of a state.
         ensures blames { IfErr result (IsFaultFrom (state S.Store) (state S.Store connection)) }
@@ -173,13 +183,16 @@ fn after(
     requires queued { AreQueued queue.now kept.now.queue }
     requires rising { AreRising queue.now }
     requires can { CanMakeAll (kept_of kept.now) edits.now }
-    ensures edited { IfOk result (λ next. kept_of next.state ≡ with_edits (kept_of kept.now) edits.now) }
+    ensures edited { IfOk result (λ next.
+        kept_of next.state ≡ with_edits (kept_of kept.now) edits.now) }
     ensures sound { IfOk result (λ next. IsSoundState next.state) }
     ensures queued { IfOk result (λ next. AreQueued next.queue next.state.queue) }
     ensures rising { IfOk result (λ next. AreRising next.queue) }
-    ensures numbers { IfOk result (λ next. numbers_of next.queue ≡ numbers_after_all (numbers_of queue.now) edits.now) }
+    ensures numbers { IfOk result (λ next.
+        numbers_of next.queue ≡ numbers_after_all (numbers_of queue.now) edits.now) }
     ensures writable { IfOk result (λ next. All IsWritable next.writes.items) }
-    ensures reached { IfOk result (λ next. with_writes (stored_of kept.now queue.now) next.writes.items ≡ stored_of next.state next.queue) }
+    ensures reached { IfOk result (λ next. with_writes (stored_of kept.now queue.now)
+        next.writes.items ≡ stored_of next.state next.queue) }
 {
     let state = edited(alloc, hashing, state_copy(alloc, kept)?, edits)?;
     let waiting = after_edits(alloc, queue_copy(alloc, queue.as_slice())?, edits)?;
@@ -211,15 +224,18 @@ impl<S: Alter> SqliteKeeper<S> {
         requires queued { AreQueued queue next.queue }
         requires rising { AreRising queue }
         requires writable { All IsWritable writes.now }
-        requires reached { with_writes (stored_of (state_of self.old) (writes_of self.old)) writes.now ≡ stored_of next queue }
+        requires reached { with_writes (stored_of (state_of self.old) (writes_of self.old))
+            writes.now ≡ stored_of next queue }
         ensures ok { OnOk result (state_of self.new ≡ next) }
         ensures ok_writes { OnOk result (writes_of self.new ≡ queue) }
         ensures err { OnErr result (state_of self.new ≡ state_of self.old) }
         ensures err_writes { OnErr result (writes_of self.new ≡ writes_of self.old) }
         ensures counted { Counts result (faults_of self.old) (faults_of self.new) }
         ensures faults { faults_of self.old ≤ faults_of self.new }
-        ensures stands { Stands (state_of self.new) (writes_of self.new) (state S.Store (connection_of self.new)) }
-        ensures crash { LeavesOr (state S.Store (connection_of self.old)) (state S.Store (connection_of self.new)) (stored_of next queue) }
+        ensures stands { Stands (state_of self.new) (writes_of self.new)
+            (state S.Store (connection_of self.new)) }
+        ensures crash { LeavesOr (state S.Store (connection_of self.old))
+            (state S.Store (connection_of self.new)) (stored_of next queue) }
     {
         match write_all(&mut self.connection, writes) {
             Ok(()) => {
@@ -239,14 +255,19 @@ impl<S: Alter> SqliteKeeper<S> {
     /// before anything is written, in time and memory in line with the state and the edits. Fails as `turn` does; nothing has changed then.
     pub fn make(&mut self, alloc: Global, edits: &[Edit]) -> Result<(), KeepFault>
         requires { CanMakeAll (kept_of (state_of self.old)) edits.now }
-        ensures ok { OnOk result (kept_of (state_of self.new) ≡ with_edits (kept_of (state_of self.old)) edits.now) }
-        ensures numbers { OnOk result (numbers_of (writes_of self.new) ≡ numbers_after_all (numbers_of (writes_of self.old)) edits.now) }
+        ensures ok { OnOk result (kept_of (state_of self.new)
+            ≡ with_edits (kept_of (state_of self.old)) edits.now) }
+        ensures numbers { OnOk result (numbers_of (writes_of self.new)
+            ≡ numbers_after_all (numbers_of (writes_of self.old)) edits.now) }
         ensures err { OnErr result (state_of self.new ≡ state_of self.old) }
         ensures err_writes { OnErr result (writes_of self.new ≡ writes_of self.old) }
         ensures counted { Counts result (faults_of self.old) (faults_of self.new) }
         ensures faults { faults_of self.old ≤ faults_of self.new }
-        ensures stands { Stands (state_of self.new) (writes_of self.new) (state S.Store (connection_of self.new)) }
-        ensures crash { LeavesEdited (state S.Store (connection_of self.old)) (state S.Store (connection_of self.new)) (with_edits (kept_of (state_of self.old)) edits.now) }
+        ensures stands { Stands (state_of self.new) (writes_of self.new)
+            (state S.Store (connection_of self.new)) }
+        ensures crash { LeavesEdited (state S.Store (connection_of self.old))
+            (state S.Store (connection_of self.new))
+            (with_edits (kept_of (state_of self.old)) edits.now) }
     {
         let Next {
             state,
@@ -264,7 +285,8 @@ impl<S: Alter> SqliteKeeper<S> {
         ensures same_writes { writes_of self.new ≡ writes_of self.old }
         ensures counted { Counts result (faults_of self.old) (faults_of self.new) }
         ensures faults { faults_of self.old ≤ faults_of self.new }
-        ensures stands { Stands (state_of self.new) (writes_of self.new) (state S.Store (connection_of self.new)) }
+        ensures stands { Stands (state_of self.new) (writes_of self.new)
+            (state S.Store (connection_of self.new)) }
     {
         match read_again(alloc, self.hashing, &mut self.connection) {
             Ok(()) => Ok(state_copy(alloc, &self.kept)?),
@@ -308,24 +330,31 @@ impl<S: Alter> Keeper for SqliteKeeper<S> {
         ensures quiet { OnOk result (faults_of self.new ≡ faults_of self.old) }
         ensures same { state_of self.new ≡ state_of self.old }
         ensures same_writes { writes_of self.new ≡ writes_of self.old }
-        ensures stands { Stands (state_of self.new) (writes_of self.new) (state S.Store (connection_of self.new)) }
+        ensures stands { Stands (state_of self.new) (writes_of self.new)
+            (state S.Store (connection_of self.new)) }
     {
         self.tell(alloc)
     }
 
     fn commit(&mut self, alloc: Global, edits: &[Edit]) -> Result<(), KeepFault>
         requires { CanMakeAll (kept_of (state_of self.old)) edits.now }
-        ensures ok { OnOk result (Some (kept_of (state_of self.new)) ≡ Some (with_edits (kept_of (state_of self.old)) edits.now)) }
-        ensures numbers { OnOk result (numbers_of (writes_of self.new) ≡ numbers_after_all (numbers_of (writes_of self.old)) edits.now) }
-        ensures err { OnErr result (Some (kept_of (state_of self.new)) ≡ Some (kept_of (state_of self.old))) }
+        ensures ok { OnOk result (Some (kept_of (state_of self.new))
+            ≡ Some (with_edits (kept_of (state_of self.old)) edits.now)) }
+        ensures numbers { OnOk result (numbers_of (writes_of self.new)
+            ≡ numbers_after_all (numbers_of (writes_of self.old)) edits.now) }
+        ensures err { OnErr result
+            (Some (kept_of (state_of self.new)) ≡ Some (kept_of (state_of self.old))) }
         ensures err_state { OnErr result (state_of self.new ≡ state_of self.old) }
         ensures err_writes { OnErr result (writes_of self.new ≡ writes_of self.old) }
         ensures told { IsSound (kept_of (state_of self.new)) }
         ensures failed { RoseWhereFailed result (faults_of self.old) (faults_of self.new) }
         ensures faults { faults_of self.old ≤ faults_of self.new }
         ensures quiet { OnOk result (faults_of self.new ≡ faults_of self.old) }
-        ensures stands { Stands (state_of self.new) (writes_of self.new) (state S.Store (connection_of self.new)) }
-        ensures crash { LeavesEdited (state S.Store (connection_of self.old)) (state S.Store (connection_of self.new)) (with_edits (kept_of (state_of self.old)) edits.now) }
+        ensures stands { Stands (state_of self.new) (writes_of self.new)
+            (state S.Store (connection_of self.new)) }
+        ensures crash { LeavesEdited (state S.Store (connection_of self.old))
+            (state S.Store (connection_of self.new))
+            (with_edits (kept_of (state_of self.old)) edits.now) }
     {
         self.make(alloc, edits)
     }

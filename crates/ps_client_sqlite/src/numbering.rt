@@ -60,8 +60,10 @@ pub fn pushed(
 ) -> Result<Items<Queued>, Memory>
     requires { AreRising queue }
     ensures pushes { IfOk result (λ all. Pushes queue all text change) }
-    ensures next { last_number queue ≢ pos 9223372036854775807 → IfOk result (λ all. numbers_of all ≡ numbers_of queue ++ (last_number queue +ℤ pos 1) ∷ []) }
-    ensures anew { last_number queue ≡ pos 9223372036854775807 → IfOk result (λ all. numbers_of all ≡ first_numbers (length all)) }
+    ensures next { last_number queue ≢ pos 9223372036854775807 → IfOk result (λ all.
+        numbers_of all ≡ numbers_of queue ++ (last_number queue +ℤ pos 1) ∷ []) }
+    ensures anew { last_number queue ≡ pos 9223372036854775807 → IfOk result (λ all.
+        numbers_of all ≡ first_numbers (length all)) }
 {
     let mut lines = queue.into_vec();
     let Some(seq) = next_number(lines.as_slice()) else {

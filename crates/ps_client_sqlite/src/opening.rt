@@ -26,9 +26,11 @@ pub fn with_tables<S: Alter + Drop>(
 ) -> Result<Connection<S>, StoreFault>
     ensures outside { IfOk result (λ made. (state S.Store made).in_transaction ≡ false) }
     ensures settled { IfOk result (λ made. Settles (state S.Store made)) }
-    ensures rows { IfOk result (λ made. HasCleanDisk (state S.Store made) → IsTrue (state S.Store made).is_open
+    ensures rows { IfOk result (λ made.
+        HasCleanDisk (state S.Store made) → IsTrue (state S.Store made).is_open
         → IsOfCommit (state S.Store connection) (state S.Store made)) }
-    ensures clean { IfOk result (λ made. HasCleanDisk (state S.Store made) → HasCleanDisk (state S.Store connection)) }
+    ensures clean { IfOk result (λ made.
+        HasCleanDisk (state S.Store made) → HasCleanDisk (state S.Store connection)) }
     ensures unnamed { IfErr result NamesNone }
 {
     let mut anew = match open_anew(alloc, connection) {

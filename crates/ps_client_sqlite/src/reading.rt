@@ -89,13 +89,19 @@ fn bucket_rows<S: Alter>(
     alloc: Global,
     conn: &mut Connection<S>,
 ) -> Result<Items<Items<Cell>>, StoreFault>
-    ensures read { HasCleanDisk (state S.Store conn.new) → IsClient (state S.Store conn.old) → IfOk result (AreRead (map bucket_line (tables_of (state S.Store conn.old)).buckets)) }
-    ensures stand { HasCleanDisk (state S.Store conn.new) → IsClient (state S.Store conn.old) → IfOk result AreInOrder }
-    ensures same { HasCleanDisk (state S.Store conn.new) → IsClient (state S.Store conn.old) → OnOk result (IsUnchanged (state S.Store conn.old) (state S.Store conn.new)) }
-    ensures opened { HasCleanDisk (state S.Store conn.new) → OnOk result (IsTrue (state S.Store conn.old).is_open) }
+    ensures read { HasCleanDisk (state S.Store conn.new) → IsClient (state S.Store conn.old)
+        → IfOk result (AreRead (map bucket_line (tables_of (state S.Store conn.old)).buckets)) }
+    ensures stand { HasCleanDisk (state S.Store conn.new) → IsClient (state S.Store conn.old)
+        → IfOk result AreInOrder }
+    ensures same { HasCleanDisk (state S.Store conn.new) → IsClient (state S.Store conn.old)
+        → OnOk result (IsUnchanged (state S.Store conn.old) (state S.Store conn.new)) }
+    ensures opened { HasCleanDisk (state S.Store conn.new)
+        → OnOk result (IsTrue (state S.Store conn.old).is_open) }
     ensures clean { HasCleanDisk (state S.Store conn.new) → HasCleanDisk (state S.Store conn.old) }
-    ensures mode { (state S.Store conn.old).in_transaction ≡ false → (state S.Store conn.new).in_transaction ≡ false }
-    ensures kept { (stored : Stored) → Kept stored (state S.Store conn.old) → Kept stored (state S.Store conn.new) }
+    ensures mode { (state S.Store conn.old).in_transaction ≡ false
+        → (state S.Store conn.new).in_transaction ≡ false }
+    ensures kept { (stored : Stored) → Kept stored (state S.Store conn.old)
+        → Kept stored (state S.Store conn.new) }
     ensures unnamed { IfErr result NamesNone }
 {
     match read_buckets(conn) {
@@ -112,13 +118,19 @@ fn entry_rows<S: Alter>(
     alloc: Global,
     conn: &mut Connection<S>,
 ) -> Result<Items<Items<Cell>>, StoreFault>
-    ensures read { HasCleanDisk (state S.Store conn.new) → IsClient (state S.Store conn.old) → IfOk result (AreRead (map entry_line (tables_of (state S.Store conn.old)).entries)) }
-    ensures stand { HasCleanDisk (state S.Store conn.new) → IsClient (state S.Store conn.old) → IfOk result AreInOrder }
-    ensures same { HasCleanDisk (state S.Store conn.new) → IsClient (state S.Store conn.old) → OnOk result (IsUnchanged (state S.Store conn.old) (state S.Store conn.new)) }
-    ensures opened { HasCleanDisk (state S.Store conn.new) → OnOk result (IsTrue (state S.Store conn.old).is_open) }
+    ensures read { HasCleanDisk (state S.Store conn.new) → IsClient (state S.Store conn.old)
+        → IfOk result (AreRead (map entry_line (tables_of (state S.Store conn.old)).entries)) }
+    ensures stand { HasCleanDisk (state S.Store conn.new) → IsClient (state S.Store conn.old)
+        → IfOk result AreInOrder }
+    ensures same { HasCleanDisk (state S.Store conn.new) → IsClient (state S.Store conn.old)
+        → OnOk result (IsUnchanged (state S.Store conn.old) (state S.Store conn.new)) }
+    ensures opened { HasCleanDisk (state S.Store conn.new)
+        → OnOk result (IsTrue (state S.Store conn.old).is_open) }
     ensures clean { HasCleanDisk (state S.Store conn.new) → HasCleanDisk (state S.Store conn.old) }
-    ensures mode { (state S.Store conn.old).in_transaction ≡ false → (state S.Store conn.new).in_transaction ≡ false }
-    ensures kept { (stored : Stored) → Kept stored (state S.Store conn.old) → Kept stored (state S.Store conn.new) }
+    ensures mode { (state S.Store conn.old).in_transaction ≡ false
+        → (state S.Store conn.new).in_transaction ≡ false }
+    ensures kept { (stored : Stored) → Kept stored (state S.Store conn.old)
+        → Kept stored (state S.Store conn.new) }
     ensures unnamed { IfErr result NamesNone }
 {
     match read_entries(conn) {
@@ -135,12 +147,18 @@ fn queue_rows<S: Alter>(
     alloc: Global,
     conn: &mut Connection<S>,
 ) -> Result<Items<Items<Cell>>, StoreFault>
-    ensures read { HasCleanDisk (state S.Store conn.new) → IsClient (state S.Store conn.old) → IfOk result (Alike AreCells (map queued_line (tables_of (state S.Store conn.old)).queue)) }
-    ensures same { HasCleanDisk (state S.Store conn.new) → IsClient (state S.Store conn.old) → OnOk result (IsUnchanged (state S.Store conn.old) (state S.Store conn.new)) }
-    ensures opened { HasCleanDisk (state S.Store conn.new) → OnOk result (IsTrue (state S.Store conn.old).is_open) }
+    ensures read { HasCleanDisk (state S.Store conn.new) → IsClient (state S.Store conn.old)
+        → IfOk result
+        (Alike AreCells (map queued_line (tables_of (state S.Store conn.old)).queue)) }
+    ensures same { HasCleanDisk (state S.Store conn.new) → IsClient (state S.Store conn.old)
+        → OnOk result (IsUnchanged (state S.Store conn.old) (state S.Store conn.new)) }
+    ensures opened { HasCleanDisk (state S.Store conn.new)
+        → OnOk result (IsTrue (state S.Store conn.old).is_open) }
     ensures clean { HasCleanDisk (state S.Store conn.new) → HasCleanDisk (state S.Store conn.old) }
-    ensures mode { (state S.Store conn.old).in_transaction ≡ false → (state S.Store conn.new).in_transaction ≡ false }
-    ensures kept { (stored : Stored) → Kept stored (state S.Store conn.old) → Kept stored (state S.Store conn.new) }
+    ensures mode { (state S.Store conn.old).in_transaction ≡ false
+        → (state S.Store conn.new).in_transaction ≡ false }
+    ensures kept { (stored : Stored) → Kept stored (state S.Store conn.old)
+        → Kept stored (state S.Store conn.new) }
     ensures unnamed { IfErr result NamesNone }
 {
     match read_queue(conn) {
@@ -157,12 +175,17 @@ fn aim_rows<S: Alter>(
     alloc: Global,
     conn: &mut Connection<S>,
 ) -> Result<Items<Items<Cell>>, StoreFault>
-    ensures read { HasCleanDisk (state S.Store conn.new) → IsClient (state S.Store conn.old) → IfOk result (AreRead (map aim_line (tables_of (state S.Store conn.old)).aim)) }
-    ensures same { HasCleanDisk (state S.Store conn.new) → IsClient (state S.Store conn.old) → OnOk result (IsUnchanged (state S.Store conn.old) (state S.Store conn.new)) }
-    ensures opened { HasCleanDisk (state S.Store conn.new) → OnOk result (IsTrue (state S.Store conn.old).is_open) }
+    ensures read { HasCleanDisk (state S.Store conn.new) → IsClient (state S.Store conn.old)
+        → IfOk result (AreRead (map aim_line (tables_of (state S.Store conn.old)).aim)) }
+    ensures same { HasCleanDisk (state S.Store conn.new) → IsClient (state S.Store conn.old)
+        → OnOk result (IsUnchanged (state S.Store conn.old) (state S.Store conn.new)) }
+    ensures opened { HasCleanDisk (state S.Store conn.new)
+        → OnOk result (IsTrue (state S.Store conn.old).is_open) }
     ensures clean { HasCleanDisk (state S.Store conn.new) → HasCleanDisk (state S.Store conn.old) }
-    ensures mode { (state S.Store conn.old).in_transaction ≡ false → (state S.Store conn.new).in_transaction ≡ false }
-    ensures kept { (stored : Stored) → Kept stored (state S.Store conn.old) → Kept stored (state S.Store conn.new) }
+    ensures mode { (state S.Store conn.old).in_transaction ≡ false
+        → (state S.Store conn.new).in_transaction ≡ false }
+    ensures kept { (stored : Stored) → Kept stored (state S.Store conn.old)
+        → Kept stored (state S.Store conn.new) }
     ensures unnamed { IfErr result NamesNone }
 {
     match read_aim(conn) {
@@ -179,12 +202,17 @@ fn shown_rows<S: Alter>(
     alloc: Global,
     conn: &mut Connection<S>,
 ) -> Result<Items<Items<Cell>>, StoreFault>
-    ensures read { HasCleanDisk (state S.Store conn.new) → IsClient (state S.Store conn.old) → IfOk result (AreRead (map shown_line (tables_of (state S.Store conn.old)).shown)) }
-    ensures same { HasCleanDisk (state S.Store conn.new) → IsClient (state S.Store conn.old) → OnOk result (IsUnchanged (state S.Store conn.old) (state S.Store conn.new)) }
-    ensures opened { HasCleanDisk (state S.Store conn.new) → OnOk result (IsTrue (state S.Store conn.old).is_open) }
+    ensures read { HasCleanDisk (state S.Store conn.new) → IsClient (state S.Store conn.old)
+        → IfOk result (AreRead (map shown_line (tables_of (state S.Store conn.old)).shown)) }
+    ensures same { HasCleanDisk (state S.Store conn.new) → IsClient (state S.Store conn.old)
+        → OnOk result (IsUnchanged (state S.Store conn.old) (state S.Store conn.new)) }
+    ensures opened { HasCleanDisk (state S.Store conn.new)
+        → OnOk result (IsTrue (state S.Store conn.old).is_open) }
     ensures clean { HasCleanDisk (state S.Store conn.new) → HasCleanDisk (state S.Store conn.old) }
-    ensures mode { (state S.Store conn.old).in_transaction ≡ false → (state S.Store conn.new).in_transaction ≡ false }
-    ensures kept { (stored : Stored) → Kept stored (state S.Store conn.old) → Kept stored (state S.Store conn.new) }
+    ensures mode { (state S.Store conn.old).in_transaction ≡ false
+        → (state S.Store conn.new).in_transaction ≡ false }
+    ensures kept { (stored : Stored) → Kept stored (state S.Store conn.old)
+        → Kept stored (state S.Store conn.new) }
     ensures unnamed { IfErr result NamesNone }
 {
     match read_shown(conn) {
@@ -198,12 +226,17 @@ fn shown_rows<S: Alter>(
 
 // The rows of all tables.
 pub fn read_tables<S: Alter>(alloc: Global, conn: &mut Connection<S>) -> Result<Rows, StoreFault>
-    ensures read { HasCleanDisk (state S.Store conn.new) → IsClient (state S.Store conn.old) → IfOk result (AreTablesRead (tables_of (state S.Store conn.old))) }
-    ensures same { HasCleanDisk (state S.Store conn.new) → IsClient (state S.Store conn.old) → OnOk result (IsUnchanged (state S.Store conn.old) (state S.Store conn.new)) }
-    ensures opened { HasCleanDisk (state S.Store conn.new) → OnOk result (IsTrue (state S.Store conn.old).is_open) }
+    ensures read { HasCleanDisk (state S.Store conn.new) → IsClient (state S.Store conn.old)
+        → IfOk result (AreTablesRead (tables_of (state S.Store conn.old))) }
+    ensures same { HasCleanDisk (state S.Store conn.new) → IsClient (state S.Store conn.old)
+        → OnOk result (IsUnchanged (state S.Store conn.old) (state S.Store conn.new)) }
+    ensures opened { HasCleanDisk (state S.Store conn.new)
+        → OnOk result (IsTrue (state S.Store conn.old).is_open) }
     ensures clean { HasCleanDisk (state S.Store conn.new) → HasCleanDisk (state S.Store conn.old) }
-    ensures mode { (state S.Store conn.old).in_transaction ≡ false → (state S.Store conn.new).in_transaction ≡ false }
-    ensures kept { (stored : Stored) → Kept stored (state S.Store conn.old) → Kept stored (state S.Store conn.new) }
+    ensures mode { (state S.Store conn.old).in_transaction ≡ false
+        → (state S.Store conn.new).in_transaction ≡ false }
+    ensures kept { (stored : Stored) → Kept stored (state S.Store conn.old)
+        → Kept stored (state S.Store conn.new) }
     ensures unnamed { IfErr result NamesNone }
 {
     let buckets = bucket_rows(alloc, conn)?;
@@ -227,18 +260,26 @@ pub fn read_state<S: Alter>(
     hashing: Hashing,
     conn: &mut Connection<S>,
 ) -> Result<(State, Items<Queued>), StoreFault>
-    ensures read { HasCleanDisk (state S.Store conn.new) → IsClient (state S.Store conn.old) → IfOk result (λ told. Holds (stored_of told.0 told.1) (tables_of (state S.Store conn.old))) }
+    ensures read { HasCleanDisk (state S.Store conn.new) → IsClient (state S.Store conn.old)
+        → IfOk result (λ told.
+        Holds (stored_of told.0 told.1) (tables_of (state S.Store conn.old))) }
     ensures sound { IfOk result (λ told. IsSoundState told.0) }
     ensures queued { IfOk result (λ told. AreQueued told.1 told.0.queue) }
     ensures rising { IfOk result (λ told. AreRising told.1) }
     // The table that is named has a row that is none of a state, and the rows of those before it are those of a state.
-    ensures blames { HasCleanDisk (state S.Store conn.new) → IsClient (state S.Store conn.old) → IfErr result (IsFaultOf (tables_of (state S.Store conn.old))) }
-    ensures named { HasCleanDisk (state S.Store conn.new) → IfErr result (IsOpenWhereNamed (state S.Store conn.old)) }
-    ensures same { HasCleanDisk (state S.Store conn.new) → IsClient (state S.Store conn.old) → OnOk result (IsUnchanged (state S.Store conn.old) (state S.Store conn.new)) }
-    ensures opened { HasCleanDisk (state S.Store conn.new) → OnOk result (IsTrue (state S.Store conn.old).is_open) }
+    ensures blames { HasCleanDisk (state S.Store conn.new) → IsClient (state S.Store conn.old)
+        → IfErr result (IsFaultOf (tables_of (state S.Store conn.old))) }
+    ensures named { HasCleanDisk (state S.Store conn.new)
+        → IfErr result (IsOpenWhereNamed (state S.Store conn.old)) }
+    ensures same { HasCleanDisk (state S.Store conn.new) → IsClient (state S.Store conn.old)
+        → OnOk result (IsUnchanged (state S.Store conn.old) (state S.Store conn.new)) }
+    ensures opened { HasCleanDisk (state S.Store conn.new)
+        → OnOk result (IsTrue (state S.Store conn.old).is_open) }
     ensures clean { HasCleanDisk (state S.Store conn.new) → HasCleanDisk (state S.Store conn.old) }
-    ensures mode { (state S.Store conn.old).in_transaction ≡ false → (state S.Store conn.new).in_transaction ≡ false }
-    ensures kept { (stored : Stored) → Kept stored (state S.Store conn.old) → Kept stored (state S.Store conn.new) }
+    ensures mode { (state S.Store conn.old).in_transaction ≡ false
+        → (state S.Store conn.new).in_transaction ≡ false }
+    ensures kept { (stored : Stored) → Kept stored (state S.Store conn.old)
+        → Kept stored (state S.Store conn.new) }
 {
     let rows = match read_tables(alloc, conn) {
         Ok(rows) => rows,
@@ -256,8 +297,10 @@ pub fn read_again<S: Alter>(
     hashing: Hashing,
     conn: &mut Connection<S>,
 ) -> Result<(), StoreFault>
-    ensures mode { (state S.Store conn.old).in_transaction ≡ false → (state S.Store conn.new).in_transaction ≡ false }
-    ensures kept { (stored : Stored) → Kept stored (state S.Store conn.old) → Kept stored (state S.Store conn.new) }
+    ensures mode { (state S.Store conn.old).in_transaction ≡ false
+        → (state S.Store conn.new).in_transaction ≡ false }
+    ensures kept { (stored : Stored) → Kept stored (state S.Store conn.old)
+        → Kept stored (state S.Store conn.new) }
 {
     match read_state(alloc, hashing, conn) {
         Ok(_told) => Ok(()),

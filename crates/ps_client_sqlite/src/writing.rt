@@ -32,11 +32,18 @@ fn aim_of(target: Target) -> (u32, u64)
 fn write_aim<S: Alter>(tx: &mut Transaction<'_, S>, target: Target) -> Result<usize, Error>
     requires { IsWritable (RowWrite.PutAim target) }
     ensures same_reference { tx.new.conn.ghost_name ≡ tx.old.conn.ghost_name }
-    ensures inside { HasCleanDisk (state S.Store tx.new.conn.now) → IsInside (state S.Store tx.old.conn.now) → OnOk result (IsInside (state S.Store tx.new.conn.now)) }
-    ensures written { HasCleanDisk (state S.Store tx.new.conn.now) → IsInside (state S.Store tx.old.conn.now)
-        → OnOk result (Writes (RowWrite.PutAim target) (tables_of (state S.Store tx.old.conn.now)) (tables_of (state S.Store tx.new.conn.now))) }
-    ensures kept { HasCleanDisk (state S.Store tx.new.conn.now) → KeepsCommit (state S.Store tx.old.conn.now) (state S.Store tx.new.conn.now) }
-    ensures survives { Survives (state S.Store tx.old.conn.now) (state S.Store tx.new.conn.now) (λ _. ⊥) }
+    ensures inside { HasCleanDisk (state S.Store tx.new.conn.now)
+        → IsInside (state S.Store tx.old.conn.now)
+        → OnOk result (IsInside (state S.Store tx.new.conn.now)) }
+    ensures written { HasCleanDisk (state S.Store tx.new.conn.now)
+        → IsInside (state S.Store tx.old.conn.now)
+        → OnOk result
+        (Writes (RowWrite.PutAim target) (tables_of (state S.Store tx.old.conn.now))
+        (tables_of (state S.Store tx.new.conn.now))) }
+    ensures kept { HasCleanDisk (state S.Store tx.new.conn.now)
+        → KeepsCommit (state S.Store tx.old.conn.now) (state S.Store tx.new.conn.now) }
+    ensures survives { Survives (state S.Store tx.old.conn.now)
+        (state S.Store tx.new.conn.now) (λ _. ⊥) }
 {
     let (kind, number) = aim_of(target);
     put_aim(tx, kind, number)
@@ -46,11 +53,18 @@ fn write_aim<S: Alter>(tx: &mut Transaction<'_, S>, target: Target) -> Result<us
 fn write_row<S: Alter>(tx: &mut Transaction<'_, S>, write: &RowWrite) -> Result<usize, Error>
     requires { IsWritable write.now }
     ensures same_reference { tx.new.conn.ghost_name ≡ tx.old.conn.ghost_name }
-    ensures inside { HasCleanDisk (state S.Store tx.new.conn.now) → IsInside (state S.Store tx.old.conn.now) → OnOk result (IsInside (state S.Store tx.new.conn.now)) }
-    ensures written { HasCleanDisk (state S.Store tx.new.conn.now) → IsInside (state S.Store tx.old.conn.now)
-        → OnOk result (Writes write.now (tables_of (state S.Store tx.old.conn.now)) (tables_of (state S.Store tx.new.conn.now))) }
-    ensures kept { HasCleanDisk (state S.Store tx.new.conn.now) → KeepsCommit (state S.Store tx.old.conn.now) (state S.Store tx.new.conn.now) }
-    ensures survives { Survives (state S.Store tx.old.conn.now) (state S.Store tx.new.conn.now) (λ _. ⊥) }
+    ensures inside { HasCleanDisk (state S.Store tx.new.conn.now)
+        → IsInside (state S.Store tx.old.conn.now)
+        → OnOk result (IsInside (state S.Store tx.new.conn.now)) }
+    ensures written { HasCleanDisk (state S.Store tx.new.conn.now)
+        → IsInside (state S.Store tx.old.conn.now)
+        → OnOk result
+        (Writes write.now (tables_of (state S.Store tx.old.conn.now))
+        (tables_of (state S.Store tx.new.conn.now))) }
+    ensures kept { HasCleanDisk (state S.Store tx.new.conn.now)
+        → KeepsCommit (state S.Store tx.old.conn.now) (state S.Store tx.new.conn.now) }
+    ensures survives { Survives (state S.Store tx.old.conn.now)
+        (state S.Store tx.new.conn.now) (λ _. ⊥) }
 {
     match write {
         RowWrite::PutBucket {
@@ -75,11 +89,18 @@ fn write_row<S: Alter>(tx: &mut Transaction<'_, S>, write: &RowWrite) -> Result<
 fn write_rows<S: Alter>(tx: &mut Transaction<'_, S>, writes: &[RowWrite]) -> Result<(), Error>
     requires { All IsWritable writes.now }
     ensures same_reference { tx.new.conn.ghost_name ≡ tx.old.conn.ghost_name }
-    ensures inside { HasCleanDisk (state S.Store tx.new.conn.now) → IsInside (state S.Store tx.old.conn.now) → OnOk result (IsInside (state S.Store tx.new.conn.now)) }
-    ensures written { HasCleanDisk (state S.Store tx.new.conn.now) → IsInside (state S.Store tx.old.conn.now)
-        → OnOk result (WritesAll writes.now (tables_of (state S.Store tx.old.conn.now)) (tables_of (state S.Store tx.new.conn.now))) }
-    ensures kept { HasCleanDisk (state S.Store tx.new.conn.now) → KeepsCommit (state S.Store tx.old.conn.now) (state S.Store tx.new.conn.now) }
-    ensures survives { Survives (state S.Store tx.old.conn.now) (state S.Store tx.new.conn.now) (λ _. ⊥) }
+    ensures inside { HasCleanDisk (state S.Store tx.new.conn.now)
+        → IsInside (state S.Store tx.old.conn.now)
+        → OnOk result (IsInside (state S.Store tx.new.conn.now)) }
+    ensures written { HasCleanDisk (state S.Store tx.new.conn.now)
+        → IsInside (state S.Store tx.old.conn.now)
+        → OnOk result
+        (WritesAll writes.now (tables_of (state S.Store tx.old.conn.now))
+        (tables_of (state S.Store tx.new.conn.now))) }
+    ensures kept { HasCleanDisk (state S.Store tx.new.conn.now)
+        → KeepsCommit (state S.Store tx.old.conn.now) (state S.Store tx.new.conn.now) }
+    ensures survives { Survives (state S.Store tx.old.conn.now)
+        (state S.Store tx.new.conn.now) (λ _. ⊥) }
 {
     'writes: for write in writes {
         write_row(tx, write)?;
@@ -92,9 +113,13 @@ pub fn write_all<S: Alter>(conn: &mut Connection<S>, writes: &[RowWrite]) -> Res
     requires outside { (state S.Store conn.old).in_transaction ≡ false }
     requires writable { All IsWritable writes.now }
     ensures outside { (state S.Store conn.new).in_transaction ≡ false }
-    ensures ok { (stored : Stored) → Kept stored (state S.Store conn.old) → OnOk result (Kept (with_writes stored writes.now) (state S.Store conn.new)) }
-    ensures err { (stored : Stored) → Kept stored (state S.Store conn.old) → OnErr result (Kept stored (state S.Store conn.new)) }
-    ensures crash { (stored : Stored) → Kept stored (state S.Store conn.old) → LeavesOr (state S.Store conn.old) (state S.Store conn.new) (with_writes stored writes.now) }
+    ensures ok { (stored : Stored) → Kept stored (state S.Store conn.old)
+        → OnOk result (Kept (with_writes stored writes.now) (state S.Store conn.new)) }
+    ensures err { (stored : Stored) → Kept stored (state S.Store conn.old)
+        → OnErr result (Kept stored (state S.Store conn.new)) }
+    ensures crash { (stored : Stored) → Kept stored (state S.Store conn.old)
+        → LeavesOr (state S.Store conn.old) (state S.Store conn.new)
+        (with_writes stored writes.now) }
 {
     let mut tx = conn.transaction();
     write_rows(&mut tx, writes)?;

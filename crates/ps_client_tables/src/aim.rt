@@ -18,10 +18,15 @@ pub fn put_aim<S: Alter>(
 ) -> Result<usize, Error>
     requires { number ≤ greatest }
     ensures same_reference { tx.new.conn.ghost_name ≡ tx.old.conn.ghost_name }
-    ensures put { HasCleanDisk (state S.Store tx.new.conn.now) → IsInside (state S.Store tx.old.conn.now)
-        → OnOk result (Turns (put_aim kind number) (state S.Store tx.old.conn.now) (state S.Store tx.new.conn.now)) }
-    ensures kept { HasCleanDisk (state S.Store tx.new.conn.now) → KeepsCommit (state S.Store tx.old.conn.now) (state S.Store tx.new.conn.now) }
-    ensures survives { Survives (state S.Store tx.old.conn.now) (state S.Store tx.new.conn.now) (λ _. ⊥) }
+    ensures put { HasCleanDisk (state S.Store tx.new.conn.now)
+        → IsInside (state S.Store tx.old.conn.now)
+        → OnOk result
+        (Turns (put_aim kind number) (state S.Store tx.old.conn.now)
+        (state S.Store tx.new.conn.now)) }
+    ensures kept { HasCleanDisk (state S.Store tx.new.conn.now)
+        → KeepsCommit (state S.Store tx.old.conn.now) (state S.Store tx.new.conn.now) }
+    ensures survives { Survives (state S.Store tx.old.conn.now)
+        (state S.Store tx.new.conn.now) (λ _. ⊥) }
 {
     run(
         tx,
@@ -36,11 +41,15 @@ pub fn read_aim<S: Alter>(conn: &mut Connection<S>) -> Result<Vec<Row>, Error>
         → IfOk result (λ rows. rows.items ≡ map aim_line (tables_of (state S.Store conn.old)).aim) }
     ensures same { HasCleanDisk (state S.Store conn.new) → IsClient (state S.Store conn.old)
         → OnOk result (IsUnchanged (state S.Store conn.old) (state S.Store conn.new)) }
-    ensures refused { HasCleanDisk (state S.Store conn.new) → OnErr result (IsLeft (state S.Store conn.old) (state S.Store conn.new)) }
-    ensures opened { HasCleanDisk (state S.Store conn.new) → OnOk result (IsTrue (state S.Store conn.old).is_open) }
+    ensures refused { HasCleanDisk (state S.Store conn.new)
+        → OnErr result (IsLeft (state S.Store conn.old) (state S.Store conn.new)) }
+    ensures opened { HasCleanDisk (state S.Store conn.new)
+        → OnOk result (IsTrue (state S.Store conn.old).is_open) }
     ensures clean { HasCleanDisk (state S.Store conn.new) → HasCleanDisk (state S.Store conn.old) }
-    ensures mode { (state S.Store conn.old).in_transaction ≡ false → (state S.Store conn.new).in_transaction ≡ false }
-    ensures survives { IsClient (state S.Store conn.old) → Survives (state S.Store conn.old) (state S.Store conn.new) (λ _. ⊥) }
+    ensures mode { (state S.Store conn.old).in_transaction ≡ false
+        → (state S.Store conn.new).in_transaction ≡ false }
+    ensures survives { IsClient (state S.Store conn.old)
+        → Survives (state S.Store conn.old) (state S.Store conn.new) (λ _. ⊥) }
 {
     conn.query_all("SELECT one, kind, number FROM aim ORDER BY one", &[])
 }

@@ -20,10 +20,15 @@ pub fn put_bucket<S: Alter>(
 ) -> Result<usize, Error>
     requires { position.0 ≤ greatest }
     ensures same_reference { tx.new.conn.ghost_name ≡ tx.old.conn.ghost_name }
-    ensures put { HasCleanDisk (state S.Store tx.new.conn.now) → IsInside (state S.Store tx.old.conn.now)
-        → OnOk result (Turns (put_bucket name.now position.0 added) (state S.Store tx.old.conn.now) (state S.Store tx.new.conn.now)) }
-    ensures kept { HasCleanDisk (state S.Store tx.new.conn.now) → KeepsCommit (state S.Store tx.old.conn.now) (state S.Store tx.new.conn.now) }
-    ensures survives { Survives (state S.Store tx.old.conn.now) (state S.Store tx.new.conn.now) (λ _. ⊥) }
+    ensures put { HasCleanDisk (state S.Store tx.new.conn.now)
+        → IsInside (state S.Store tx.old.conn.now)
+        → OnOk result
+        (Turns (put_bucket name.now position.0 added) (state S.Store tx.old.conn.now)
+        (state S.Store tx.new.conn.now)) }
+    ensures kept { HasCleanDisk (state S.Store tx.new.conn.now)
+        → KeepsCommit (state S.Store tx.old.conn.now) (state S.Store tx.new.conn.now) }
+    ensures survives { Survives (state S.Store tx.old.conn.now)
+        (state S.Store tx.new.conn.now) (λ _. ⊥) }
 {
     run(
         tx,
@@ -35,10 +40,15 @@ pub fn put_bucket<S: Alter>(
 /// Takes the bucket with this name out, where there is one. Its entries stay.
 pub fn drop_bucket<S: Alter>(tx: &mut Transaction<'_, S>, name: &Text) -> Result<usize, Error>
     ensures same_reference { tx.new.conn.ghost_name ≡ tx.old.conn.ghost_name }
-    ensures dropped { HasCleanDisk (state S.Store tx.new.conn.now) → IsInside (state S.Store tx.old.conn.now)
-        → OnOk result (Turns (drop_bucket name.now) (state S.Store tx.old.conn.now) (state S.Store tx.new.conn.now)) }
-    ensures kept { HasCleanDisk (state S.Store tx.new.conn.now) → KeepsCommit (state S.Store tx.old.conn.now) (state S.Store tx.new.conn.now) }
-    ensures survives { Survives (state S.Store tx.old.conn.now) (state S.Store tx.new.conn.now) (λ _. ⊥) }
+    ensures dropped { HasCleanDisk (state S.Store tx.new.conn.now)
+        → IsInside (state S.Store tx.old.conn.now)
+        → OnOk result
+        (Turns (drop_bucket name.now) (state S.Store tx.old.conn.now)
+        (state S.Store tx.new.conn.now)) }
+    ensures kept { HasCleanDisk (state S.Store tx.new.conn.now)
+        → KeepsCommit (state S.Store tx.old.conn.now) (state S.Store tx.new.conn.now) }
+    ensures survives { Survives (state S.Store tx.old.conn.now)
+        (state S.Store tx.new.conn.now) (λ _. ⊥) }
 {
     run(
         tx,
@@ -50,15 +60,21 @@ pub fn drop_bucket<S: Alter>(tx: &mut Transaction<'_, S>, name: &Text) -> Result
 /// All buckets, in the order of their names: name, position, added sum.
 pub fn read_buckets<S: Alter>(conn: &mut Connection<S>) -> Result<Vec<Row>, Error>
     ensures read { HasCleanDisk (state S.Store conn.new) → IsClient (state S.Store conn.old)
-        → IfOk result (λ rows. IsPermutation (map bucket_line (tables_of (state S.Store conn.old)).buckets) rows.items) }
-    ensures sorted { HasCleanDisk (state S.Store conn.new) → IsClient (state S.Store conn.old) → IfOk result (λ rows. AreInOrder rows.items) }
+        → IfOk result (λ rows.
+        IsPermutation (map bucket_line (tables_of (state S.Store conn.old)).buckets) rows.items) }
+    ensures sorted { HasCleanDisk (state S.Store conn.new) → IsClient (state S.Store conn.old)
+        → IfOk result (λ rows. AreInOrder rows.items) }
     ensures same { HasCleanDisk (state S.Store conn.new) → IsClient (state S.Store conn.old)
         → OnOk result (IsUnchanged (state S.Store conn.old) (state S.Store conn.new)) }
-    ensures refused { HasCleanDisk (state S.Store conn.new) → OnErr result (IsLeft (state S.Store conn.old) (state S.Store conn.new)) }
-    ensures opened { HasCleanDisk (state S.Store conn.new) → OnOk result (IsTrue (state S.Store conn.old).is_open) }
+    ensures refused { HasCleanDisk (state S.Store conn.new)
+        → OnErr result (IsLeft (state S.Store conn.old) (state S.Store conn.new)) }
+    ensures opened { HasCleanDisk (state S.Store conn.new)
+        → OnOk result (IsTrue (state S.Store conn.old).is_open) }
     ensures clean { HasCleanDisk (state S.Store conn.new) → HasCleanDisk (state S.Store conn.old) }
-    ensures mode { (state S.Store conn.old).in_transaction ≡ false → (state S.Store conn.new).in_transaction ≡ false }
-    ensures survives { IsClient (state S.Store conn.old) → Survives (state S.Store conn.old) (state S.Store conn.new) (λ _. ⊥) }
+    ensures mode { (state S.Store conn.old).in_transaction ≡ false
+        → (state S.Store conn.new).in_transaction ≡ false }
+    ensures survives { IsClient (state S.Store conn.old)
+        → Survives (state S.Store conn.old) (state S.Store conn.new) (λ _. ⊥) }
 {
     conn.query_all(
         "SELECT name, position, added FROM buckets ORDER BY name",

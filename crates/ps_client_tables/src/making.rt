@@ -13,10 +13,13 @@ use sqlite::{Alter, Connection, Error, Transaction};
 // Makes the table of buckets, in a database that has no table.
 fn make_buckets<S: Alter>(tx: &mut Transaction<'_, S>) -> Result<usize, Error>
     ensures same_reference { tx.new.conn.ghost_name ≡ tx.old.conn.ghost_name }
-    ensures made { HasCleanDisk (state S.Store tx.new.conn.now) → IsMade no_schema (state S.Store tx.old.conn.now)
+    ensures made { HasCleanDisk (state S.Store tx.new.conn.now)
+        → IsMade no_schema (state S.Store tx.old.conn.now)
         → OnOk result (IsMade buckets_schema (state S.Store tx.new.conn.now)) }
-    ensures kept { HasCleanDisk (state S.Store tx.new.conn.now) → KeepsCommit (state S.Store tx.old.conn.now) (state S.Store tx.new.conn.now) }
-    ensures survives { Survives (state S.Store tx.old.conn.now) (state S.Store tx.new.conn.now) (λ _. ⊥) }
+    ensures kept { HasCleanDisk (state S.Store tx.new.conn.now)
+        → KeepsCommit (state S.Store tx.old.conn.now) (state S.Store tx.new.conn.now) }
+    ensures survives { Survives (state S.Store tx.old.conn.now)
+        (state S.Store tx.new.conn.now) (λ _. ⊥) }
 {
     run(
         tx,
@@ -28,10 +31,13 @@ fn make_buckets<S: Alter>(tx: &mut Transaction<'_, S>) -> Result<usize, Error>
 // Makes the table of held entries, after that of buckets.
 fn make_entries<S: Alter>(tx: &mut Transaction<'_, S>) -> Result<usize, Error>
     ensures same_reference { tx.new.conn.ghost_name ≡ tx.old.conn.ghost_name }
-    ensures made { HasCleanDisk (state S.Store tx.new.conn.now) → IsMade buckets_schema (state S.Store tx.old.conn.now)
+    ensures made { HasCleanDisk (state S.Store tx.new.conn.now)
+        → IsMade buckets_schema (state S.Store tx.old.conn.now)
         → OnOk result (IsMade entries_schema (state S.Store tx.new.conn.now)) }
-    ensures kept { HasCleanDisk (state S.Store tx.new.conn.now) → KeepsCommit (state S.Store tx.old.conn.now) (state S.Store tx.new.conn.now) }
-    ensures survives { Survives (state S.Store tx.old.conn.now) (state S.Store tx.new.conn.now) (λ _. ⊥) }
+    ensures kept { HasCleanDisk (state S.Store tx.new.conn.now)
+        → KeepsCommit (state S.Store tx.old.conn.now) (state S.Store tx.new.conn.now) }
+    ensures survives { Survives (state S.Store tx.old.conn.now)
+        (state S.Store tx.new.conn.now) (λ _. ⊥) }
 {
     run(
         tx,
@@ -43,10 +49,13 @@ fn make_entries<S: Alter>(tx: &mut Transaction<'_, S>) -> Result<usize, Error>
 // Makes the table of local writes, after that of held entries.
 fn make_queue<S: Alter>(tx: &mut Transaction<'_, S>) -> Result<usize, Error>
     ensures same_reference { tx.new.conn.ghost_name ≡ tx.old.conn.ghost_name }
-    ensures made { HasCleanDisk (state S.Store tx.new.conn.now) → IsMade entries_schema (state S.Store tx.old.conn.now)
+    ensures made { HasCleanDisk (state S.Store tx.new.conn.now)
+        → IsMade entries_schema (state S.Store tx.old.conn.now)
         → OnOk result (IsMade queue_schema (state S.Store tx.new.conn.now)) }
-    ensures kept { HasCleanDisk (state S.Store tx.new.conn.now) → KeepsCommit (state S.Store tx.old.conn.now) (state S.Store tx.new.conn.now) }
-    ensures survives { Survives (state S.Store tx.old.conn.now) (state S.Store tx.new.conn.now) (λ _. ⊥) }
+    ensures kept { HasCleanDisk (state S.Store tx.new.conn.now)
+        → KeepsCommit (state S.Store tx.old.conn.now) (state S.Store tx.new.conn.now) }
+    ensures survives { Survives (state S.Store tx.old.conn.now)
+        (state S.Store tx.new.conn.now) (λ _. ⊥) }
 {
     run(
         tx,
@@ -58,10 +67,13 @@ fn make_queue<S: Alter>(tx: &mut Transaction<'_, S>) -> Result<usize, Error>
 // Makes the table of the target, after that of local writes.
 fn make_aim<S: Alter>(tx: &mut Transaction<'_, S>) -> Result<usize, Error>
     ensures same_reference { tx.new.conn.ghost_name ≡ tx.old.conn.ghost_name }
-    ensures made { HasCleanDisk (state S.Store tx.new.conn.now) → IsMade queue_schema (state S.Store tx.old.conn.now)
+    ensures made { HasCleanDisk (state S.Store tx.new.conn.now)
+        → IsMade queue_schema (state S.Store tx.old.conn.now)
         → OnOk result (IsMade aim_schema (state S.Store tx.new.conn.now)) }
-    ensures kept { HasCleanDisk (state S.Store tx.new.conn.now) → KeepsCommit (state S.Store tx.old.conn.now) (state S.Store tx.new.conn.now) }
-    ensures survives { Survives (state S.Store tx.old.conn.now) (state S.Store tx.new.conn.now) (λ _. ⊥) }
+    ensures kept { HasCleanDisk (state S.Store tx.new.conn.now)
+        → KeepsCommit (state S.Store tx.old.conn.now) (state S.Store tx.new.conn.now) }
+    ensures survives { Survives (state S.Store tx.old.conn.now)
+        (state S.Store tx.new.conn.now) (λ _. ⊥) }
 {
     run(
         tx,
@@ -73,12 +85,16 @@ fn make_aim<S: Alter>(tx: &mut Transaction<'_, S>) -> Result<usize, Error>
 // Makes the table of shown rows, after that of the target.
 fn make_shown<S: Alter>(tx: &mut Transaction<'_, S>) -> Result<usize, Error>
     ensures same_reference { tx.new.conn.ghost_name ≡ tx.old.conn.ghost_name }
-    ensures made { HasCleanDisk (state S.Store tx.new.conn.now) → IsMade aim_schema (state S.Store tx.old.conn.now)
+    ensures made { HasCleanDisk (state S.Store tx.new.conn.now)
+        → IsMade aim_schema (state S.Store tx.old.conn.now)
         → OnOk result (IsMade client_schema (state S.Store tx.new.conn.now)) }
-    ensures rows { HasCleanDisk (state S.Store tx.new.conn.now) → IsMade aim_schema (state S.Store tx.old.conn.now)
+    ensures rows { HasCleanDisk (state S.Store tx.new.conn.now)
+        → IsMade aim_schema (state S.Store tx.old.conn.now)
         → OnOk result (tables_of (state S.Store tx.new.conn.now) ≡ no_rows) }
-    ensures kept { HasCleanDisk (state S.Store tx.new.conn.now) → KeepsCommit (state S.Store tx.old.conn.now) (state S.Store tx.new.conn.now) }
-    ensures survives { Survives (state S.Store tx.old.conn.now) (state S.Store tx.new.conn.now) (λ _. ⊥) }
+    ensures kept { HasCleanDisk (state S.Store tx.new.conn.now)
+        → KeepsCommit (state S.Store tx.old.conn.now) (state S.Store tx.new.conn.now) }
+    ensures survives { Survives (state S.Store tx.old.conn.now)
+        (state S.Store tx.new.conn.now) (λ _. ⊥) }
 {
     run(
         tx,
@@ -90,11 +106,14 @@ fn make_shown<S: Alter>(tx: &mut Transaction<'_, S>) -> Result<usize, Error>
 // Makes the five tables, one after another.
 fn make_each<S: Alter>(tx: &mut Transaction<'_, S>) -> Result<usize, Error>
     ensures same_reference { tx.new.conn.ghost_name ≡ tx.old.conn.ghost_name }
-    ensures made { HasCleanDisk (state S.Store tx.new.conn.now) → IsMade no_schema (state S.Store tx.old.conn.now)
+    ensures made { HasCleanDisk (state S.Store tx.new.conn.now)
+        → IsMade no_schema (state S.Store tx.old.conn.now)
         → OnOk result (IsMade client_schema (state S.Store tx.new.conn.now)) }
-    ensures rows { HasCleanDisk (state S.Store tx.new.conn.now) → IsMade no_schema (state S.Store tx.old.conn.now)
+    ensures rows { HasCleanDisk (state S.Store tx.new.conn.now)
+        → IsMade no_schema (state S.Store tx.old.conn.now)
         → OnOk result (tables_of (state S.Store tx.new.conn.now) ≡ no_rows) }
-    ensures clean { HasCleanDisk (state S.Store tx.new.conn.now) → HasCleanDisk (state S.Store tx.old.conn.now) }
+    ensures clean { HasCleanDisk (state S.Store tx.new.conn.now)
+        → HasCleanDisk (state S.Store tx.old.conn.now) }
 {
     make_buckets(tx)?;
     make_entries(tx)?;
@@ -107,7 +126,8 @@ fn make_each<S: Alter>(tx: &mut Transaction<'_, S>) -> Result<usize, Error>
 pub fn make_tables<S: Alter>(conn: &mut Connection<S>) -> Result<(), Error>
     requires outside { (state S.Store conn.old).in_transaction ≡ false }
     ensures outside { (state S.Store conn.new).in_transaction ≡ false }
-    ensures made { HasCleanDisk (state S.Store conn.new) → (state S.Store conn.old).now.schema ≡ no_schema
+    ensures made { HasCleanDisk (state S.Store conn.new)
+        → (state S.Store conn.old).now.schema ≡ no_schema
         → OnOk result (IsFresh (state S.Store conn.new)) }
     ensures clean { HasCleanDisk (state S.Store conn.new) → HasCleanDisk (state S.Store conn.old) }
 {

@@ -17,11 +17,17 @@ pub fn open_anew<S: Alter + Drop>(
     connection: Connection<S>,
 ) -> Result<Connection<S>, Error>
     ensures fresh { IfOk result IsNew }
-    ensures opens { IfOk result (λ anew. HasCleanDisk (state S.Store anew) → Opens (state S.Store anew)) }
-    ensures live { IfOk result (λ anew. HasCleanDisk (state S.Store anew) → IsLive (state S.Store anew)) }
-    ensures rows { IfOk result (λ anew. HasCleanDisk (state S.Store anew) → (state S.Store anew).now.trees ≡ (state S.Store connection).committed.trees) }
-    ensures clean { IfOk result (λ anew. HasCleanDisk (state S.Store anew) → HasCleanDisk (state S.Store connection)) }
-    ensures ordered { IfOk result (λ anew. HasCleanDisk (state S.Store anew) → (state S.Store anew).now.schema ≡ client_schema → AreTables (tables_of (state S.Store anew))) }
+    ensures opens { IfOk result (λ anew.
+        HasCleanDisk (state S.Store anew) → Opens (state S.Store anew)) }
+    ensures live { IfOk result (λ anew.
+        HasCleanDisk (state S.Store anew) → IsLive (state S.Store anew)) }
+    ensures rows { IfOk result (λ anew. HasCleanDisk (state S.Store anew)
+        → (state S.Store anew).now.trees ≡ (state S.Store connection).committed.trees) }
+    ensures clean { IfOk result (λ anew.
+        HasCleanDisk (state S.Store anew) → HasCleanDisk (state S.Store connection)) }
+    ensures ordered { IfOk result (λ anew. HasCleanDisk (state S.Store anew)
+        → (state S.Store anew).now.schema ≡ client_schema
+        → AreTables (tables_of (state S.Store anew))) }
 {
     let store = connection.into_store();
     if store.is_broken() {

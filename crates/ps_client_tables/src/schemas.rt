@@ -35,7 +35,8 @@ fn has_no_terms(alloc: Global, terms: &Terms) -> Result<bool, AllocError>
 }
 
 fn has_no_stamps(alloc: Global, stamps: &Stamps) -> Result<bool, AllocError>
-    ensures { IfOk result (λ none. IsTrue none → stamps.now ≡ record { places = []; terms = []; formats = [] }) }
+    ensures { IfOk result (λ none.
+        IsTrue none → stamps.now ≡ record { places = []; terms = []; formats = [] }) }
 {
     let none = has_no_terms(alloc, &stamps.terms)?;
     Ok(none && stamps.places.is_empty() && stamps.formats.is_empty())
@@ -86,7 +87,8 @@ fn are_unique(uniques: &[Items<usize>], orders: &[Order], key: &[usize]) -> bool
 
 // Whether a table has its rowid for its first column.
 fn is_numbered(alloc: Global, table: &Table, name: &[u8], tree: u32) -> Result<bool, AllocError>
-    ensures { IfOk result (λ same. IsTrue same → table.now ≡ numbered_table name.now tree table.now.columns) }
+    ensures { IfOk result (λ same.
+        IsTrue same → table.now ≡ numbered_table name.now tree table.now.columns) }
 {
     if !is_plain(alloc, table)? {
         return Ok(false);
@@ -108,7 +110,8 @@ fn is_keyed(
     tree: u32,
     key: &[usize],
 ) -> Result<bool, AllocError>
-    ensures { IfOk result (λ same. IsTrue same → table.now ≡ keyed_table name.now tree key.now table.now.columns) }
+    ensures { IfOk result (λ same.
+        IsTrue same → table.now ≡ keyed_table name.now tree key.now table.now.columns) }
 {
     if !is_plain(alloc, table)? {
         return Ok(false);

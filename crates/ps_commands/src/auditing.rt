@@ -158,7 +158,11 @@ pub fn audit_files<'a, F: Files>(
     stream: &'a Text,
     files: &mut F,
 ) -> Result<Verdict, Fault<'a>>
-    ensures finds { (words : List (List ℕ)) → command_of words ≡ Some (audit_command (record { rules = rules.now; changes = changes.now; claims = claims.now; stream = stream.now }))
+    ensures finds { (words : List (List ℕ))
+        → command_of words
+        ≡ Some (audit_command
+        (record { rules = rules.now; changes = changes.now; claims
+        = claims.now; stream = stream.now }))
         → FindsVerdict (F.held files.old) (F.faults files.old) (F.faults files.new) words result }
     ensures missed { MissesNamed (F.missed files.old) (F.missed files.new) result }
 {

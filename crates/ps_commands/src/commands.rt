@@ -89,7 +89,8 @@ fn of_two<'a>(word: &Text, second: &'a Text) -> Option<Command<'a>>
 
 // The command of three words.
 fn of_three<'a>(word: &Text, second: &'a Text, third: &'a Text) -> Option<Command<'a>>
-    ensures command { option_map named result ≡ command_of (word.now ∷ second.now ∷ third.now ∷ []) }
+    ensures command { option_map named result
+        ≡ command_of (word.now ∷ second.now ∷ third.now ∷ []) }
     ensures made { IfSome result IsMade }
 {
     match (word.as_str(), third.as_str()) {
@@ -112,7 +113,8 @@ fn of_four<'a>(
     third: &'a Text,
     fourth: &'a Text,
 ) -> Option<Command<'a>>
-    ensures command { option_map named result ≡ command_of (word.now ∷ second.now ∷ third.now ∷ fourth.now ∷ []) }
+    ensures command { option_map named result
+        ≡ command_of (word.now ∷ second.now ∷ third.now ∷ fourth.now ∷ []) }
     ensures made { IfSome result IsMade }
 {
     match word.as_str() {
@@ -151,7 +153,8 @@ fn of_five<'a>(
     fourth: &'a Text,
     fifth: &'a Text,
 ) -> Option<Command<'a>>
-    ensures command { option_map named result ≡ command_of (word.now ∷ second.now ∷ third.now ∷ fourth.now ∷ fifth.now ∷ []) }
+    ensures command { option_map named result
+        ≡ command_of (word.now ∷ second.now ∷ third.now ∷ fourth.now ∷ fifth.now ∷ []) }
     ensures made { IfSome result IsMade }
 {
     match word.as_str() {

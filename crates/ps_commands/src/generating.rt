@@ -28,8 +28,10 @@ fn made_asker(alloc: Global) -> Result<Asker, Memory>
 
 // The number of rows that a new client shows after one stream of the asker, who has one bucket at most.
 fn count_rows(alloc: Global, store: &Store) -> Result<usize, Memory>
-    requires { (transactions : List TransactionData) × HasCommitted made_rule_set transactions store.now }
-    ensures { (transactions : List TransactionData) → HasCommitted made_rule_set transactions store.now
+    requires { (transactions : List TransactionData)
+        × HasCommitted made_rule_set transactions store.now }
+    ensures { (transactions : List TransactionData)
+        → HasCommitted made_rule_set transactions store.now
         → IfOk result (λ count. count ≡ length (made_rows transactions)) }
 {
     ledgers_tell_ops();
@@ -72,7 +74,8 @@ fn print_line(
     before: u128,
     after: u128,
 ) -> Result<Vec<u8>, Memory>
-    ensures { IfOk result (λ text. text.items ≡ totals_text totals.now ++ rest_text rows before after) }
+    ensures { IfOk result (λ text.
+        text.items ≡ totals_text totals.now ++ rest_text rows before after) }
 {
     let Totals {
         transactions,
@@ -91,8 +94,10 @@ fn print_line(
 
 // The summary of a store that made transactions were written into. Each of its buckets is compacted.
 fn summarize_store(alloc: Global, store: &mut Store) -> Result<Vec<u8>, Memory>
-    requires { (transactions : List TransactionData) × HasCommitted made_rule_set transactions store.old }
-    ensures { (transactions : List TransactionData) → HasCommitted made_rule_set transactions store.old
+    requires { (transactions : List TransactionData)
+        × HasCommitted made_rule_set transactions store.old }
+    ensures { (transactions : List TransactionData)
+        → HasCommitted made_rule_set transactions store.old
         → IfOk result (λ text. text.items ≡ made_summary transactions) }
 {
     let totals = store.totals();

@@ -46,7 +46,11 @@ fn rows<'a, F: Files>(
     claims: &'a Text,
     files: &mut F,
 ) -> Result<Vec<u8>, Fault<'a>>
-    ensures finds { (words : List (List ℕ)) → command_of words ≡ Some (rows_command (record { feeding = feeding; rules = rules.now; changes = changes.now; claims = claims.now }))
+    ensures finds { (words : List (List ℕ))
+        → command_of words
+        ≡ Some (rows_command
+        (record { feeding = feeding; rules = rules.now; changes
+        = changes.now; claims = claims.now }))
         → Finds (F.held files.old) (F.faults files.old) (F.faults files.new) words result }
     ensures missed { MissesNamed (F.missed files.old) (F.missed files.new) result }
 {
@@ -62,7 +66,9 @@ fn compact<'a, F: Files>(
     changes: &'a Text,
     files: &mut F,
 ) -> Result<Vec<u8>, Fault<'a>>
-    ensures finds { (words : List (List ℕ)) → command_of words ≡ Some (compact_command (record { rules = rules.now; changes = changes.now }))
+    ensures finds { (words : List (List ℕ))
+        → command_of words
+        ≡ Some (compact_command (record { rules = rules.now; changes = changes.now }))
         → Finds (F.held files.old) (F.faults files.old) (F.faults files.new) words result }
     ensures missed { MissesNamed (F.missed files.old) (F.missed files.new) result }
 {
@@ -78,7 +84,9 @@ fn token<'a, F: Files>(
     claims: &'a Text,
     files: &mut F,
 ) -> Result<Vec<u8>, Fault<'a>>
-    ensures finds { (words : List (List ℕ)) → command_of words ≡ Some (token_command (record { keys = keys.now; kid = kid.now; claims = claims.now }))
+    ensures finds { (words : List (List ℕ))
+        → command_of words
+        ≡ Some (token_command (record { keys = keys.now; kid = kid.now; claims = claims.now }))
         → Finds (F.held files.old) (F.faults files.old) (F.faults files.new) words result }
     ensures missed { MissesNamed (F.missed files.old) (F.missed files.new) result }
 {
@@ -94,7 +102,8 @@ fn token<'a, F: Files>(
 // The summary of made changes.
 fn generate<'a>(alloc: Global, count: u32) -> Result<Vec<u8>, Fault<'a>>
     requires { count ≤ made_limit }
-    ensures finds { (held : Option Contents) (before now : ℕ) (words : List (List ℕ)) → command_of words ≡ Some (generate_command count)
+    ensures finds { (held : Option Contents) (before now : ℕ) (words : List (List ℕ))
+        → command_of words ≡ Some (generate_command count)
         → Finds held before now words result }
     ensures missed { (names : Option (List (List ℕ))) → MissesNamed names names result }
 {
@@ -104,7 +113,8 @@ fn generate<'a>(alloc: Global, count: u32) -> Result<Vec<u8>, Fault<'a>>
 // Made change lines.
 fn generate_lines<'a>(alloc: Global, count: u32) -> Result<Vec<u8>, Fault<'a>>
     requires { count ≤ made_limit }
-    ensures finds { (held : Option Contents) (before now : ℕ) (words : List (List ℕ)) → command_of words ≡ Some (generate_lines_command count)
+    ensures finds { (held : Option Contents) (before now : ℕ) (words : List (List ℕ))
+        → command_of words ≡ Some (generate_lines_command count)
         → Finds held before now words result }
     ensures missed { (names : Option (List (List ℕ))) → MissesNamed names names result }
 {
@@ -113,7 +123,8 @@ fn generate_lines<'a>(alloc: Global, count: u32) -> Result<Vec<u8>, Fault<'a>>
 
 // Prints what a command found, all at once.
 fn print<'a, K: Sink>(found: Result<Vec<u8>, Fault<'a>>, out: &mut K) -> Result<Ending, Fault<'a>>
-    ensures outcome { (held : Option Contents) (before now : ℕ) (words : List (List ℕ)) → Finds held before now words found.entry → Ends (record {
+    ensures outcome { (held : Option Contents) (before now : ℕ) (words : List (List ℕ))
+        → Finds held before now words found.entry → Ends (record {
       held = held;
       read_before = before;
       read_now = now;
@@ -147,7 +158,8 @@ fn pronounce<'a, K: Sink>(
     found: Result<Verdict, Fault<'a>>,
     out: &mut K,
 ) -> Result<Ending, Fault<'a>>
-    ensures outcome { (held : Option Contents) (before now : ℕ) (words : List (List ℕ)) → FindsVerdict held before now words found.entry → Ends (record {
+    ensures outcome { (held : Option Contents) (before now : ℕ) (words : List (List ℕ))
+        → FindsVerdict held before now words found.entry → Ends (record {
       held = held;
       read_before = before;
       read_now = now;
@@ -169,7 +181,8 @@ fn pronounce<'a, K: Sink>(
 
 // What a script ends with, which prints as it goes.
 fn done<'a>(outcome: Result<(), Fault<'a>>) -> Result<Ending, Fault<'a>>
-    ensures outcome { (o : Outside) (words : List (List ℕ)) → Outcome o words outcome.entry → Ends o words result }
+    ensures outcome { (o : Outside) (words : List (List ℕ))
+        → Outcome o words outcome.entry → Ends o words result }
     ensures missed { (before after : Option (List (List ℕ)))
         → MissesNamed before after outcome.entry → MissesNamed before after result }
 {
@@ -248,20 +261,26 @@ pub fn run_plain<F: Files, K: Sink, E: Sink>(
     err: &mut E,
 ) -> u8
     // Status 0: exactly what the command means was printed, and nothing was said.
-    ensures done { result ≡ 0 → Prints (F.held files.old) words.now (K.taken out.old) (K.taken out.new) }
+    ensures done { result ≡ 0 → Prints (F.held files.old) words.now
+        (K.taken out.old) (K.taken out.new) }
     // Status 15: the files of `audit` are read, the verdict is No, and exactly what is printed of it was printed.
-    ensures altered { result ≡ 15 → PrintsNo (F.held files.old) words.now (K.taken out.old) (K.taken out.new) }
+    ensures altered { result ≡ 15 → PrintsNo (F.held files.old) words.now
+        (K.taken out.old) (K.taken out.new) }
     ensures quiet { (result ≡ 0) ⊎ (result ≡ 15) → E.taken err.new ≡ E.taken err.old }
 
     // Statuses 1 to 9, each by its cause.
     ensures usage { (result ≡ 1) ↔ (command_of words.now ≡ None) }
-    ensures rules { result ≡ 2 → (which : RulesFileData) × (line column : ℕ) × (why : RulesCauseData)
+    ensures rules { result ≡ 2 → (which : RulesFileData) × (line column : ℕ)
+        × (why : RulesCauseData)
         × Refuses (F.held files.old) words.now (Fault.Rules which line column why) }
-    ensures changes { result ≡ 3 → (line : ℕ) × (why : LineFaultData) × Refuses (F.held files.old) words.now (Fault.Change line why) }
-    ensures claims { result ≡ 4 → Refuses (F.held files.old) words.now Fault.Keys ⊎ Refuses (F.held files.old) words.now Fault.Claims }
+    ensures changes { result ≡ 3 → (line : ℕ) × (why : LineFaultData)
+        × Refuses (F.held files.old) words.now (Fault.Change line why) }
+    ensures claims { result ≡ 4 → Refuses (F.held files.old) words.now Fault.Keys
+        ⊎ Refuses (F.held files.old) words.now Fault.Claims }
     ensures limits { result ≡ 5 → ExceedsLimit (F.held files.old) words.now }
     ensures unread { result ≡ 6 → Rose (F.faults files.old) (F.faults files.new)
-        × (name : List ℕ) × IsNext (F.held files.old) words.now name × Joins (F.missed files.old) (F.missed files.new) name }
+        × (name : List ℕ) × IsNext (F.held files.old) words.now name
+        × Joins (F.missed files.old) (F.missed files.new) name }
     ensures missed { result ≢ 6 → F.missed files.new ≡ F.missed files.old }
     ensures unwritten { result ≡ 7 → Rose (K.faults out.old) (K.faults out.new)
         × PrintsFront (F.held files.old) words.now (K.taken out.old) (K.taken out.new) }
@@ -272,12 +291,15 @@ pub fn run_plain<F: Files, K: Sink, E: Sink>(
     // Nothing is printed unless all went well, but for a verdict No and for the front that a failed write leaves. `replay` prints as it goes: what it printed
     // before a refused line, or before it was out of memory, are the texts of the lines before. A first file that is too long is refused
     // before memory can be wanting.
-    ensures kept { result ≢ 0 → result ≢ 7 → result ≢ 8 → result ≢ 9 → result ≢ 15 → K.taken out.new ≡ K.taken out.old }
+    ensures kept { result ≢ 0 → result ≢ 7 → result ≢ 8 → result ≢ 9 → result ≢ 15
+        → K.taken out.new ≡ K.taken out.old }
     ensures first { result ≡ 8 → BeginsWithin (F.held files.old) words.now }
-    ensures early { result ≡ 8 → (K.taken out.new ≡ K.taken out.old) ⊎ PrintsSome (F.held files.old) words.now (K.taken out.old) (K.taken out.new) }
+    ensures early { result ≡ 8 → (K.taken out.new ≡ K.taken out.old)
+        ⊎ PrintsSome (F.held files.old) words.now (K.taken out.old) (K.taken out.new) }
 
     // What is said is the line of a fault that has its cause and that status. It names the file that could not be read.
-    ensures said { result ≢ 0 → result ≢ 15 → SaysCause (F.missed files.old) (F.missed files.new) (record {
+    ensures said { result ≢ 0 → result ≢ 15
+        → SaysCause (F.missed files.old) (F.missed files.new) (record {
       held = F.held files.old;
       read_before = F.faults files.old;
       read_now = F.faults files.new;
@@ -286,11 +308,13 @@ pub fn run_plain<F: Files, K: Sink, E: Sink>(
       write_before = K.faults out.old;
       write_now = K.faults out.new;
     })
-        (record { old = E.taken err.old; new = E.taken err.new; before = E.faults err.old; now = E.faults err.new }) words.now result }
+        (record { old = E.taken err.old; new = E.taken err.new; before = E.faults err.old; now
+        = E.faults err.new }) words.now result }
 
     // Where files tell what they hold, or none is read, and no count rose, status and output are those that the words and files mean, or
     // it was out of memory.
-    ensures exact { ¬ (Rose (F.faults files.old) (F.faults files.new)) → ¬ (Rose (K.faults out.old) (K.faults out.new))
+    ensures exact { ¬ (Rose (F.faults files.old) (F.faults files.new))
+        → ¬ (Rose (K.faults out.old) (K.faults out.new))
         → IsExact (F.held files.old) words.now (K.taken out.old) (K.taken out.new) result }
 {
     match command(alloc, words, files, out) {

@@ -20,8 +20,10 @@ use std::alloc::Global;
 
 // The effect of a line's event, which comes.
 fn line_effect(alloc: Global, world: &mut World, line: &[u8]) -> Result<Effect, ScriptFault>
-    requires { (fixed : FixedSeen) × (play : Play) × WorldStandsFor fixed world.old play × AreLed fixed play }
-    ensures { (fixed : FixedSeen) (play : Play) → WorldStandsFor fixed world.old play → StepsLine fixed play line.now world.new result }
+    requires { (fixed : FixedSeen) × (play : Play)
+        × WorldStandsFor fixed world.old play × AreLed fixed play }
+    ensures { (fixed : FixedSeen) (play : Play) → WorldStandsFor fixed world.old play
+        → StepsLine fixed play line.now world.new result }
 {
     let event = read_event(alloc, line)?;
     let stepped = world.step(alloc, &event);
@@ -31,8 +33,10 @@ fn line_effect(alloc: Global, world: &mut World, line: &[u8]) -> Result<Effect, 
 
 // The text of that effect.
 fn line_text(alloc: Global, world: &mut World, line: &[u8]) -> Result<Vec<u8>, ScriptFault>
-    requires { (fixed : FixedSeen) × (play : Play) × WorldStandsFor fixed world.old play × AreLed fixed play }
-    ensures { (fixed : FixedSeen) (play : Play) → WorldStandsFor fixed world.old play → AreLed fixed play
+    requires { (fixed : FixedSeen) × (play : Play)
+        × WorldStandsFor fixed world.old play × AreLed fixed play }
+    ensures { (fixed : FixedSeen) (play : Play)
+        → WorldStandsFor fixed world.old play → AreLed fixed play
         → SpellsLine fixed play line.now world.new (items_of result) }
 {
     let effect = line_effect(alloc, world, line)?;
@@ -61,9 +65,11 @@ fn play_line<K: Sink>(
     number: u64,
     out: &mut K,
 ) -> Result<(), ReplayFault>
-    requires { (fixed : FixedSeen) × (play : Play) × WorldStandsFor fixed world.old play × AreLed fixed play }
+    requires { (fixed : FixedSeen) × (play : Play)
+        × WorldStandsFor fixed world.old play × AreLed fixed play }
     ensures faults { K.faults out.old ≤ K.faults out.new }
-    ensures prints { (fixed : FixedSeen) (play : Play) → WorldStandsFor fixed world.old play → AreLed fixed play
+    ensures prints { (fixed : FixedSeen) (play : Play)
+        → WorldStandsFor fixed world.old play → AreLed fixed play
         → PrintsLine fixed play line.now number world.new (record {
           old = K.taken out.old;
           new = K.taken out.new;
@@ -97,7 +103,8 @@ pub fn replay<K: Sink>(
 ) -> Result<(), ReplayFault>
     requires low { AreLow transactions.items }
     requires length { length script.now < 2 ^ 63 }
-    ensures { Replays (record { rules = rules; limits = usual_limits }) (first_play transactions.items next) script.now (record {
+    ensures { Replays (record { rules = rules; limits = usual_limits })
+        (first_play transactions.items next) script.now (record {
       old = K.taken out.old;
       new = K.taken out.new;
       before = K.faults out.old;
@@ -117,8 +124,10 @@ fn play_lines<K: Sink>(
     out: &mut K,
 ) -> Result<(), ReplayFault>
     requires length { length script.now < 2 ^ 63 }
-    requires world { (fixed : FixedSeen) × (play : Play) × WorldStandsFor fixed world.old play × AreLed fixed play }
-    ensures { (fixed : FixedSeen) (play : Play) → WorldStandsFor fixed world.old play → AreLed fixed play
+    requires world { (fixed : FixedSeen) × (play : Play)
+        × WorldStandsFor fixed world.old play × AreLed fixed play }
+    ensures { (fixed : FixedSeen) (play : Play)
+        → WorldStandsFor fixed world.old play → AreLed fixed play
         → Replays fixed play script.now (record {
           old = K.taken out.old;
           new = K.taken out.new;

@@ -49,7 +49,8 @@ fn play<'a, K: Sink>(
 ) -> Result<(), Fault<'a>>
     requires low { AreLow transactions.items }
     requires length { length script.now < 2 ^ 63 }
-    ensures { PlaysOut (record { rules = rules; next = next; transactions = transactions.items; script = script.now }) (record {
+    ensures { PlaysOut (record { rules = rules; next = next; transactions
+        = transactions.items; script = script.now }) (record {
       old = K.taken out.old;
       new = K.taken out.new;
       before = K.faults out.old;
@@ -70,7 +71,8 @@ fn load_next_if<'a, F: Files>(
     files: &mut F,
     name: Option<&'a Text>,
 ) -> Result<Option<Rules>, Fault<'a>>
-    ensures loads { LoadsNext (F.held files.old) name.entry (F.faults files.old) (F.faults files.new) result }
+    ensures loads { LoadsNext (F.held files.old) name.entry (F.faults files.old)
+        (F.faults files.new) result }
     ensures missed { MissesNamed (F.missed files.old) (F.missed files.new) result }
     ensures held { F.held files.new ≡ F.held files.old }
     ensures faults { F.faults files.old ≤ F.faults files.new }
@@ -95,7 +97,11 @@ pub fn replay_files<'a, F: Files, K: Sink>(
     files: &mut F,
     out: &mut K,
 ) -> Result<(), Fault<'a>>
-    ensures outcome { (words : List (List ℕ)) → command_of words ≡ Some (replay_command (record { rules = rules.now; next = name_of next.entry; changes = changes.now; script = script.now })) → Outcome (record {
+    ensures outcome { (words : List (List ℕ))
+        → command_of words
+        ≡ Some (replay_command
+        (record { rules = rules.now; next = name_of next.entry; changes = changes.now; script
+        = script.now })) → Outcome (record {
       held = F.held files.old;
       read_before = F.faults files.old;
       read_now = F.faults files.new;

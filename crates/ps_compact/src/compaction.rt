@@ -21,7 +21,8 @@ struct Front {
 // Compacts the front of a log.
 fn compact_front(alloc: Global, front: Vec<Op>) -> Result<Front, Memory>
     ensures ops { IfOk result (λ done. done.ops.items ≡ with_clear_of (moved_of front.items)) }
-    ensures moved { IfOk result (λ done. done.moved ≡ length (filter is_some (targets_of front.items))) }
+    ensures moved { IfOk result (λ done.
+        done.moved ≡ length (filter is_some (targets_of front.items))) }
     ensures cleared { IfOk result (λ done. done.cleared ≡ cleared_count (moved_of front.items)) }
 {
     let targets = targets(alloc, front.as_slice())?;

@@ -39,7 +39,8 @@ pub(crate) fn close_all<
 ) -> bool
     requires seat { IsSeatOf service.now.lock.now seat.old }
     requires opened { vec_len workers ≤ D.opened doors.old }
-    requires workers { AreWorkersOf S.Source K.Sink C.Clock service.now.lock.now service.now.site.now service.now.clock.now (seen_by seat.old)
+    requires workers { AreWorkersOf S.Source K.Sink C.Clock service.now.lock.now
+        service.now.site.now service.now.clock.now (seen_by seat.old)
         (D.closed doors.old) (D.opened doors.old - vec_len workers) workers.items }
     ensures lock { IsSeatOf service.now.lock.now seat.new }
     ensures saw { IsPrefix (seen_by seat.old) (seen_by seat.new) }
@@ -47,9 +48,11 @@ pub(crate) fn close_all<
     ensures opened { D.opened doors.new ≡ D.opened doors.old }
     ensures coming { D.coming doors.new ≡ D.coming doors.old }
     ensures faults { D.faults doors.new ≡ D.faults doors.old }
-    ensures served { HaveServed (StaysAnswered (fixed_of service.now.lock.now) service.now.site.now (C.may_give service.now.clock.now)
+    ensures served { HaveServed (StaysAnswered (fixed_of service.now.lock.now) service.now.site.now
+        (C.may_give service.now.clock.now)
         (length (seen_by seat.old)) (seen_by seat.new))
-        (D.opened doors.old - vec_len workers) (D.closed doors.old) (D.closed doors.new) (vec_len workers) result
+        (D.opened doors.old - vec_len workers) (D.closed doors.old) (D.closed doors.new)
+        (vec_len workers) result
         (own_entries_of seat.old) (own_entries_of seat.new) }
 {
     let mut short = false;

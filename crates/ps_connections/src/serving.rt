@@ -44,9 +44,11 @@ fn take_all<
     ensures own { own_entries_of result.0 ≡ own_entries_of seat }
     ensures place { D.place result.1 ≡ D.place doors }
     ensures closed { D.closed result.1 ≡ D.closed doors }
-    ensures taken { HasTaken most (D.opened doors) (D.opened result.1) (D.coming doors) (D.coming result.1)
+    ensures taken { HasTaken most (D.opened doors) (D.opened result.1)
+        (D.coming doors) (D.coming result.1)
         (D.faults doors) (D.faults result.1) result.2.1 (vec_len result.2.0) }
-    ensures workers { AreWorkersOf S.Source K.Sink C.Clock service.now.lock.now service.now.site.now service.now.clock.now (seen_by seat)
+    ensures workers { AreWorkersOf S.Source K.Sink C.Clock service.now.lock.now
+        service.now.site.now service.now.clock.now (seen_by seat)
         (D.closed doors) (D.opened doors) result.2.0.items }
 {
     let exits = Mutex::new(Vec::new(service.alloc));
@@ -61,9 +63,11 @@ fn take_all<
             ensures own { own_entries_of result.0 ≡ own_entries_of seat }
             ensures place { D.place result.1 ≡ D.place doors }
             ensures closed { D.closed result.1 ≡ D.closed doors }
-            ensures taken { HasTaken most (D.opened doors) (D.opened result.1) (D.coming doors) (D.coming result.1)
+            ensures taken { HasTaken most (D.opened doors) (D.opened result.1)
+                (D.coming doors) (D.coming result.1)
                 (D.faults doors) (D.faults result.1) result.2.1 (vec_len result.2.0) }
-            ensures workers { AreWorkersOf S.Source K.Sink C.Clock service.entry.now.lock.now service.entry.now.site.now service.entry.now.clock.now
+            ensures workers { AreWorkersOf S.Source K.Sink C.Clock service.entry.now.lock.now
+                service.entry.now.site.now service.entry.now.clock.now
                 (seen_by seat) (D.closed doors) (D.opened doors) result.2.0.items }
         {
             let mut seat = seat;
@@ -96,12 +100,17 @@ pub fn serve_connections<
     ensures lock { IsSeatOf service.now.lock.now result.0 }
     ensures saw { IsPrefix (seen_by seat) (seen_by result.0) }
     ensures place { D.place result.1 ≡ D.place doors }
-    ensures taken { HasTaken most (D.opened doors) (D.opened result.1) (D.coming doors) (D.coming result.1)
+    ensures taken { HasTaken most (D.opened doors) (D.opened result.1)
+        (D.coming doors) (D.coming result.1)
         (D.faults doors) (D.faults result.1) result.2.stop result.2.connections }
     // In each legal history that goes on from what the seat has then seen, as the last one does.
-    ensures served { (history : List Event) → IsPrefix (seen_by result.0) history → IsValid (fixed_of service.now.lock.now) history
-        → HaveServed (IsAnswered (fixed_of service.now.lock.now) service.now.site.now (C.may_give service.now.clock.now) (length (seen_by seat)) history)
-        (D.opened doors) (D.closed doors) (D.closed result.1) result.2.connections result.2.out_of_memory
+    ensures served { (history : List Event) → IsPrefix (seen_by result.0) history
+        → IsValid (fixed_of service.now.lock.now) history
+        → HaveServed
+        (IsAnswered (fixed_of service.now.lock.now) service.now.site.now
+        (C.may_give service.now.clock.now) (length (seen_by seat)) history)
+        (D.opened doors) (D.closed doors) (D.closed result.1)
+        result.2.connections result.2.out_of_memory
         (own_entries_of seat) (own_entries_of result.0) }
 {
     let (mut seat, mut doors, (workers, stop)) = take_all(service, seat, doors, most);

@@ -36,7 +36,8 @@ pub(crate) fn start<
 ) -> Worker<S, K, C>
     requires lock { IsSeatOf service.now.lock.now seat }
     requires own { own_entries_of seat ≡ [] }
-    ensures { IsAtWork S.Source K.Sink C.Clock service.now.lock.now service.now.site.now service.now.clock.now (seen_by seat) ends.0 ends.1 result }
+    ensures { IsAtWork S.Source K.Sink C.Clock service.now.lock.now service.now.site.now
+        service.now.clock.now (seen_by seat) ends.0 ends.1 result }
 {
     let (from, to) = ends;
     let (exits, place) = exit;
@@ -51,8 +52,10 @@ pub(crate) fn start<
     let job = move || -> Done<S, K>
         requires { IsSeatOf service.now.lock.now seat }
         ensures lock { IsSeatOf service.entry.now.lock.now result.seat }
-        ensures answered { HasAnswered S.Source K.Sink (fixed_of service.entry.now.lock.now) service.entry.now.site.now
-            (C.may_give service.entry.now.clock.now) (seen_by seat) (seen_by result.seat) (own_entries_of seat) (own_entries_of result.seat) from to
+        ensures answered { HasAnswered S.Source K.Sink (fixed_of service.entry.now.lock.now)
+            service.entry.now.site.now
+            (C.may_give service.entry.now.clock.now) (seen_by seat) (seen_by result.seat)
+            (own_entries_of seat) (own_entries_of result.seat) from to
             result.from result.to result.end }
     {
         let done = work(service, seat, from, to);

@@ -79,9 +79,11 @@ pub(crate) fn take_connections<
     ensures own { own_entries_of seat.new ≡ own_entries_of seat.old }
     ensures place { D.place doors.new ≡ D.place doors.old }
     ensures closed { D.closed doors.new ≡ D.closed doors.old }
-    ensures taken { HasTaken most (D.opened doors.old) (D.opened doors.new) (D.coming doors.old) (D.coming doors.new)
+    ensures taken { HasTaken most (D.opened doors.old) (D.opened doors.new)
+        (D.coming doors.old) (D.coming doors.new)
         (D.faults doors.old) (D.faults doors.new) result.1 (vec_len result.0) }
-    ensures workers { AreWorkersOf S.Source K.Sink C.Clock service.now.lock.now service.now.site.now service.now.clock.now (seen_by seat.old)
+    ensures workers { AreWorkersOf S.Source K.Sink C.Clock service.now.lock.now
+        service.now.site.now service.now.clock.now (seen_by seat.old)
         (D.closed doors.old) (D.opened doors.old) result.0.items }
 {
     let mut workers = Vec::new(service.alloc);

@@ -126,8 +126,10 @@ pub(crate) fn work<R: Wait + time::Clock + Hears, S: Source, K: Sink, C: Clock>(
 ) -> Done<S, K>
     requires { IsSeatOf service.now.lock.now seat }
     ensures lock { IsSeatOf service.now.lock.now result.seat }
-    ensures answered { HasAnswered S.Source K.Sink (fixed_of service.now.lock.now) service.now.site.now (C.may_give service.now.clock.now)
-        (seen_by seat) (seen_by result.seat) (own_entries_of seat) (own_entries_of result.seat) from to result.from result.to result.end }
+    ensures answered { HasAnswered S.Source K.Sink (fixed_of service.now.lock.now)
+        service.now.site.now (C.may_give service.now.clock.now)
+        (seen_by seat) (seen_by result.seat) (own_entries_of seat) (own_entries_of result.seat)
+        from to result.from result.to result.end }
 {
     let mut from = from;
     let mut to = to;

@@ -85,7 +85,8 @@ fn altered(line: Line) -> Line
 // The bytes of a line of data, altered.
 fn rewritten(alloc: Global, bytes: &[u8]) -> Result<Vec<u8>, Memory>
     requires { (line : LineSeen) × (line_of bytes.now ≡ Ok line) × (is_data_line line ≡ true) }
-    ensures { IfOk result (λ new. (line : LineSeen) → line_of bytes.now ≡ Ok line → line_of new.items ≡ Ok (without_targets (altered_line line))) }
+    ensures { IfOk result (λ new. (line : LineSeen) → line_of bytes.now ≡ Ok line
+        → line_of new.items ≡ Ok (without_targets (altered_line line))) }
 {
     lines_read_can_be_written();
     match read_line(alloc, bytes) {
@@ -106,7 +107,8 @@ fn place_of_data(waiting: &[Sent]) -> Option<usize>
 // The oldest line of data that waits is altered. Fails with `WrongPhase` where none waits.
 fn alter_oldest(alloc: Global, waiting: &mut [Sent]) -> Result<(), ScriptFault>
     requires { (made : List Made) × AreWaiting waiting.old made }
-    ensures alters { (made : List Made) → AreWaiting waiting.old made → Alters made waiting.old waiting.new result }
+    ensures alters { (made : List Made) → AreWaiting waiting.old made
+        → Alters made waiting.old waiting.new result }
     ensures as_many { length waiting.new ≡ length waiting.old }
 {
     let Some(place) = place_of_data(waiting) else {
@@ -124,8 +126,10 @@ fn alter_oldest(alloc: Global, waiting: &mut [Sent]) -> Result<(), ScriptFault>
 
 // The oldest line of data that waits for the client is altered.
 pub(crate) fn alter(alloc: Global, reader: &mut Reader) -> Result<Effect, ScriptFault>
-    requires { (fixed : FixedSeen) × (play : Play) × (name : List ℕ) × (store : StoreSeen) × IsAt fixed play name store reader.old }
-    ensures { (fixed : FixedSeen) (play : Play) (name : List ℕ) (store : StoreSeen) → IsAt fixed play name store reader.old
+    requires { (fixed : FixedSeen) × (play : Play) × (name : List ℕ) × (store : StoreSeen)
+        × IsAt fixed play name store reader.old }
+    ensures { (fixed : FixedSeen) (play : Play) (name : List ℕ) (store : StoreSeen)
+        → IsAt fixed play name store reader.old
         → Acts fixed play (events.Alter name) name store reader.new result }
 {
     match &mut reader.stream {

@@ -17,8 +17,10 @@ use std::alloc::Global;
 
 // Begins a generation of the next rules.
 pub(crate) fn deploy(alloc: Global, store: &mut Store, next: &Rules) -> Result<Effect, Memory>
-    requires { (fixed : FixedSeen) × (history : List EventSeen) × StoreStandsFor fixed store.old history }
-    ensures { IfOk result (λ effect. (fixed : FixedSeen) (play : Play) → StoreStandsFor fixed store.old play.history → play.next ≡ Some next.now
+    requires { (fixed : FixedSeen) × (history : List EventSeen)
+        × StoreStandsFor fixed store.old history }
+    ensures { IfOk result (λ effect. (fixed : FixedSeen) (play : Play)
+        → StoreStandsFor fixed store.old play.history → play.next ≡ Some next.now
         → CameStill fixed play events.Deploy store.new effect) }
 {
     let rules = next.copy(alloc)?;
@@ -34,8 +36,10 @@ pub(crate) fn deploy(alloc: Global, store: &mut Store, next: &Rules) -> Result<E
 pub(crate) fn build(alloc: Global, store: &mut Store, limit: u32) -> Result<Effect, Memory>
     requires some { 1 ≤ limit }
     requires limit { limit ≤ 1000000 }
-    requires stands { (fixed : FixedSeen) × (history : List EventSeen) × StoreStandsFor fixed store.old history }
-    ensures { IfOk result (λ effect. (fixed : FixedSeen) (play : Play) → StoreStandsFor fixed store.old play.history
+    requires stands { (fixed : FixedSeen) × (history : List EventSeen)
+        × StoreStandsFor fixed store.old history }
+    ensures { IfOk result (λ effect.
+        (fixed : FixedSeen) (play : Play) → StoreStandsFor fixed store.old play.history
         → CameStill fixed play (events.Build limit) store.new effect) }
 {
     match store.build_batch(alloc, limit) {
@@ -50,8 +54,10 @@ pub(crate) fn build(alloc: Global, store: &mut Store, limit: u32) -> Result<Effe
 
 // Brings the generation that is being built into force.
 pub(crate) fn switch(store: &mut Store) -> Effect
-    requires { (fixed : FixedSeen) × (history : List EventSeen) × StoreStandsFor fixed store.old history }
-    ensures { (fixed : FixedSeen) (play : Play) → StoreStandsFor fixed store.old play.history → CameStill fixed play events.Switch store.new result }
+    requires { (fixed : FixedSeen) × (history : List EventSeen)
+        × StoreStandsFor fixed store.old history }
+    ensures { (fixed : FixedSeen) (play : Play) → StoreStandsFor fixed store.old play.history
+        → CameStill fixed play events.Switch store.new result }
 {
     match store.switch() {
         Ok(checkpoint) => Effect::Committed { checkpoint },
@@ -64,8 +70,10 @@ pub(crate) fn switch(store: &mut Store) -> Effect
 
 // Drops the generation that is being built.
 pub(crate) fn abandon(store: &mut Store) -> Effect
-    requires { (fixed : FixedSeen) × (history : List EventSeen) × StoreStandsFor fixed store.old history }
-    ensures { (fixed : FixedSeen) (play : Play) → StoreStandsFor fixed store.old play.history → CameStill fixed play events.Abandon store.new result }
+    requires { (fixed : FixedSeen) × (history : List EventSeen)
+        × StoreStandsFor fixed store.old history }
+    ensures { (fixed : FixedSeen) (play : Play) → StoreStandsFor fixed store.old play.history
+        → CameStill fixed play events.Abandon store.new result }
 {
     match store.abandon() {
         Ok(generation) => Effect::Abandoned { generation },

@@ -20,7 +20,8 @@ use std::collections::VecDeque;
 
 // Why a transaction may not be fed now, behind so many that were.
 fn refusal(store: &Store, count: u64, next: &Transaction) -> Option<Effect>
-    ensures why { (fixed : FixedSeen) (history : List EventSeen) → StoreStandsFor fixed store.now history
+    ensures why { (fixed : FixedSeen) (history : List EventSeen)
+        → StoreStandsFor fixed store.now history
         → feed_refusal (ledger_of fixed.rules history) count next.now ≡ result }
     ensures printable { IfSome result IsPrintable }
 {
@@ -47,9 +48,11 @@ fn feed_next(
     count: u64,
 ) -> Result<Option<Effect>, Memory>
     requires low { AreLow left.old.items }
-    requires stands { (fixed : FixedSeen) × (history : List EventSeen) × StoreStandsFor fixed store.old history }
+    requires stands { (fixed : FixedSeen) × (history : List EventSeen)
+        × StoreStandsFor fixed store.old history }
     ensures low { IfOk result (λ _. AreLow left.new.items) }
-    ensures goes { IfOk result (λ end. (fixed : FixedSeen) (history : List EventSeen) → StoreStandsFor fixed store.old history
+    ensures goes { IfOk result (λ end.
+        (fixed : FixedSeen) (history : List EventSeen) → StoreStandsFor fixed store.old history
         → Goes fixed history count left.old.items store.new left.new.items end) }
 {
     match left.front() {
@@ -82,7 +85,8 @@ pub(crate) fn feed(
     most: u32,
 ) -> Result<Effect, Memory>
     requires { (fixed : FixedSeen) × (play : Play) × IsLeft fixed play store.old left.old.items }
-    ensures { IfOk result (λ effect. (fixed : FixedSeen) (play : Play) → IsLeft fixed play store.old left.old.items
+    ensures { IfOk result (λ effect.
+        (fixed : FixedSeen) (play : Play) → IsLeft fixed play store.old left.old.items
         → FeedsAll fixed play most store.new left.new.items effect) }
 {
     let mut count = 0;

@@ -51,7 +51,8 @@ fn own_id(alloc: Global, asker: &Asker) -> Result<Text, Memory> {
 
 // A client of an asker that holds nothing and has no stream.
 pub(crate) fn begin(alloc: Global, asker: &Asker) -> Result<Reader, Memory>
-    ensures { IfOk result (λ reader. (fixed : FixedSeen) (history : List EventSeen) → ReaderStandsFor fixed history reader (first_reader asker.now)) }
+    ensures { IfOk result (λ reader. (fixed : FixedSeen) (history : List EventSeen)
+        → ReaderStandsFor fixed history reader (first_reader asker.now)) }
 {
     let own = own_id(alloc, asker)?;
     let client = empty(alloc, own);

@@ -15,7 +15,8 @@ use std::alloc::Global;
 
 // Nothing more is fed.
 pub(crate) fn close(store: &mut Store) -> Effect
-    ensures { (fixed : FixedSeen) (play : Play) → StoreStandsFor fixed store.old play.history → CameStill fixed play events.Close store.new result }
+    ensures { (fixed : FixedSeen) (play : Play) → StoreStandsFor fixed store.old play.history
+        → CameStill fixed play events.Close store.new result }
 {
     store.close_feed();
     Effect::Closed
@@ -25,8 +26,10 @@ pub(crate) fn close(store: &mut Store) -> Effect
 pub(crate) fn write(alloc: Global, store: &mut Store, limit: u32) -> Result<Effect, Memory>
     requires some { 1 ≤ limit }
     requires limit { limit ≤ 1000000 }
-    requires stands { (fixed : FixedSeen) × (history : List EventSeen) × StoreStandsFor fixed store.old history }
-    ensures { IfOk result (λ effect. (fixed : FixedSeen) (play : Play) → StoreStandsFor fixed store.old play.history
+    requires stands { (fixed : FixedSeen) × (history : List EventSeen)
+        × StoreStandsFor fixed store.old history }
+    ensures { IfOk result (λ effect.
+        (fixed : FixedSeen) (play : Play) → StoreStandsFor fixed store.old play.history
         → CameStill fixed play (events.Write limit) store.new effect) }
 {
     match store.write_batch(alloc, limit) {
@@ -43,7 +46,8 @@ pub(crate) fn write(alloc: Global, store: &mut Store, limit: u32) -> Result<Effe
 
 // Makes what is reached the checkpoint.
 pub(crate) fn commit(store: &mut Store) -> Effect
-    ensures { (fixed : FixedSeen) (play : Play) → StoreStandsFor fixed store.old play.history → CameStill fixed play events.Commit store.new result }
+    ensures { (fixed : FixedSeen) (play : Play) → StoreStandsFor fixed store.old play.history
+        → CameStill fixed play events.Commit store.new result }
 {
     match store.commit() {
         Ok(checkpoint) => Effect::Committed { checkpoint },
@@ -53,7 +57,8 @@ pub(crate) fn commit(store: &mut Store) -> Effect
 
 // Compacts the log of a bucket.
 pub(crate) fn compact(alloc: Global, store: &mut Store, bucket: &Text) -> Result<Effect, Memory>
-    ensures { IfOk result (λ effect. (fixed : FixedSeen) (play : Play) → StoreStandsFor fixed store.old play.history
+    ensures { IfOk result (λ effect.
+        (fixed : FixedSeen) (play : Play) → StoreStandsFor fixed store.old play.history
         → CameStill fixed play (events.Compact bucket.now) store.new effect) }
 {
     match store.compact(alloc, bucket) {
@@ -65,7 +70,8 @@ pub(crate) fn compact(alloc: Global, store: &mut Store, bucket: &Text) -> Result
 
 // What was fed and written in all.
 pub(crate) fn totals(store: &Store) -> Effect
-    ensures { (fixed : FixedSeen) (play : Play) → StoreStandsFor fixed store.now play.history → CameStill fixed play events.Totals store.now result }
+    ensures { (fixed : FixedSeen) (play : Play) → StoreStandsFor fixed store.now play.history
+        → CameStill fixed play events.Totals store.now result }
 {
     Effect::Totals {
         totals: store.totals(),

@@ -21,7 +21,8 @@ use std::collections::VecDeque;
 
 // A stream of the client's request begins. An older one is cut.
 pub(crate) fn open(alloc: Global, reader: &mut Reader, name: &Text) -> Result<Effect, Memory>
-    ensures { IfOk result (λ effect. (fixed : FixedSeen) (play : Play) (store : StoreSeen) → IsAt fixed play name.now store reader.old
+    ensures { IfOk result (λ effect. (fixed : FixedSeen) (play : Play) (store : StoreSeen)
+        → IsAt fixed play name.now store reader.old
         → CameTo fixed play (events.Open name.now) name.now store reader.new effect) }
 {
     clients_answer_right();
@@ -45,8 +46,10 @@ pub(crate) fn open(alloc: Global, reader: &mut Reader, name: &Text) -> Result<Ef
 
 // The client's session takes a turn. Too many buckets end the stream.
 pub(crate) fn turn(alloc: Global, store: &Store, reader: &mut Reader) -> Result<Effect, ScriptFault>
-    requires { (fixed : FixedSeen) × (play : Play) × (name : List ℕ) × IsAt fixed play name store.now reader.old }
-    ensures { (fixed : FixedSeen) (play : Play) (name : List ℕ) → IsAt fixed play name store.now reader.old
+    requires { (fixed : FixedSeen) × (play : Play) × (name : List ℕ)
+        × IsAt fixed play name store.now reader.old }
+    ensures { (fixed : FixedSeen) (play : Play) (name : List ℕ)
+        → IsAt fixed play name store.now reader.old
         → Acts fixed play (events.Turn name) name store.now reader.new result }
 {
     match &mut reader.stream {
@@ -64,7 +67,8 @@ pub(crate) fn turn(alloc: Global, store: &Store, reader: &mut Reader) -> Result<
 
 // The stream ends, and what waits of it goes.
 pub(crate) fn cut(alloc: Global, reader: &mut Reader, name: &Text) -> Result<Effect, ScriptFault>
-    ensures { (fixed : FixedSeen) (play : Play) (store : StoreSeen) → IsAt fixed play name.now store reader.old
+    ensures { (fixed : FixedSeen) (play : Play) (store : StoreSeen)
+        → IsAt fixed play name.now store reader.old
         → Acts fixed play (events.Cut name.now) name.now store reader.new result }
 {
     match &reader.stream {

@@ -36,7 +36,8 @@ fn numbered(alloc: Global, words: &str, number: u64) -> Result<Vec<u8>, Memory>
 }
 
 fn not_rising(alloc: Global, count: u64, last: Position, given: Position) -> Result<Vec<u8>, Memory>
-    ensures { IfOk result (λ text. text.items ≡ text_of_effect (Effect.FedNotRising count last given)) }
+    ensures { IfOk result (λ text.
+        text.items ≡ text_of_effect (Effect.FedNotRising count last given)) }
 {
     let (last, given) = (last.0, given.0);
     Ok(format!(in alloc; "fed {count} not-rising {last} {given}\n")?.into_bytes())
@@ -77,7 +78,9 @@ fn held(alloc: Global, why: Why) -> Result<Vec<u8>, Memory>
 
 // Prints a bucket of another total behind a space: its name, the client's total and the checkpoint's sum.
 fn push_differing(alloc: Global, out: &mut Vec<u8>, differing: &Differing) -> Result<(), Memory>
-    ensures { OnOk result ((words : List (List ℕ)) → out.new.items ++ after_words words ≡ out.old.items ++ after_words (differing_words differing.now ++ words)) }
+    ensures { OnOk result ((words : List (List ℕ))
+        → out.new.items ++ after_words words
+        ≡ out.old.items ++ after_words (differing_words differing.now ++ words)) }
 {
     let (bucket, own, line) = (differing.bucket.as_str(), differing.own.0, differing.line.0);
     let words = format!(in alloc; " {bucket} {own} {line}")?;

@@ -27,7 +27,8 @@ fn send(alloc: Global, waiting: &mut VecDeque<Sent>, outcome: TurnOutcome) -> Re
     requires { IsWritableOutcome outcome }
     ensures effect { IfOk result (λ effect. effect_of outcome ≡ effect) }
     ensures printable { IfOk result IsPrintable }
-    ensures waiting { IfOk result (λ _. (at : ℕ) (made : List Made) → AreWaiting waiting.old.items made
+    ensures waiting { IfOk result (λ _.
+        (at : ℕ) (made : List Made) → AreWaiting waiting.old.items made
         → AreWaiting waiting.new.items (made ++ made_by at (line_in outcome) None [])) }
 {
     match outcome {
@@ -50,9 +51,11 @@ pub(crate) fn advance(
     store: &Store,
     stream: &mut Stream,
 ) -> Result<Effect, TakeFault>
-    requires { (fixed : FixedSeen) × (play : Play) × (asker : Asker) × (at : ℕ) × (session : SessionState) × (waiting : List Made)
+    requires { (fixed : FixedSeen) × (play : Play) × (asker : Asker) × (at : ℕ)
+        × (session : SessionState) × (waiting : List Made)
         × IsStream fixed play store.now asker stream.old at session waiting }
-    ensures { (fixed : FixedSeen) (play : Play) (asker : Asker) (at : ℕ) (session : SessionState) (waiting : List Made)
+    ensures { (fixed : FixedSeen) (play : Play) (asker : Asker) (at : ℕ)
+        (session : SessionState) (waiting : List Made)
         → IsStream fixed play store.now asker stream.old at session waiting
         → Turns fixed play asker at session waiting stream.new result }
 {

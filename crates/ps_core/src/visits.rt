@@ -50,7 +50,8 @@ pub(crate) fn act(
     asked: Visit<'_>,
 ) -> Result<Effect, ScriptFault>
     requires table { HasTable asked }
-    requires stands { (fixed : FixedSeen) × (play : Play) × IsAt fixed play name.now store.old reader.old }
+    requires stands { (fixed : FixedSeen) × (play : Play)
+        × IsAt fixed play name.now store.old reader.old }
     ensures { (fixed : FixedSeen) (play : Play) → IsAt fixed play name.now store.old reader.old
         → Acts fixed play (event_of name.now asked.entry) name.now store.new reader.new result }
 {

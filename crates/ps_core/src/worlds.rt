@@ -82,7 +82,9 @@ impl World {
         next: Option<Rules>,
     ) -> Result<World, Memory>
         requires { AreLow transactions.items }
-        ensures { IfOk result (λ world. WorldStandsFor (record { rules = rules; limits = usual_limits }) world (first_play transactions.items next)) }
+        ensures { IfOk result (λ world. WorldStandsFor
+            (record { rules = rules; limits = usual_limits }) world
+            (first_play transactions.items next)) }
     {
         let store = Store::new(alloc, rules, Limits::usual())?;
         Ok(World {
@@ -97,7 +99,8 @@ impl World {
     // Feeds the next transactions.
     fn feed(&mut self, alloc: Global, count: u32) -> Result<Effect, ScriptFault>
         requires { (fixed : FixedSeen) × (play : Play) × WorldStandsFor fixed self.old play }
-        ensures { (fixed : FixedSeen) (play : Play) → WorldStandsFor fixed self.old play → Goes fixed play (events.Feed count) self.new result }
+        ensures { (fixed : FixedSeen) (play : Play) → WorldStandsFor fixed self.old play
+            → Goes fixed play (events.Feed count) self.new result }
     {
         places_are_fronts();
         if count < 1 || count > MOST {
@@ -112,7 +115,8 @@ impl World {
     // Writes the next changes.
     fn write(&mut self, alloc: Global, limit: u32) -> Result<Effect, ScriptFault>
         requires { (fixed : FixedSeen) × (play : Play) × WorldStandsFor fixed self.old play }
-        ensures { (fixed : FixedSeen) (play : Play) → WorldStandsFor fixed self.old play → Goes fixed play (events.Write limit) self.new result }
+        ensures { (fixed : FixedSeen) (play : Play) → WorldStandsFor fixed self.old play
+            → Goes fixed play (events.Write limit) self.new result }
     {
         places_are_fronts();
         if limit < 1 || limit > MOST {
@@ -126,7 +130,8 @@ impl World {
 
     // Closes the feed.
     fn close(&mut self) -> Effect
-        ensures { (fixed : FixedSeen) (play : Play) → WorldStandsFor fixed self.old play → Went fixed play events.Close self.new result }
+        ensures { (fixed : FixedSeen) (play : Play) → WorldStandsFor fixed self.old play
+            → Went fixed play events.Close self.new result }
     {
         places_are_fronts();
         close(&mut self.store)
@@ -134,7 +139,8 @@ impl World {
 
     // Commits what is written.
     fn commit(&mut self) -> Effect
-        ensures { (fixed : FixedSeen) (play : Play) → WorldStandsFor fixed self.old play → Went fixed play events.Commit self.new result }
+        ensures { (fixed : FixedSeen) (play : Play) → WorldStandsFor fixed self.old play
+            → Went fixed play events.Commit self.new result }
     {
         places_are_fronts();
         commit(&mut self.store)
@@ -142,7 +148,8 @@ impl World {
 
     // Compacts a bucket.
     fn compact(&mut self, alloc: Global, bucket: &Text) -> Result<Effect, ScriptFault>
-        ensures { (fixed : FixedSeen) (play : Play) → WorldStandsFor fixed self.old play → Goes fixed play (events.Compact bucket.now) self.new result }
+        ensures { (fixed : FixedSeen) (play : Play) → WorldStandsFor fixed self.old play
+            → Goes fixed play (events.Compact bucket.now) self.new result }
     {
         places_are_fronts();
         match compact(alloc, &mut self.store, bucket) {
@@ -153,7 +160,8 @@ impl World {
 
     // A client begins, under a name that no other has.
     fn begin(&mut self, alloc: Global, name: &Text, asker: &Asker) -> Result<Effect, ScriptFault>
-        ensures { (fixed : FixedSeen) (play : Play) → WorldStandsFor fixed self.old play → Goes fixed play (events.Client name.now asker.now) self.new result }
+        ensures { (fixed : FixedSeen) (play : Play) → WorldStandsFor fixed self.old play
+            → Goes fixed play (events.Client name.now asker.now) self.new result }
     {
         places_are_fronts();
         match self.readers.get(name) {
@@ -173,7 +181,8 @@ impl World {
         change: &Change,
     ) -> Result<Effect, ScriptFault>
         requires { (fixed : FixedSeen) × (play : Play) × WorldStandsFor fixed self.old play }
-        ensures { (fixed : FixedSeen) (play : Play) → WorldStandsFor fixed self.old play → Goes fixed play (events.Local name.now change.now) self.new result }
+        ensures { (fixed : FixedSeen) (play : Play) → WorldStandsFor fixed self.old play
+            → Goes fixed play (events.Local name.now change.now) self.new result }
     {
         if change.table.bytes().is_empty() {
             return Err(ScriptFault::BadEvent);
@@ -183,7 +192,8 @@ impl World {
 
     // What was fed and written in all.
     fn totals(&self) -> Effect
-        ensures { (fixed : FixedSeen) (play : Play) → WorldStandsFor fixed self.now play → Went fixed play events.Totals self.now result }
+        ensures { (fixed : FixedSeen) (play : Play) → WorldStandsFor fixed self.now play
+            → Went fixed play events.Totals self.now result }
     {
         totals(&self.store)
     }
@@ -191,7 +201,8 @@ impl World {
     // Begins a generation of the next rules.
     fn deploy(&mut self, alloc: Global) -> Result<Effect, ScriptFault>
         requires { (fixed : FixedSeen) × (play : Play) × WorldStandsFor fixed self.old play }
-        ensures { (fixed : FixedSeen) (play : Play) → WorldStandsFor fixed self.old play → Goes fixed play events.Deploy self.new result }
+        ensures { (fixed : FixedSeen) (play : Play) → WorldStandsFor fixed self.old play
+            → Goes fixed play events.Deploy self.new result }
     {
         places_are_fronts();
         match &self.next {
@@ -206,7 +217,8 @@ impl World {
     // Builds on the generation that is being built.
     fn build(&mut self, alloc: Global, limit: u32) -> Result<Effect, ScriptFault>
         requires { (fixed : FixedSeen) × (play : Play) × WorldStandsFor fixed self.old play }
-        ensures { (fixed : FixedSeen) (play : Play) → WorldStandsFor fixed self.old play → Goes fixed play (events.Build limit) self.new result }
+        ensures { (fixed : FixedSeen) (play : Play) → WorldStandsFor fixed self.old play
+            → Goes fixed play (events.Build limit) self.new result }
     {
         places_are_fronts();
         if limit < 1 || limit > MOST {
@@ -221,7 +233,8 @@ impl World {
     // Brings it into force.
     fn switch(&mut self) -> Effect
         requires { (fixed : FixedSeen) × (play : Play) × WorldStandsFor fixed self.old play }
-        ensures { (fixed : FixedSeen) (play : Play) → WorldStandsFor fixed self.old play → Went fixed play events.Switch self.new result }
+        ensures { (fixed : FixedSeen) (play : Play) → WorldStandsFor fixed self.old play
+            → Went fixed play events.Switch self.new result }
     {
         places_are_fronts();
         switch(&mut self.store)
@@ -230,7 +243,8 @@ impl World {
     // Drops it.
     fn abandon(&mut self) -> Effect
         requires { (fixed : FixedSeen) × (play : Play) × WorldStandsFor fixed self.old play }
-        ensures { (fixed : FixedSeen) (play : Play) → WorldStandsFor fixed self.old play → Went fixed play events.Abandon self.new result }
+        ensures { (fixed : FixedSeen) (play : Play) → WorldStandsFor fixed self.old play
+            → Went fixed play events.Abandon self.new result }
     {
         places_are_fronts();
         abandon(&mut self.store)
@@ -240,7 +254,8 @@ impl World {
     fn ask(&mut self, alloc: Global, name: &Text, asked: Visit<'_>) -> Result<Effect, ScriptFault>
         requires table { HasTable asked }
         requires stands { (fixed : FixedSeen) × (play : Play) × WorldStandsFor fixed self.old play }
-        ensures { (fixed : FixedSeen) (play : Play) → WorldStandsFor fixed self.old play → Goes fixed play (event_of name.now asked.entry) self.new result }
+        ensures { (fixed : FixedSeen) (play : Play) → WorldStandsFor fixed self.old play
+            → Goes fixed play (event_of name.now asked.entry) self.new result }
     {
         places_are_fronts();
         match self.readers.get_mut(name) {
@@ -252,7 +267,8 @@ impl World {
     // Does an event, in a world that has not failed.
     fn happen(&mut self, alloc: Global, event: &ScriptEvent) -> Result<Effect, ScriptFault>
         requires { (fixed : FixedSeen) × (play : Play) × WorldStandsFor fixed self.old play }
-        ensures { (fixed : FixedSeen) (play : Play) → WorldStandsFor fixed self.old play → Goes fixed play event.now self.new result }
+        ensures { (fixed : FixedSeen) (play : Play) → WorldStandsFor fixed self.old play
+            → Goes fixed play event.now self.new result }
     {
         match event {
             ScriptEvent::Feed { count } => self.feed(alloc, *count),
@@ -285,8 +301,10 @@ impl World {
     pub fn step(&mut self, alloc: Global, event: &ScriptEvent) -> Result<Effect, ScriptFault>
         requires { IsWorld self.old }
         ensures world { IsWorld self.new }
-        ensures failed { self.old.failed ≡ true → (result ≡ Err faults.Memory) × (self.new.failed ≡ true) }
-        ensures plays { (fixed : FixedSeen) (play : Play) → WorldStandsFor fixed self.old play → Steps fixed play event.now self.new result }
+        ensures failed { self.old.failed ≡ true
+            → (result ≡ Err faults.Memory) × (self.new.failed ≡ true) }
+        ensures plays { (fixed : FixedSeen) (play : Play) → WorldStandsFor fixed self.old play
+            → Steps fixed play event.now self.new result }
     {
         plays_stay_led();
         if self.failed {

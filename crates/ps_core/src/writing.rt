@@ -44,7 +44,8 @@ pub(crate) fn write_locally(
     change: &Change,
 ) -> Result<Effect, Memory>
     requires { change.now.table ≢ [] }
-    ensures { IfOk result (λ effect. (fixed : FixedSeen) (play : Play) (store : StoreSeen) → IsAt fixed play name.now store reader.old
+    ensures { IfOk result (λ effect. (fixed : FixedSeen) (play : Play) (store : StoreSeen)
+        → IsAt fixed play name.now store reader.old
         → CameTo fixed play (events.Local name.now change.now) name.now store reader.new effect) }
 {
     let name = name.copy(alloc)?;
@@ -76,8 +77,10 @@ pub(crate) fn upload(
     store: &mut Store,
     reader: &mut Reader,
 ) -> Result<Effect, Memory>
-    requires { (fixed : FixedSeen) × (play : Play) × (name : List ℕ) × IsAt fixed play name store.old reader.old }
-    ensures { IfOk result (λ effect. (fixed : FixedSeen) (play : Play) (name : List ℕ) → IsAt fixed play name store.old reader.old
+    requires { (fixed : FixedSeen) × (play : Play) × (name : List ℕ)
+        × IsAt fixed play name store.old reader.old }
+    ensures { IfOk result (λ effect. (fixed : FixedSeen) (play : Play) (name : List ℕ)
+        → IsAt fixed play name store.old reader.old
         → CameTo fixed play (events.Upload name) name store.new reader.new effect) }
 {
     places_are_fronts();
@@ -101,7 +104,9 @@ pub(crate) fn upload(
 // The number is the target, where no local write waits for its upload.
 fn aim(alloc: Global, reader: &mut Reader, number: u64) -> Result<(), Memory>
     requires { number ≤ greatest }
-    ensures client { OnOk result (state reader.new.client ≡ keeping (numbered (state reader.old.client).kept.queue number (state reader.old.client).kept) (state reader.old.client)) }
+    ensures client { OnOk result (state reader.new.client
+        ≡ keeping (numbered (state reader.old.client).kept.queue number
+        (state reader.old.client).kept) (state reader.old.client)) }
     ensures asker { reader.new.asker ≡ reader.old.asker }
     ensures stream { reader.new.stream ≡ reader.old.stream }
 {
@@ -120,8 +125,10 @@ pub(crate) fn number(
     store: &mut Store,
     reader: &mut Reader,
 ) -> Result<Effect, ScriptFault>
-    requires { (fixed : FixedSeen) × (play : Play) × (name : List ℕ) × IsAt fixed play name store.old reader.old }
-    ensures { (fixed : FixedSeen) (play : Play) (name : List ℕ) → IsAt fixed play name store.old reader.old
+    requires { (fixed : FixedSeen) × (play : Play) × (name : List ℕ)
+        × IsAt fixed play name store.old reader.old }
+    ensures { (fixed : FixedSeen) (play : Play) (name : List ℕ)
+        → IsAt fixed play name store.old reader.old
         → Acts fixed play (events.Number name) name store.new reader.new result }
 {
     places_are_fronts();

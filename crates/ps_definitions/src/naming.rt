@@ -39,7 +39,8 @@ fn room(definition: &Text, values: &[Value]) -> usize {
 
 // Writes the JSON array of values.
 fn write_array(writer: &mut Writer, values: &[Value]) -> Result<(), Memory>
-    ensures written { OnOk result (writer.new.tokens ≡ writer.old.tokens ++ value_tokens (array_json values.now)) }
+    ensures written { OnOk result (writer.new.tokens
+        ≡ writer.old.tokens ++ value_tokens (array_json values.now)) }
     ensures before { writer.new.before ≡ writer.old.before }
 {
     writer.begin_array()?;

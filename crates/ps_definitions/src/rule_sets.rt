@@ -42,7 +42,8 @@ impl Rules {
         warnings: Items<Warning>,
     ) -> Result<Rules, Memory>
         requires { AreRules (record { definitions = definitions; warnings = warnings }) }
-        ensures { IfOk result (λ rules. rules ≡ record { definitions = definitions; warnings = warnings }) }
+        ensures { IfOk result (λ rules.
+            rules ≡ record { definitions = definitions; warnings = warnings }) }
     {
         let tables = Tables::of(alloc, definitions.as_slice())?;
         Ok(Rules {

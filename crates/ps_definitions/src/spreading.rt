@@ -181,7 +181,8 @@ fn both(first: Items<Branch>, second: Items<Branch>) -> Result<Items<Branch>, Me
 
 // Each branch with a leaf.
 fn join_leaf(alloc: Global, branches: Items<Branch>, leaf: &Expr) -> Result<Items<Branch>, Memory>
-    ensures { IfOk result (λ all. all ≡ map (λ (b : BranchData). joined b (leaf_branch leaf.now)) branches) }
+    ensures { IfOk result (λ all.
+        all ≡ map (λ (b : BranchData). joined b (leaf_branch leaf.now)) branches) }
 {
     let leaf = branch_of_leaf(alloc, leaf)?;
     join_each(alloc, branches, &leaf)

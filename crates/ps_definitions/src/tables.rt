@@ -38,7 +38,8 @@ fn add_place(
     place: QueryPlace,
 ) -> Result<(), Memory>
     ensures { OnOk result ((other : List ℕ) → places_at found.new other
-        ≡ (if bytes_eq table.now other then places_at found.old other ++ place ∷ [] else places_at found.old other)) }
+        ≡ (if bytes_eq table.now other then places_at found.old other
+        ++ place ∷ [] else places_at found.old other)) }
 {
     if let Some(places) = found.get_mut(table) {
         places.push(place)?;
@@ -57,7 +58,9 @@ fn add_queries(
     definition: usize,
     queries: &[Planned],
 ) -> Result<(), Memory>
-    ensures { OnOk result ((table : List ℕ) → places_at found.new table ≡ places_at found.old table ++ places_among table definition 0 queries.now) }
+    ensures { OnOk result ((table : List ℕ)
+        → places_at found.new table
+        ≡ places_at found.old table ++ places_among table definition 0 queries.now) }
 {
     for query in 0..queries.len() {
         let place = QueryPlace { definition, query };
@@ -73,7 +76,8 @@ fn add_read(
     queries: &[ParameterQuery],
 ) -> Result<(), Memory>
     ensures { OnOk result ((table : List ℕ) → contains (slice_cmp nat_cmp) read.new table
-        ≡ (contains (slice_cmp nat_cmp) read.old table || list_any (λ (q : ParameterQueryData). is_table table q.table) queries.now)) }
+        ≡ (contains (slice_cmp nat_cmp) read.old table || list_any
+        (λ (q : ParameterQueryData). is_table table q.table) queries.now)) }
 {
     'queries: for query in queries {
         if let Some(table) = &query.table {

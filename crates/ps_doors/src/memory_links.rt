@@ -84,14 +84,16 @@ impl Link for MemoryLink {
         ensures ends { IfOk result (λ c.
             AreEnds ⟦<MemorySource as Source>⟧ ⟦<MemorySink as Sink>⟧ 0 c.0 c.1) }
         ensures fresh { IfOk result (λ c.
-            connection_of ⟦<MemorySource as Source>⟧ ⟦<MemorySink as Sink>⟧ c.0 c.1 ≡ Some (fresh 0)) }
+            connection_of ⟦<MemorySource as Source>⟧ ⟦<MemorySink as Sink>⟧ c.0 c.1
+            ≡ Some (fresh 0)) }
         ensures closed { self.new.closed.items ≡ self.old.closed.items }
         ensures failed { OnErr result (Rose self.old.calls.faults self.new.calls.faults) }
         ensures faults { self.old.calls.faults ≤ self.new.calls.faults }
         ensures quiet { OnOk result (self.new.calls.faults ≡ self.old.calls.faults) }
 
         // It fails where its number is to fail, and else exactly where no peer is left; it takes the first one.
-        ensures cause { OnErr result ((fails_next self.old.calls ≡ true) ⊎ (self.old.coming.items ≡ [])) }
+        ensures cause { OnErr result
+            ((fails_next self.old.calls ≡ true) ⊎ (self.old.coming.items ≡ [])) }
         ensures fails { fails_next self.old.calls ≡ true → IsErr result }
         ensures none_left { self.old.coming.items ≡ [] → IsErr result }
         ensures first { IfOk result (λ c.

@@ -18,8 +18,10 @@ use std::alloc::Global;
 /// shows once it has taken the store's checkpoint, line by line, from the asker's session.
 /// Fails with `TooManyBuckets` where the asker has more buckets than an asker may have.
 pub fn due_rows<'a>(alloc: Global, store: &Store, asker: Asker) -> Result<Items<Shown>, Fault<'a>>
-    requires { (rules : RuleSet) × (transactions : List Transaction) × IsServed rules transactions store.now }
-    ensures { (rules : RuleSet) (transactions : List Transaction) → IsServed rules transactions store.now → Answers rules asker transactions result }
+    requires { (rules : RuleSet) × (transactions : List Transaction)
+        × IsServed rules transactions store.now }
+    ensures { (rules : RuleSet) (transactions : List Transaction)
+        → IsServed rules transactions store.now → Answers rules asker transactions result }
 {
     ledgers_tell_ops();
     match synced_rows(alloc, store, asker) {

@@ -86,7 +86,8 @@ fn take_line<'a>(
     number: u64,
 ) -> Result<(), Fault<'a>>
     requires { IsFilling filling.old }
-    ensures { (rules : RuleSet) (lines : List LineSeen) → Fills (usual rules) filling.old lines → TakesNext rules lines number line.now filling.new result }
+    ensures { (rules : RuleSet) (lines : List LineSeen) → Fills (usual rules) filling.old lines
+        → TakesNext rules lines number line.now filling.new result }
 {
     match filling.line(alloc, line) {
         Ok(_) => Ok(()),
@@ -98,7 +99,8 @@ fn take_line<'a>(
 fn take_lines<'a>(alloc: Global, filling: &mut Filling, file: &[u8]) -> Result<u64, Fault<'a>>
     requires length { length file.now < 2 ^ 63 }
     requires begun { (rules : RuleSet) × Fills (usual rules) filling.old [] }
-    ensures { (rules : RuleSet) → Fills (usual rules) filling.old [] → TakesAll rules file.now filling.new result }
+    ensures { (rules : RuleSet) → Fills (usual rules) filling.old []
+        → TakesAll rules file.now filling.new result }
 {
     let mut number = 0u64;
     let mut rest = Some(file);
@@ -129,7 +131,8 @@ fn next_number(bytes: &[u8], pieces: u64) -> u64
 
 // Makes what is written the checkpoint.
 fn commit(store: &mut Store)
-    ensures { (rules : RuleSet) (fed : List TransactionSeen) → IsPending (usual rules) fed 0 store.old → IsServed rules fed store.new }
+    ensures { (rules : RuleSet) (fed : List TransactionSeen)
+        → IsPending (usual rules) fed 0 store.old → IsServed rules fed store.new }
 {
     ledgers_tell_histories();
     match store.commit() {
@@ -140,7 +143,8 @@ fn commit(store: &mut Store)
 // The store, committed, where the end was read; else its line would have that number.
 fn finish<'a>(filling: Filling, number: u64) -> Result<Store, Fault<'a>>
     requires { IsFilling filling }
-    ensures { (rules : RuleSet) (lines : List LineSeen) → Fills (usual rules) filling lines → Feeds rules (ended_at number (copy_of lines)) result }
+    ensures { (rules : RuleSet) (lines : List LineSeen) → Fills (usual rules) filling lines
+        → Feeds rules (ended_at number (copy_of lines)) result }
 {
     match filling.finish() {
         Ok(mut store) => {

@@ -27,12 +27,18 @@ pub fn hand(
     line: &Line,
 ) -> Result<Event, Memory>
     requires writable { IsWritable line.now }
-    requires good { (course : Course) × (at : ℕ) × IsGood course at (state client.old).kept (taken (state client.old) (without_targets line.now)).answer }
+    requires good { (course : Course) × (at : ℕ)
+        × IsGood course at (state client.old).kept
+        (taken (state client.old) (without_targets line.now)).answer }
     ensures right { IfOk result (λ event. (course : Course) (at : ℕ)
-        → IsGood course at (state client.old).kept (taken (state client.old) (without_targets line.now)).answer
+        → IsGood course at (state client.old).kept
+        (taken (state client.old) (without_targets line.now)).answer
         → IsRightEvent course at (state client.old) (state client.new) event) }
-    ensures answer { IfOk result (λ event. (taken (state client.old) (without_targets line.now)).answer ≡ Ok event) }
-    ensures lead { OnOk result ((local : Local) × (state client.new ≡ with_local local (taken (state client.old) (without_targets line.now)).client)) }
+    ensures answer { IfOk result (λ event.
+        (taken (state client.old) (without_targets line.now)).answer ≡ Ok event) }
+    ensures lead { OnOk result ((local : Local)
+        × (state client.new
+        ≡ with_local local (taken (state client.old) (without_targets line.now)).client)) }
     ensures idle { OnOk result (IsIdle (state client.old) → IsIdle (state client.new)) }
 {
     clients_answer_right();
@@ -49,9 +55,11 @@ pub fn pass(
     client: &mut Client<VolatileKeeper>,
     line: Option<Line>,
 ) -> Result<(), Memory>
-    requires { (course : Course) × (at : ℕ) × (n : ℕ) × (session : SessionState) × Leads course at n session (state client.old) (made_by at line None []) }
+    requires { (course : Course) × (at : ℕ) × (n : ℕ) × (session : SessionState)
+        × Leads course at n session (state client.old) (made_by at line None []) }
     ensures led { OnOk result ((course : Course) (at n : ℕ) (session : SessionState)
-        → Leads course at n session (state client.old) (made_by at line None []) → Leads course at n session (state client.new) []) }
+        → Leads course at n session (state client.old) (made_by at line None [])
+        → Leads course at n session (state client.new) []) }
     ensures idle { OnOk result (IsIdle (state client.old) → IsIdle (state client.new)) }
 {
     clients_are_led();

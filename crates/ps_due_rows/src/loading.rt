@@ -60,7 +60,8 @@ pub fn load_rows<'a, F: Files>(
     rules: Rules,
     asker: Asker,
 ) -> Result<Vec<u8>, Fault<'a>>
-    ensures loads { Loads (F.held files.old) name.now FILE_LIMIT (F.faults files.old) (F.faults files.new)
+    ensures loads { Loads (F.held files.old) name.now FILE_LIMIT
+        (F.faults files.old) (F.faults files.new)
         (FindsRows feeding rules asker) (RefusesRows feeding rules asker) result }
     ensures missed { MissesNamed (F.missed files.old) (F.missed files.new) result }
     ensures held { F.held files.new ≡ F.held files.old }

@@ -32,7 +32,8 @@ pub fn open_session(
     asker: Asker,
 ) -> Result<Session, Memory>
     requires { (state client.old).kept ≡ nothing_kept }
-    ensures led { IfOk result (λ session. (course : Course) (n : ℕ) → IsLawful course → IsLed course n (state_of session) (state client.new)) }
+    ensures led { IfOk result (λ session. (course : Course) (n : ℕ) → IsLawful course
+        → IsLed course n (state_of session) (state client.new)) }
     ensures phase { IfOk result (λ session. (state_of session).phase ≡ Start) }
     ensures asker { IfOk result (λ session. session.asker ≡ asker) }
     ensures idle { OnOk result (IsIdle (state client.new)) }

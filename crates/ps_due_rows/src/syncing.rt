@@ -31,9 +31,11 @@ fn applied_rows(
 ) -> Result<Items<Shown>, Memory>
     requires phase { (state_of session.old).phase ≡ Download }
     requires idle { IsIdle (state client.old) }
-    requires led { (fixed : FixedSeen) × (history : List EventSeen) × StoreStandsFor fixed store.now history
+    requires led { (fixed : FixedSeen) × (history : List EventSeen)
+        × StoreStandsFor fixed store.now history
         × IsLedIn fixed history session.old.asker (state_of session.old) (state client.old) }
-    ensures { IfOk result (λ rows. (fixed : FixedSeen) (history : List EventSeen) → StoreStandsFor fixed store.now history
+    ensures { IfOk result (λ rows.
+        (fixed : FixedSeen) (history : List EventSeen) → StoreStandsFor fixed store.now history
         → IsLedIn fixed history session.old.asker (state_of session.old) (state client.old)
         → rows ≡ (course_of fixed.rules history session.old.asker).due (length history)) }
 {
@@ -52,10 +54,13 @@ fn rows_of(
 ) -> Result<Items<Shown>, TakeFault>
     requires phase { (state_of session.old).phase ≡ Start }
     requires idle { IsIdle (state client.old) }
-    requires led { (fixed : FixedSeen) × (history : List EventSeen) × StoreStandsFor fixed store.now history
+    requires led { (fixed : FixedSeen) × (history : List EventSeen)
+        × StoreStandsFor fixed store.now history
         × IsLedIn fixed history session.old.asker (state_of session.old) (state client.old) }
-    ensures { (fixed : FixedSeen) (history : List EventSeen) → StoreStandsFor fixed store.now history
-        → IsLedIn fixed history session.old.asker (state_of session.old) (state client.old) → Syncs fixed history session.old.asker result }
+    ensures { (fixed : FixedSeen) (history : List EventSeen)
+        → StoreStandsFor fixed store.now history
+        → IsLedIn fixed history session.old.asker (state_of session.old) (state client.old)
+        → Syncs fixed history session.old.asker result }
 {
     places_are_fronts();
     take(alloc, store, session, client)?;
@@ -66,8 +71,10 @@ fn rows_of(
 /// its bytes and read from them: exactly those that are due to the asker at the checkpoint's position. `TooManyBuckets`
 /// exactly where the asker has more buckets than the limit; else it may be out of memory.
 pub fn synced_rows(alloc: Global, store: &Store, asker: Asker) -> Result<Items<Shown>, TakeFault>
-    requires { (fixed : FixedSeen) × (history : List EventSeen) × StoreStandsFor fixed store.now history }
-    ensures { (fixed : FixedSeen) (history : List EventSeen) → StoreStandsFor fixed store.now history
+    requires { (fixed : FixedSeen) × (history : List EventSeen)
+        × StoreStandsFor fixed store.now history }
+    ensures { (fixed : FixedSeen) (history : List EventSeen)
+        → StoreStandsFor fixed store.now history
         → Syncs fixed history asker result }
 {
     courses_are_lawful();

@@ -31,11 +31,14 @@ fn turn(
     session: &mut Session,
     client: &mut Client<VolatileKeeper>,
 ) -> Result<(), TakeFault>
-    requires { (fixed : FixedSeen) × (history : List EventSeen) × StoreStandsFor fixed store.now history
+    requires { (fixed : FixedSeen) × (history : List EventSeen)
+        × StoreStandsFor fixed store.now history
         × IsLedIn fixed history session.old.asker (state_of session.old) (state client.old) }
-    ensures led { (fixed : FixedSeen) (history : List EventSeen) → StoreStandsFor fixed store.now history
+    ensures led { (fixed : FixedSeen) (history : List EventSeen)
+        → StoreStandsFor fixed store.now history
         → IsLedIn fixed history session.old.asker (state_of session.old) (state client.old)
-        → TurnsLed fixed history session.old.asker (state_of session.old) (state_of session.new) (state client.new) result }
+        → TurnsLed fixed history session.old.asker (state_of session.old) (state_of session.new)
+        (state client.new) result }
     ensures idle { OnOk result (IsIdle (state client.old) → IsIdle (state client.new)) }
     ensures asker { session.new.asker ≡ session.old.asker }
 {
@@ -56,9 +59,11 @@ pub fn take(
     client: &mut Client<VolatileKeeper>,
 ) -> Result<(), TakeFault>
     requires phase { (state_of session.old).phase ≡ Start }
-    requires led { (fixed : FixedSeen) × (history : List EventSeen) × StoreStandsFor fixed store.now history
+    requires led { (fixed : FixedSeen) × (history : List EventSeen)
+        × StoreStandsFor fixed store.now history
         × IsLedIn fixed history session.old.asker (state_of session.old) (state client.old) }
-    ensures begins { (fixed : FixedSeen) (history : List EventSeen) → StoreStandsFor fixed store.now history
+    ensures begins { (fixed : FixedSeen) (history : List EventSeen)
+        → StoreStandsFor fixed store.now history
         → IsLedIn fixed history session.old.asker (state_of session.old) (state client.old)
         → Begins fixed history session.old.asker (state_of session.new) (state client.new) result }
     ensures phase { OnOk result ((state_of session.new).phase ≡ Download) }
@@ -76,9 +81,11 @@ fn read_on(
     client: &mut Client<VolatileKeeper>,
 ) -> Result<(), Memory>
     requires action { IsReading (next_action (state_of session.old)) }
-    requires led { (fixed : FixedSeen) × (history : List EventSeen) × StoreStandsFor fixed store.now history
+    requires led { (fixed : FixedSeen) × (history : List EventSeen)
+        × StoreStandsFor fixed store.now history
         × IsLedIn fixed history session.old.asker (state_of session.old) (state client.old) }
-    ensures led { OnOk result ((fixed : FixedSeen) (history : List EventSeen) → StoreStandsFor fixed store.now history
+    ensures led { OnOk result ((fixed : FixedSeen) (history : List EventSeen)
+        → StoreStandsFor fixed store.now history
         → IsLedIn fixed history session.old.asker (state_of session.old) (state client.old)
         → IsLedIn fixed history session.old.asker (state_of session.new) (state client.new)) }
     ensures phase { OnOk result ((state_of session.new).phase ≡ Download) }
@@ -103,9 +110,11 @@ pub fn download(
     client: &mut Client<VolatileKeeper>,
 ) -> Result<(), Memory>
     requires phase { (state_of session.old).phase ≡ Download }
-    requires led { (fixed : FixedSeen) × (history : List EventSeen) × StoreStandsFor fixed store.now history
+    requires led { (fixed : FixedSeen) × (history : List EventSeen)
+        × StoreStandsFor fixed store.now history
         × IsLedIn fixed history session.old.asker (state_of session.old) (state client.old) }
-    ensures led { OnOk result ((fixed : FixedSeen) (history : List EventSeen) → StoreStandsFor fixed store.now history
+    ensures led { OnOk result ((fixed : FixedSeen) (history : List EventSeen)
+        → StoreStandsFor fixed store.now history
         → IsLedIn fixed history session.old.asker (state_of session.old) (state client.old)
         → IsLedIn fixed history session.old.asker (state_of session.new) (state client.new)) }
     ensures sent { OnOk result (next_action (state_of session.new) ≡ actions.Complete) }
@@ -130,11 +139,14 @@ pub fn complete(
 ) -> Result<(), Memory>
     requires action { next_action (state_of session.old) ≡ actions.Complete }
     requires idle { IsIdle (state client.old) }
-    requires led { (fixed : FixedSeen) × (history : List EventSeen) × StoreStandsFor fixed store.now history
+    requires led { (fixed : FixedSeen) × (history : List EventSeen)
+        × StoreStandsFor fixed store.now history
         × IsLedIn fixed history session.old.asker (state_of session.old) (state client.old) }
-    ensures { OnOk result ((fixed : FixedSeen) (history : List EventSeen) (rows : List ShownSeen) → StoreStandsFor fixed store.now history
+    ensures { OnOk result ((fixed : FixedSeen) (history : List EventSeen) (rows : List ShownSeen)
+        → StoreStandsFor fixed store.now history
         → IsLedIn fixed history session.old.asker (state_of session.old) (state client.old)
-        → AreListed (state client.new).kept.shown rows → rows ≡ (course_of fixed.rules history session.old.asker).due (length history)) }
+        → AreListed (state client.new).kept.shown rows
+        → rows ≡ (course_of fixed.rules history session.old.asker).due (length history)) }
 {
     calls_make_turns();
     clients_are_led();

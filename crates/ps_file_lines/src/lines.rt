@@ -8,7 +8,8 @@ use crate::cuts::cut;
 /// The first line, and the lines after it where a line feed ends it.
 pub fn split_line(bytes: &[u8]) -> (&[u8], Option<&[u8]>)
     ensures { MatchOption result.1 (lines_of bytes.now ≡ result.0.now ∷ [])
-        (λ rest. (lines_of bytes.now ≡ result.0.now ∷ lines_of rest.now) × (length rest.now < length bytes.now)) }
+        (λ rest. (lines_of bytes.now ≡ result.0.now ∷ lines_of rest.now)
+        × (length rest.now < length bytes.now)) }
 {
     cut(bytes, b'\n')
 }

@@ -58,7 +58,8 @@ fn write_line<'a>(
     line: &[u8],
     number: u64,
 ) -> Result<(), Fault<'a>>
-    requires { (rules : RuleSet) × (done : List TransactionData) × HasCommitted rules done store.old }
+    requires { (rules : RuleSet) × (done : List TransactionData)
+        × HasCommitted rules done store.old }
     ensures { (rules : RuleSet) (done : List TransactionData) → HasCommitted rules done store.old
         → TakesLine rules done (accepted rules.definitions done number line.now) store.new result }
 {
@@ -75,8 +76,10 @@ pub fn write_transaction<'a>(
     transaction: Transaction,
 ) -> Result<(), Fault<'a>>
     requires position { transaction.position.0 ≤ greatest }
-    requires committed { (rules : RuleSet) × (done : List TransactionData) × HasCommitted rules done store.old × (last_position 0 done < transaction.position.0) }
-    ensures { (rules : RuleSet) (done : List TransactionData) → HasCommitted rules done store.old → last_position 0 done < transaction.position.0
+    requires committed { (rules : RuleSet) × (done : List TransactionData)
+        × HasCommitted rules done store.old × (last_position 0 done < transaction.position.0) }
+    ensures { (rules : RuleSet) (done : List TransactionData) → HasCommitted rules done store.old
+        → last_position 0 done < transaction.position.0
         → TakesLine rules done (within_limits rules.definitions done transaction) store.new result }
 {
     ledgers_tell_histories();
@@ -91,9 +94,12 @@ pub fn write_transaction<'a>(
 // Feeds a transaction past the last one.
 fn feed(alloc: Global, store: &mut Store, transaction: Transaction) -> Result<(), Memory>
     requires position { transaction.position.0 ≤ greatest }
-    requires committed { (rules : RuleSet) × (done : List TransactionData) × HasCommitted rules done store.old × (last_position 0 done < transaction.position.0) }
-    ensures { OnOk result ((rules : RuleSet) (done : List TransactionData) → HasCommitted rules done store.old → last_position 0 done < transaction.position.0
-        → IsPending rules (done ++ transaction ∷ []) (length transaction.changes) (first_passed rules.definitions (timed done) (timed_of transaction)) store.new) }
+    requires committed { (rules : RuleSet) × (done : List TransactionData)
+        × HasCommitted rules done store.old × (last_position 0 done < transaction.position.0) }
+    ensures { OnOk result ((rules : RuleSet) (done : List TransactionData)
+        → HasCommitted rules done store.old → last_position 0 done < transaction.position.0
+        → IsPending rules (done ++ transaction ∷ []) (length transaction.changes)
+        (first_passed rules.definitions (timed done) (timed_of transaction)) store.new) }
 {
     match store.feed(alloc, transaction) {
         Ok(()) => Ok(()),
@@ -106,8 +112,10 @@ fn feed(alloc: Global, store: &mut Store, transaction: Transaction) -> Result<()
 
 // Writes all changes that are fed, in batches.
 fn write_fed<'a>(alloc: Global, store: &mut Store, changes: usize) -> Result<(), Fault<'a>>
-    requires { (rules : RuleSet) × (transactions : List TransactionData) × (passed : Option LimitData) × IsPending rules transactions changes passed store.old }
-    ensures { (rules : RuleSet) (transactions : List TransactionData) (passed : Option LimitData) → IsPending rules transactions changes passed store.old
+    requires { (rules : RuleSet) × (transactions : List TransactionData)
+        × (passed : Option LimitData) × IsPending rules transactions changes passed store.old }
+    ensures { (rules : RuleSet) (transactions : List TransactionData) (passed : Option LimitData)
+        → IsPending rules transactions changes passed store.old
         → WritesAll rules transactions passed store.new result }
 {
     let mut left = changes;
@@ -120,8 +128,11 @@ fn write_fed<'a>(alloc: Global, store: &mut Store, changes: usize) -> Result<(),
 
 // Writes the next changes that are fed, as many as a batch has, and answers how many these are.
 fn write_some<'a>(alloc: Global, store: &mut Store) -> Result<u32, Fault<'a>>
-    requires { (rules : RuleSet) × (transactions : List TransactionData) × (left : ℕ) × (passed : Option LimitData) × IsPending rules transactions left passed store.old × (0 < left) }
-    ensures { (rules : RuleSet) (transactions : List TransactionData) (left : ℕ) (passed : Option LimitData) → IsPending rules transactions left passed store.old → 0 < left
+    requires { (rules : RuleSet) × (transactions : List TransactionData) × (left : ℕ)
+        × (passed : Option LimitData)
+        × IsPending rules transactions left passed store.old × (0 < left) }
+    ensures { (rules : RuleSet) (transactions : List TransactionData) (left : ℕ)
+        (passed : Option LimitData) → IsPending rules transactions left passed store.old → 0 < left
         → WritesSome rules transactions left passed store.new result }
 {
     ledgers_tell_histories();
@@ -141,7 +152,8 @@ fn write_some<'a>(alloc: Global, store: &mut Store) -> Result<u32, Fault<'a>>
 
 // Makes what is written the checkpoint.
 fn commit(store: &mut Store)
-    ensures { (rules : RuleSet) (transactions : List TransactionData) (passed : Option LimitData) → IsPending rules transactions 0 passed store.old
+    ensures { (rules : RuleSet) (transactions : List TransactionData) (passed : Option LimitData)
+        → IsPending rules transactions 0 passed store.old
         → HasCommitted rules transactions store.new }
 {
     ledgers_tell_histories();

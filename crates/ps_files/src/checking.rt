@@ -15,7 +15,8 @@ fn push_counted(
     parameters: usize,
     queries: usize,
 ) -> Result<(), Memory>
-    ensures { OnOk result (out.new.items ≡ out.old.items ++ counted_line name.now parameters queries) }
+    ensures { OnOk result (out.new.items
+        ≡ out.old.items ++ counted_line name.now parameters queries) }
 {
     let name = name.as_str();
     let line = format!(in alloc; "{name} parameters {parameters} queries {queries}\n")?;

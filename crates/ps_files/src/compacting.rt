@@ -29,8 +29,12 @@ pub struct Compacted {
 
 // Compacts the log of a bucket of the generation in force that has an operation.
 fn compact_one(alloc: Global, store: &mut Store, bucket: &Text) -> Result<Report, Memory>
-    requires { (fixed : FixedSeen) × (history : List EventSeen) × StoreStandsFor fixed store.old history × (force_ops (ledger_of fixed.rules history) bucket.now ≢ []) }
-    ensures { (fixed : FixedSeen) (history : List EventSeen) → StoreStandsFor fixed store.old history → CompactsOne fixed history bucket.now store.new result }
+    requires { (fixed : FixedSeen) × (history : List EventSeen)
+        × StoreStandsFor fixed store.old history
+        × (force_ops (ledger_of fixed.rules history) bucket.now ≢ []) }
+    ensures { (fixed : FixedSeen) (history : List EventSeen)
+        → StoreStandsFor fixed store.old history
+        → CompactsOne fixed history bucket.now store.new result }
 {
     match store.compact(alloc, bucket) {
         Ok(report) => Ok(report),
@@ -42,8 +46,11 @@ fn compact_one(alloc: Global, store: &mut Store, bucket: &Text) -> Result<Report
 /// Compacts each bucket of a store once, at the checkpoint's op and in the order of their names, and gives the reports.
 /// Fails where it is out of memory; some buckets are compacted then.
 pub fn compact_all(alloc: Global, store: &mut Store) -> Result<Items<Compacted>, Memory>
-    requires { (fixed : FixedSeen) × (history : List EventSeen) × StoreStandsFor fixed store.old history }
-    ensures { IfOk result (λ reports. (fixed : FixedSeen) (history : List EventSeen) → StoreStandsFor fixed store.old history → reports ≡ reports_of (ledger_of fixed.rules history)) }
+    requires { (fixed : FixedSeen) × (history : List EventSeen)
+        × StoreStandsFor fixed store.old history }
+    ensures { IfOk result (λ reports. (fixed : FixedSeen) (history : List EventSeen)
+        → StoreStandsFor fixed store.old history
+        → reports ≡ reports_of (ledger_of fixed.rules history)) }
 {
     totals_tell_histories();
     let names = store.bucket_names(alloc)?;
@@ -87,8 +94,11 @@ fn print_reports(alloc: Global, reports: &[Compacted]) -> Result<Vec<u8>, Memory
 
 // Compacts each bucket of a store, and prints the reports.
 fn print_compacted(alloc: Global, store: &mut Store) -> Result<Vec<u8>, Memory>
-    requires { (fixed : FixedSeen) × (history : List EventSeen) × StoreStandsFor fixed store.old history }
-    ensures { IfOk result (λ text. (fixed : FixedSeen) (history : List EventSeen) → StoreStandsFor fixed store.old history → text.items ≡ reports_text (reports_of (ledger_of fixed.rules history))) }
+    requires { (fixed : FixedSeen) × (history : List EventSeen)
+        × StoreStandsFor fixed store.old history }
+    ensures { IfOk result (λ text. (fixed : FixedSeen) (history : List EventSeen)
+        → StoreStandsFor fixed store.old history
+        → text.items ≡ reports_text (reports_of (ledger_of fixed.rules history))) }
 {
     let reports = compact_all(alloc, store)?;
     print_reports(alloc, reports.as_slice())
@@ -110,7 +120,8 @@ pub fn load_reports<'a, F: Files>(
     name: &'a Text,
     rules: Rules,
 ) -> Result<Vec<u8>, Fault<'a>>
-    ensures loads { Loads (F.held files.old) name.now FILE_LIMIT (F.faults files.old) (F.faults files.new) (FindsReports rules) (RefusesReports rules) result }
+    ensures loads { Loads (F.held files.old) name.now FILE_LIMIT (F.faults files.old)
+        (F.faults files.new) (FindsReports rules) (RefusesReports rules) result }
     ensures missed { MissesNamed (F.missed files.old) (F.missed files.new) result }
     ensures held { F.held files.new ≡ F.held files.old }
     ensures faults { F.faults files.old ≤ F.faults files.new }

@@ -27,7 +27,8 @@ pub fn load<'a, F: Files>(
     name: &'a Text,
     limit: u64,
 ) -> Result<Vec<u8>, Fault<'a>>
-    ensures loads { Loads (F.held files.old) name.now limit (F.faults files.old) (F.faults files.new) IsContent RefusesNothing result }
+    ensures loads { Loads (F.held files.old) name.now limit (F.faults files.old)
+        (F.faults files.new) IsContent RefusesNothing result }
     ensures missed { MissesNamed (F.missed files.old) (F.missed files.new) result }
     ensures held { F.held files.new ≡ F.held files.old }
     ensures faults { F.faults files.old ≤ F.faults files.new }
@@ -46,7 +47,8 @@ pub fn load_rules<'a, F: Files>(
     files: &mut F,
     name: &'a Text,
 ) -> Result<Rules, Fault<'a>>
-    ensures loads { Loads (F.held files.old) name.now RULES_LIMIT (F.faults files.old) (F.faults files.new) FindsRules IsRulesFault result }
+    ensures loads { Loads (F.held files.old) name.now RULES_LIMIT (F.faults files.old)
+        (F.faults files.new) FindsRules IsRulesFault result }
     ensures missed { MissesNamed (F.missed files.old) (F.missed files.new) result }
     ensures held { F.held files.new ≡ F.held files.old }
     ensures faults { F.faults files.old ≤ F.faults files.new }
@@ -81,7 +83,8 @@ pub fn load_next<'a, F: Files>(
     files: &mut F,
     name: &'a Text,
 ) -> Result<Rules, Fault<'a>>
-    ensures loads { Loads (F.held files.old) name.now RULES_LIMIT (F.faults files.old) (F.faults files.new) FindsRules IsNextFault result }
+    ensures loads { Loads (F.held files.old) name.now RULES_LIMIT (F.faults files.old)
+        (F.faults files.new) FindsRules IsNextFault result }
     ensures missed { MissesNamed (F.missed files.old) (F.missed files.new) result }
     ensures held { F.held files.new ≡ F.held files.old }
     ensures faults { F.faults files.old ≤ F.faults files.new }
@@ -98,7 +101,8 @@ pub fn load_keys<'a, F: Files>(
     files: &mut F,
     name: &'a Text,
 ) -> Result<Keys, Fault<'a>>
-    ensures loads { Loads (F.held files.old) name.now FILE_LIMIT (F.faults files.old) (F.faults files.new) FindsKeys IsKeysFault result }
+    ensures loads { Loads (F.held files.old) name.now FILE_LIMIT (F.faults files.old)
+        (F.faults files.new) FindsKeys IsKeysFault result }
     ensures missed { MissesNamed (F.missed files.old) (F.missed files.new) result }
     ensures held { F.held files.new ≡ F.held files.old }
     ensures faults { F.faults files.old ≤ F.faults files.new }
@@ -117,7 +121,8 @@ pub fn load_asker<'a, F: Files>(
     files: &mut F,
     name: &'a Text,
 ) -> Result<Asker, Fault<'a>>
-    ensures loads { Loads (F.held files.old) name.now FILE_LIMIT (F.faults files.old) (F.faults files.new) FindsAsker IsClaimsFault result }
+    ensures loads { Loads (F.held files.old) name.now FILE_LIMIT (F.faults files.old)
+        (F.faults files.new) FindsAsker IsClaimsFault result }
     ensures missed { MissesNamed (F.missed files.old) (F.missed files.new) result }
     ensures held { F.held files.new ≡ F.held files.old }
     ensures faults { F.faults files.old ≤ F.faults files.new }

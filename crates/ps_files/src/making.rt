@@ -40,7 +40,8 @@ pub fn made_count(word: &Text) -> Option<u32>
 // Prints the line of a transaction.
 fn push_line(alloc: Global, out: &mut Vec<u8>, transaction: &Transaction) -> Result<(), Memory>
     requires { IsWritable transaction.now }
-    ensures { OnOk result (out.new.items ≡ out.old.items ++ (line_text transaction.now ++ codes "\n")) }
+    ensures { OnOk result (out.new.items
+        ≡ out.old.items ++ (line_text transaction.now ++ codes "\n")) }
 {
     let line = write_line(alloc, transaction)?;
     out.extend_from_slice(line.as_slice())?;

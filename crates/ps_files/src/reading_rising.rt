@@ -45,7 +45,8 @@ pub fn load_rising<'a, F: Files>(
     files: &mut F,
     name: &'a Text,
 ) -> Result<Vec<Transaction>, Fault<'a>>
-    ensures loads { Loads (F.held files.old) name.now FILE_LIMIT (F.faults files.old) (F.faults files.new) FindsRising IsRisingFault result }
+    ensures loads { Loads (F.held files.old) name.now FILE_LIMIT (F.faults files.old)
+        (F.faults files.new) FindsRising IsRisingFault result }
     ensures missed { MissesNamed (F.missed files.old) (F.missed files.new) result }
     ensures held { F.held files.new ≡ F.held files.old }
     ensures faults { F.faults files.old ≤ F.faults files.new }

@@ -10,7 +10,8 @@ use ps_io::Sink;
 
 // Writes the pieces of a line to standard error, one after another; where that fails, nothing more is done.
 fn tell<E: Sink>(err: &mut E, pieces: &[&str])
-    ensures { Tells (E.taken err.old) (E.taken err.new) (E.faults err.old) (E.faults err.new) (joined pieces.now) }
+    ensures { Tells (E.taken err.old) (E.taken err.new) (E.faults err.old)
+        (E.faults err.new) (joined pieces.now) }
 {
     'pieces: for piece in pieces {
         match err.write(piece.as_bytes()) {
@@ -22,14 +23,16 @@ fn tell<E: Sink>(err: &mut E, pieces: &[&str])
 
 // Writes a line that is a constant.
 fn tell_line<E: Sink>(err: &mut E, line: &str)
-    ensures { Tells (E.taken err.old) (E.taken err.new) (E.faults err.old) (E.faults err.new) line.now }
+    ensures { Tells (E.taken err.old) (E.taken err.new) (E.faults err.old)
+        (E.faults err.new) line.now }
 {
     tell(err, &[line]);
 }
 
 // Writes a line with a number in it.
 fn tell_number<E: Sink>(err: &mut E, front: &str, number: u64, back: &str)
-    ensures { Tells (E.taken err.old) (E.taken err.new) (E.faults err.old) (E.faults err.new) (front.now ++ (decimal number ++ back.now)) }
+    ensures { Tells (E.taken err.old) (E.taken err.new) (E.faults err.old) (E.faults err.new)
+        (front.now ++ (decimal number ++ back.now)) }
 {
     let mut digits = Buffer::new();
     let number = digits.format(number);
@@ -63,7 +66,8 @@ fn tell_not_rising<E: Sink>(err: &mut E, line: u64, last: u64, given: u64)
 
 // Writes the line of a fault of a change line.
 fn tell_change<E: Sink>(err: &mut E, line: u64, why: LineFault)
-    ensures { Tells (E.taken err.old) (E.taken err.new) (E.faults err.old) (E.faults err.new) (fault_line (Fault.Change line why)) }
+    ensures { Tells (E.taken err.old) (E.taken err.new) (E.faults err.old) (E.faults err.new)
+        (fault_line (Fault.Change line why)) }
 {
     match why {
         LineFault::BadJson => tell_number(err, "powersync: change ", line, " bad-json\n"),
@@ -79,7 +83,8 @@ fn tell_change<E: Sink>(err: &mut E, line: u64, why: LineFault)
 
 // Writes the line of a limit that a change line passes.
 fn tell_limit<E: Sink>(err: &mut E, limit: Limit)
-    ensures { Tells (E.taken err.old) (E.taken err.new) (E.faults err.old) (E.faults err.new) (fault_line (Fault.PastLimit limit)) }
+    ensures { Tells (E.taken err.old) (E.taken err.new) (E.faults err.old) (E.faults err.new)
+        (fault_line (Fault.PastLimit limit)) }
 {
     match limit {
         Limit::LineBytes { length } => {
@@ -128,7 +133,8 @@ fn rules_front(file: RulesFile) -> &'static str
 
 // Writes the line of a fault of a rules file.
 fn tell_rules<E: Sink>(err: &mut E, file: RulesFile, line: u32, column: u32, why: RulesCause)
-    ensures { Tells (E.taken err.old) (E.taken err.new) (E.faults err.old) (E.faults err.new) (fault_line (Fault.Rules file line column why)) }
+    ensures { Tells (E.taken err.old) (E.taken err.new) (E.faults err.old) (E.faults err.new)
+        (fault_line (Fault.Rules file line column why)) }
 {
     let front = rules_front(file);
     let (kind, at) = cause_parts(why);
@@ -148,7 +154,8 @@ fn tell_rules<E: Sink>(err: &mut E, file: RulesFile, line: u32, column: u32, why
 
 // Writes the line of a fault of a script's line.
 fn tell_script<E: Sink>(err: &mut E, line: u64, why: ScriptCause)
-    ensures { Tells (E.taken err.old) (E.taken err.new) (E.faults err.old) (E.faults err.new) (fault_line (Fault.Script line why)) }
+    ensures { Tells (E.taken err.old) (E.taken err.new) (E.faults err.old) (E.faults err.new)
+        (fault_line (Fault.Script line why)) }
 {
     match why {
         ScriptCause::BadEvent => tell_number(err, "powersync: script ", line, " bad-event\n"),
@@ -161,14 +168,16 @@ fn tell_script<E: Sink>(err: &mut E, line: u64, why: ScriptCause)
 
 // Writes the line of a file that cannot be read.
 fn tell_cannot_read<E: Sink>(err: &mut E, name: &str)
-    ensures { Tells (E.taken err.old) (E.taken err.new) (E.faults err.old) (E.faults err.new) (codes "powersync: cannot read " ++ (name.now ++ codes "\n")) }
+    ensures { Tells (E.taken err.old) (E.taken err.new) (E.faults err.old) (E.faults err.new)
+        (codes "powersync: cannot read " ++ (name.now ++ codes "\n")) }
 {
     tell(err, &["powersync: cannot read ", name, "\n"]);
 }
 
 /// Says a fault on standard error, and answers its status: docs/FORMATS.md, "Fault texts". Takes no memory.
 pub fn say<E: Sink>(err: &mut E, fault: &Fault<'_>) -> u8
-    ensures { SaysFault (record { old = E.taken err.old; new = E.taken err.new; before = E.faults err.old; now = E.faults err.new }) fault.now result }
+    ensures { SaysFault (record { old = E.taken err.old; new = E.taken err.new; before = E.faults
+        err.old; now = E.faults err.new }) fault.now result }
 {
     match fault {
         Fault::Usage => {

@@ -26,7 +26,8 @@ fn add_on(
     id: &Text,
     row: &Row,
 ) -> Result<(), Memory>
-    ensures { OnOk result (Gains vectors.old vectors.new (vectors_on names.now asker.now query.now (at_row id.now row.now))) }
+    ensures { OnOk result (Gains vectors.old vectors.new
+        (vectors_on names.now asker.now query.now (at_row id.now row.now))) }
 {
     match vector_on(alloc, names, query, asker, id, row)? {
         Some(values) => vectors.insert(values.into_vec()),
@@ -45,7 +46,8 @@ fn add_from(
     rows: &Live,
 ) -> Result<(), Memory>
     ensures { OnOk result (Gains vectors.old vectors.new
-        (flat_map (vectors_on names.now asker.now query.now) (filter (λ (r : SourceRow). bytes_eq r.table table.now) (rows_in (kept_rows rows.now))))) }
+        (flat_map (vectors_on names.now asker.now query.now)
+        (filter (λ (r : SourceRow). bytes_eq r.table table.now) (rows_in (kept_rows rows.now))))) }
 {
     'rows: for (key, version) in rows.iter() {
         if !key.0.equals(table) {
@@ -65,7 +67,8 @@ fn add_query(
     asker: &Asker,
     rows: &Live,
 ) -> Result<(), Memory>
-    ensures { OnOk result (Gains vectors.old vectors.new (query_vectors names.now asker.now (rows_in (kept_rows rows.now)) query.now)) }
+    ensures { OnOk result (Gains vectors.old vectors.new
+        (query_vectors names.now asker.now (rows_in (kept_rows rows.now)) query.now)) }
 {
     match &query.table {
         Some(table) => add_from(alloc, vectors, names, query, table, asker, rows),
@@ -86,7 +89,8 @@ fn add_queries(
     asker: &Asker,
     rows: &Live,
 ) -> Result<(), Memory>
-    ensures { OnOk result (Gains vectors.old vectors.new (flat_map (query_vectors names.now asker.now (rows_in (kept_rows rows.now))) queries.now)) }
+    ensures { OnOk result (Gains vectors.old vectors.new
+        (flat_map (query_vectors names.now asker.now (rows_in (kept_rows rows.now))) queries.now)) }
 {
     'queries: for query in queries {
         add_query(alloc, vectors, names, query, asker, rows)?;
@@ -102,7 +106,8 @@ pub(crate) fn vectors_of(
     asker: &Asker,
     rows: &Live,
 ) -> Result<VectorSet, Memory>
-    ensures { IfOk result (λ vectors. HaveSame vectors (parameter_vectors definition.now asker.now (rows_in (kept_rows rows.now)))) }
+    ensures { IfOk result (λ vectors. HaveSame vectors
+        (parameter_vectors definition.now asker.now (rows_in (kept_rows rows.now)))) }
 {
     let mut vectors = VectorSet::new(alloc);
     if definition.parameters.is_empty() {

@@ -30,7 +30,9 @@ fn all_hold(
     id: &Text,
     row: &Row,
 ) -> Result<bool, Memory>
-    ensures { IfOk result (λ held. held ≡ list_all (λ (e : ExprData). holds_for (without_bucket asker.now id.now row.now) (Some e)) all.now) }
+    ensures { IfOk result (λ held. held
+        ≡ list_all (λ (e : ExprData). holds_for (without_bucket asker.now id.now row.now) (Some e))
+        all.now) }
 {
     'all: for one in all {
         if !holds(alloc, one, asker, id, row)? {
@@ -42,7 +44,8 @@ fn all_hold(
 
 // Whether one of the listed vectors is allowed by all matches, and known.
 fn any_known(vectors: &VectorSet, names: &[Text], all: &[Allowed], listed: &[Items<Value>]) -> bool
-    ensures { result ≡ list_any (λ v. list_any (is_same v) vectors.now && all_allow names.now all.now v) listed.now }
+    ensures { result ≡ list_any (λ v.
+        list_any (is_same v) vectors.now && all_allow names.now all.now v) listed.now }
 {
     'listed: for vector in listed {
         if vectors.has(vector.as_slice()) && allow(names, all, vector.as_slice()) {
@@ -85,7 +88,9 @@ fn branch_is_met(
     requires long { AreAsLong names.now vectors.now }
     requires differ { has_repeated names.now ≡ false }
     requires unbound { IsUnbound branch.now }
-    ensures { IfOk result (λ met. met ≡ list_any (λ vector. meets (given_for asker.now names.now (at_row id.now row.now) vector) branch.now) vectors.now) }
+    ensures { IfOk result (λ met. met
+        ≡ list_any (λ vector. meets (given_for asker.now names.now (at_row id.now row.now) vector)
+        branch.now) vectors.now) }
 {
     equal_where_both_are_present();
     same_for_every_bucket();
@@ -109,7 +114,9 @@ fn some_branch_is_met(
     requires long { AreAsLong names.now vectors.now }
     requires differ { has_repeated names.now ≡ false }
     requires unbound { AllByRecursion IsUnbound branches.now }
-    ensures { IfOk result (λ met. met ≡ list_any (λ vector. meets_some (given_for asker.now names.now (at_row id.now row.now) vector) branches.now) vectors.now) }
+    ensures { IfOk result (λ met. met
+        ≡ list_any (λ vector. meets_some
+        (given_for asker.now names.now (at_row id.now row.now) vector) branches.now) vectors.now) }
 {
     'branches: for branch in branches {
         if branch_is_met(alloc, branch, vectors, names, asker, id, row)? {
@@ -132,7 +139,9 @@ pub(crate) fn holds_for_a_vector(
     requires long { AreAsLong names.now vectors.now }
     requires differ { has_repeated names.now ≡ false }
     requires sound { IsSoundQuery names.now planned.now }
-    ensures { IfOk result (λ held. held ≡ holds_for_some asker.now names.now vectors.now planned.now.query (at_row id.now row.now)) }
+    ensures { IfOk result (λ held. held
+        ≡ holds_for_some asker.now names.now vectors.now planned.now.query
+        (at_row id.now row.now)) }
 {
     conditions_hold_where_a_branch_is_met();
     spread_as_written();

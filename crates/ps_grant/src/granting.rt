@@ -27,7 +27,8 @@ fn copy_on(
     key: &(Text, Text),
     version: &Version,
 ) -> Result<Option<Granted>, Memory>
-    ensures { IfOk result (λ copy. copy ≡ copy_of asker.now planned.now (key.now, version_of version.now)) }
+    ensures { IfOk result (λ copy.
+        copy ≡ copy_of asker.now planned.now (key.now, version_of version.now)) }
 {
     let Some(id) = object_id(alloc, &planned.query, asker, &key.1, &version.row)? else {
         return Ok(None);
@@ -56,7 +57,8 @@ fn grant_on(
     requires long { AreAsLong names.now vectors.now }
     requires differ { has_repeated names.now ≡ false }
     requires sound { IsSoundQuery names.now planned.now }
-    ensures { IfOk result (λ copy. copy ≡ grant_of asker.now names.now vectors.now planned.now (key.now, version_of version.now)) }
+    ensures { IfOk result (λ copy. copy
+        ≡ grant_of asker.now names.now vectors.now planned.now (key.now, version_of version.now)) }
 {
     if !key.0.equals(&planned.query.table) {
         return Ok(None);
@@ -80,7 +82,9 @@ fn grant_query(
     requires long { AreAsLong names.now vectors.now }
     requires differ { has_repeated names.now ≡ false }
     requires sound { IsSoundQuery names.now planned.now }
-    ensures { OnOk result (copies.new ≡ copies.old ++ granted_by_query asker.now names.now vectors.now (kept_rows rows.now) planned.now) }
+    ensures { OnOk result (copies.new
+        ≡ copies.old
+        ++ granted_by_query asker.now names.now vectors.now (kept_rows rows.now) planned.now) }
 {
     'rows: for (key, version) in rows.iter() {
         let Some(copy) = grant_on(alloc, planned, vectors, names, asker, key, version)? else {
@@ -104,7 +108,10 @@ fn grant_queries(
     requires long { AreAsLong names.now vectors.now }
     requires differ { has_repeated names.now ≡ false }
     requires sound { AllByRecursion (IsSoundQuery names.now) queries.now }
-    ensures { OnOk result (copies.new ≡ copies.old ++ flat_map (granted_by_query asker.now names.now vectors.now (kept_rows rows.now)) queries.now) }
+    ensures { OnOk result (copies.new
+        ≡ copies.old
+        ++ flat_map (granted_by_query asker.now names.now vectors.now (kept_rows rows.now))
+        queries.now) }
 {
     'queries: for planned in queries {
         grant_query(alloc, copies, planned, vectors, names, asker, rows)?;
@@ -121,7 +128,8 @@ fn grant_definition(
     rows: &Live,
 ) -> Result<(), Memory>
     requires { IsSound definition.now }
-    ensures { OnOk result (copies.new ≡ copies.old ++ granted_by asker.now (kept_rows rows.now) definition.now) }
+    ensures { OnOk result (copies.new
+        ≡ copies.old ++ granted_by asker.now (kept_rows rows.now) definition.now) }
 {
     let vectors = vectors_of(alloc, definition, asker, rows)?;
     grant_queries(

@@ -31,7 +31,8 @@ pub(crate) fn allowed_by_all(
     id: &Text,
     row: &Row,
 ) -> Result<Items<Allowed>, Memory>
-    ensures { IfOk result (λ all. all ≡ map (allowed_by (without_bucket asker.now id.now row.now)) matches.now) }
+    ensures { IfOk result (λ all.
+        all ≡ map (allowed_by (without_bucket asker.now id.now row.now)) matches.now) }
 {
     let mut all = Items::new(alloc);
     'matches: for one in matches {
@@ -47,7 +48,8 @@ fn allowed_by_one(
     id: &Text,
     row: &Row,
 ) -> Result<Allowed, Memory>
-    ensures { IfOk result (λ allowed. allowed ≡ allowed_by (without_bucket asker.now id.now row.now) one.now) }
+    ensures { IfOk result (λ allowed.
+        allowed ≡ allowed_by (without_bucket asker.now id.now row.now) one.now) }
 {
     let other = eval_without_bucket(alloc, &one.other, asker, id, row)?;
     let name = one.name.copy(alloc)?;
@@ -74,7 +76,8 @@ fn is_one_of(value: &Value, allowed: &[Value]) -> bool
 
 // The value of a parameter in a vector; none where the vector has none.
 fn value_at<'a>(names: &[Text], vector: &'a [Value], name: &Text) -> Option<&'a Value>
-    ensures { unwrap_or (option_map (λ value. value.now) result) Null ≡ vector_at names.now vector.now name.now }
+    ensures { unwrap_or (option_map (λ value. value.now) result) Null
+        ≡ vector_at names.now vector.now name.now }
 {
     let [first, others @ ..] = names else {
         return None;
@@ -176,7 +179,8 @@ fn extend_one(
     front: &[Value],
     values: &[Value],
 ) -> Result<(), Memory>
-    ensures { OnOk result (longer.new ≡ longer.old ++ map (λ value. front.now ++ value ∷ []) values.now) }
+    ensures { OnOk result (longer.new ≡ longer.old ++ map (λ value.
+        front.now ++ value ∷ []) values.now) }
 {
     'values: for value in values {
         let mut vector = copy_all(alloc, front)?;

@@ -39,7 +39,8 @@ impl SourceRows {
     /// Takes the changes of the next transaction, in order. Where memory is refused, it may have taken some of them. A transaction of
     /// 4294967296 changes or more is answered as out of memory.
     pub fn take(&mut self, alloc: Global, transaction: &Transaction) -> Result<(), Memory>
-        ensures { OnOk result (self.new ≡ after_changes transaction.now.position.0 0 transaction.now.changes self.old) }
+        ensures { OnOk result (self.new
+            ≡ after_changes transaction.now.position.0 0 transaction.now.changes self.old) }
     {
         take_changes(alloc, &mut self.live, transaction)
     }

@@ -58,7 +58,8 @@ pub(crate) fn take_changes(
     live: &mut Live,
     transaction: &Transaction,
 ) -> Result<(), Memory>
-    ensures { OnOk result (kept_rows live.new ≡ after_changes transaction.now.position.0 0 transaction.now.changes (kept_rows live.old)) }
+    ensures { OnOk result (kept_rows live.new
+        ≡ after_changes transaction.now.position.0 0 transaction.now.changes (kept_rows live.old)) }
 {
     let mut index = 0u32;
     'changes: for change in transaction.changes.as_slice() {
@@ -76,7 +77,9 @@ fn take_change(
     index: u32,
     change: &Change,
 ) -> Result<(), Memory>
-    ensures { OnOk result (kept_rows live.new ≡ after_row position.0 index (change.now.table, change.now.id) change.now.row (kept_rows live.old)) }
+    ensures { OnOk result (kept_rows live.new
+        ≡ after_row position.0 index (change.now.table, change.now.id)
+        change.now.row (kept_rows live.old)) }
 {
     let key = (change.table.copy(alloc)?, change.id.copy(alloc)?);
     match &change.row {
@@ -101,7 +104,8 @@ fn take_change(
 
 // Takes out the row of a key, if it lives.
 fn take_out(live: &mut Live, key: &(Text, Text))
-    ensures { kept_rows live.new ≡ where_key key_cmp (λ other. not (eq_by_cmp key_cmp key.now other)) (kept_rows live.old) }
+    ensures { kept_rows live.new ≡ where_key key_cmp (λ other.
+        not (eq_by_cmp key_cmp key.now other)) (kept_rows live.old) }
 {
     let _ordered = live.len();
     let _was = live.remove(key);
@@ -109,7 +113,8 @@ fn take_out(live: &mut Live, key: &(Text, Text))
 
 // Puts a row under its key.
 fn put_in(live: &mut Live, key: (Text, Text), version: Version) -> Result<(), Memory>
-    ensures { OnOk result (kept_rows live.new ≡ put key_cmp key (version_of version) (kept_rows live.old)) }
+    ensures { OnOk result (kept_rows live.new
+        ≡ put key_cmp key (version_of version) (kept_rows live.old)) }
 {
     live.insert(key, version)?;
     Ok(())

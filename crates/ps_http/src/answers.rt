@@ -29,7 +29,8 @@ fn first_line(status: u16) -> &'static str
 
 // Adds a line and its end.
 fn push_line(text: &mut String, line: &str) -> Result<(), Memory>
-    ensures { OnOk result (string_bytes text.new ≡ string_bytes text.old ++ (line.now ++ line_end)) }
+    ensures { OnOk result (string_bytes text.new
+        ≡ string_bytes text.old ++ (line.now ++ line_end)) }
 {
     text.push_str(line)?;
     text.push_str("\r\n")?;
@@ -38,7 +39,8 @@ fn push_line(text: &mut String, line: &str) -> Result<(), Memory>
 
 // Adds a text, a number and the end of the line.
 fn push_number(alloc: Global, text: &mut String, name: &str, number: u64) -> Result<(), Memory>
-    ensures { OnOk result (string_bytes text.new ≡ string_bytes text.old ++ (name.now ++ (decimal number ++ line_end))) }
+    ensures { OnOk result (string_bytes text.new
+        ≡ string_bytes text.old ++ (name.now ++ (decimal number ++ line_end))) }
 {
     text.push_str(name)?;
     let digits = format!(in alloc; "{number}")?;
@@ -85,7 +87,8 @@ fn push_body_fields(
     status: u16,
     length: Option<u64>,
 ) -> Result<(), Memory>
-    ensures { OnOk result (string_bytes text.new ≡ string_bytes text.old ++ body_fields status length) }
+    ensures { OnOk result (string_bytes text.new
+        ≡ string_bytes text.old ++ body_fields status length) }
 {
     let Some(length) = length else {
         push_stream(text)?;

@@ -53,7 +53,8 @@ impl From<AllocError> for BodyFault {
 
 // Fills the buffer with the next bytes of the source.
 fn fill<S: Source>(from: &mut S, into: &mut [u8]) -> Result<(), BodyFault>
-    ensures fills { Fills (S.input from.old) (S.input from.new) (S.faults from.old) (S.faults from.new) into.new result }
+    ensures fills { Fills (S.input from.old) (S.input from.new) (S.faults from.old)
+        (S.faults from.new) into.new result }
     ensures faults { S.faults from.old ≤ S.faults from.new }
     ensures number { S.number from.new ≡ S.number from.old }
 {
@@ -74,7 +75,8 @@ fn fill<S: Source>(from: &mut S, into: &mut [u8]) -> Result<(), BodyFault>
 /// The first fault that applies is answered, in the order in which `BodyFault` lists them; out of memory comes before any
 /// byte is read. After every answer the source has handed out a first part of what was left.
 pub fn read_body<S: Source>(alloc: Global, head: &Head, from: &mut S) -> Result<Vec<u8>, BodyFault>
-    ensures answer { ReadsBody head.now (S.input from.old) (S.input from.new) (S.faults from.old) (S.faults from.new) result }
+    ensures answer { ReadsBody head.now (S.input from.old) (S.input from.new) (S.faults from.old)
+        (S.faults from.new) result }
     ensures faults { S.faults from.old ≤ S.faults from.new }
     ensures number { S.number from.new ≡ S.number from.old }
 {

@@ -21,7 +21,8 @@ pub(crate) fn first_value<'b>(
     wanted: &[u8],
 ) -> Option<&'b [u8]>
     requires { All (IsHeaderWithin (length buffer.now)) headers.now }
-    ensures { option_copied result ≡ spec.first_value wanted.now (map (header_bytes buffer.now) headers.now) }
+    ensures { option_copied result
+        ≡ spec.first_value wanted.now (map (header_bytes buffer.now) headers.now) }
 {
     'headers: for header in headers {
         if is_named(header.name.of(buffer), wanted) {
@@ -76,7 +77,8 @@ fn writes(number: u64, value: &[u8]) -> bool
 // Whether each field of that name writes that number.
 fn all_write(buffer: &[u8], headers: &[HeaderSpan], wanted: &[u8], number: u64) -> bool
     requires { All (IsHeaderWithin (length buffer.now)) headers.now }
-    ensures { result ≡ spec.all_write wanted.now number (map (header_bytes buffer.now) headers.now) }
+    ensures { result ≡ spec.all_write wanted.now number
+        (map (header_bytes buffer.now) headers.now) }
 {
     'headers: for header in headers {
         if is_named(header.name.of(buffer), wanted) && !writes(number, header.value.of(buffer)) {

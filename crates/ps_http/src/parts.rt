@@ -66,7 +66,8 @@ pub(crate) fn read_parts(
 ) -> Result<Head, HeadFault>
     requires { All (IsHeaderWithin (length buffer.now)) headers.now }
     ensures { (request : RequestHead) → request.method ≡ method.now → request.target ≡ target.now
-        → fields_of request ≡ map (header_bytes buffer.now) headers.now → IsReadFrom request result }
+        → fields_of request ≡ map (header_bytes buffer.now) headers.now
+        → IsReadFrom request result }
 {
     let (path, query) = split_target(target);
     let Some(length) = stated_length(buffer, headers) else {

@@ -23,7 +23,8 @@ pub(crate) enum Next {
 
 // The next byte of a source.
 fn next_byte<S: Source>(from: &mut S) -> Next
-    ensures next { IsNext (S.input from.old) (S.input from.new) (S.faults from.old) (S.faults from.new) result }
+    ensures next { IsNext (S.input from.old) (S.input from.new) (S.faults from.old)
+        (S.faults from.new) result }
     ensures faults { S.faults from.old ≤ S.faults from.new }
     ensures number { S.number from.new ≡ S.number from.old }
 {
@@ -99,7 +100,8 @@ fn refusal(bytes: &[u8], otherwise: HeadFault) -> HeadFault
 /// ended, `ReadFault` where the source failed, `HeadTooLong` where no head ended within 16,384 bytes, and `Memory`.
 /// Empty lines before the first line are skipped (RFC 9112, section 2.2).
 pub fn read_head<S: Source>(alloc: Global, from: &mut S) -> Result<Head, HeadFault>
-    ensures answer { Reads (S.input from.old) (S.input from.new) (S.faults from.old) (S.faults from.new) result }
+    ensures answer { Reads (S.input from.old) (S.input from.new) (S.faults from.old)
+        (S.faults from.new) result }
     ensures faults { S.faults from.old ≤ S.faults from.new }
     ensures number { S.number from.new ≡ S.number from.old }
 {

@@ -20,8 +20,10 @@ pub(crate) fn of_upload(
     changes: &Items<Change>,
 ) -> Result<Vec<u8>, Memory>
     requires { IsWritable (record { position = position; changes = changes.now }) }
-    ensures value { IfOk result (λ body. body.items ≡ body_of (records.Upload position changes.now)) }
-    ensures read_again { IfOk result (λ body. record_of body.items ≡ Some (records.Upload position changes.now)) }
+    ensures value { IfOk result (λ body.
+        body.items ≡ body_of (records.Upload position changes.now)) }
+    ensures read_again { IfOk result (λ body.
+        record_of body.items ≡ Some (records.Upload position changes.now)) }
 {
     let json = upload_json(alloc, position, changes)?;
     Ok(json.to_vec(alloc)?)
@@ -36,8 +38,10 @@ pub(crate) fn of_number(
 ) -> Result<Vec<u8>, Memory>
     requires number { number ≤ greatest }
     requires head { head.0 ≤ greatest }
-    ensures value { IfOk result (λ body. body.items ≡ body_of (records.Number user.now client.now number head)) }
-    ensures read_again { IfOk result (λ body. record_of body.items ≡ Some (records.Number user.now client.now number head)) }
+    ensures value { IfOk result (λ body.
+        body.items ≡ body_of (records.Number user.now client.now number head)) }
+    ensures read_again { IfOk result (λ body.
+        record_of body.items ≡ Some (records.Number user.now client.now number head)) }
 {
     decimals_read_back();
     let json = number_record(alloc, user, client, number, head)?;
@@ -46,8 +50,10 @@ pub(crate) fn of_number(
 
 fn upload_json(alloc: Global, position: Position, changes: &Items<Change>) -> Result<Json, Memory>
     requires { IsWritable (record { position = position; changes = changes.now }) }
-    ensures value { IfOk result (λ json. view json ≡ record_json (records.Upload position changes.now)) }
-    ensures read_again { IfOk result (λ json. record_in (view json) ≡ Some (records.Upload position changes.now)) }
+    ensures value { IfOk result (λ json.
+        view json ≡ record_json (records.Upload position changes.now)) }
+    ensures read_again { IfOk result (λ json.
+        record_in (view json) ≡ Some (records.Upload position changes.now)) }
     ensures plain { IfOk result (λ json. has_float (view json) ≡ false) }
     ensures shallow { IfOk result (λ json. depth (view json) ≤ 5) }
 {
@@ -64,7 +70,8 @@ fn number_record(
     number: u64,
     head: Position,
 ) -> Result<Json, Memory>
-    ensures { IfOk result (λ json. view json ≡ record_json (records.Number user.now client.now number head)) }
+    ensures { IfOk result (λ json.
+        view json ≡ record_json (records.Number user.now client.now number head)) }
 {
     let number = number_object(alloc, user, client, number, head)?;
     let mut members = Map::new(alloc);

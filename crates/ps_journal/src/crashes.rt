@@ -8,8 +8,10 @@ use std::alloc::Global;
 
 // Whether the place lies in the span.
 fn covers(span: &Span, place: u64) -> bool
-    ensures inside { result ≡ true → (span.now.at ≤ place) × (place < span.now.at + span.now.count) }
-    ensures outside { result ≡ false → (place < span.now.at) ⊎ (span.now.at + span.now.count ≤ place) }
+    ensures inside { result ≡ true
+        → (span.now.at ≤ place) × (place < span.now.at + span.now.count) }
+    ensures outside { result ≡ false
+        → (place < span.now.at) ⊎ (span.now.at + span.now.count ≤ place) }
 {
     if place < span.at {
         return false;
@@ -33,7 +35,8 @@ fn is_apart(place: u64, spans: &[Span]) -> bool
 #[tactic(auto, using(crate::proofs::Spans::furthest_at))]
 fn longest_left(moment: &Moment) -> u64
     ensures most { result ≤ furthest (length moment.now.sure) moment.now.spans }
-    ensures least { min (furthest (length moment.now.sure) moment.now.spans) 18446744073709551615 ≤ result }
+    ensures least { min (furthest (length moment.now.sure) moment.now.spans) 18446744073709551615
+        ≤ result }
 {
     let mut longest = moment.sure.len() as u64;
     'spans: for span in moment.spans.as_slice() {
@@ -50,8 +53,10 @@ pub fn left_by_crash(
     bytes: &[u8],
 ) -> Result<Option<Vec<u8>>, Memory>
     ensures left { IfOk result (λ found. IfSome found (λ left. MayLeave moment.now left.items)) }
-    ensures itself { IfOk result (λ found. MayLeave moment.now bytes.now → IfSome found (λ left. left.items ≡ bytes.now)) }
-    ensures none { IfOk result (λ found. found ≡ None → IsOfNoLength moment.now (length bytes.now)) }
+    ensures itself { IfOk result (λ found.
+        MayLeave moment.now bytes.now → IfSome found (λ left. left.items ≡ bytes.now)) }
+    ensures none { IfOk result (λ found.
+        found ≡ None → IsOfNoLength moment.now (length bytes.now)) }
 {
     let sure = moment.sure.as_slice();
     if bytes.len() < sure.len() || bytes.len() as u64 > longest_left(moment) {

@@ -24,7 +24,8 @@ pub trait Disk {
     /// `Failed` comes only where the count of faults rose in this call; `TooLong` exactly where there are more than `limit` bytes,
     /// and says how many, where the disk tells. Each other answer leaves the count as it was.
     fn read_all(&mut self, alloc: Global, limit: u64) -> Result<Vec<u8>, DiskFault>
-        ensures answer { ReadsDisk (told self.old) limit (faults self.old) (faults self.new) result }
+        ensures answer { ReadsDisk (told self.old) limit (faults self.old)
+            (faults self.new) result }
         ensures told { told self.new ≡ told self.old }
         ensures faults { faults self.old ≤ faults self.new }
         ensures quiet { result ≢ Err DiskFault.Failed → faults self.new ≡ faults self.old };
@@ -34,7 +35,8 @@ pub trait Disk {
     fn write_at(&mut self, at: u64, bytes: &[u8]) -> Result<(), Failed>
         requires { ForSome (told self.old) (λ known. at ≤ length known.content) }
         ensures ok { OnOk result (told self.new ≡ option_map (wrote at bytes.now) (told self.old)) }
-        ensures err { OnErr result (FailsToWrite at (length bytes.now) (told self.old) (told self.new)) }
+        ensures err { OnErr result
+            (FailsToWrite at (length bytes.now) (told self.old) (told self.new)) }
         ensures failed { OnErr result (Rose (faults self.old) (faults self.new)) }
         ensures faults { faults self.old ≤ faults self.new }
         ensures quiet { OnOk result (faults self.new ≡ faults self.old) };
@@ -81,7 +83,8 @@ pub trait Disks {
     /// Takes a disk back that `open` gave. The count of faults rises exactly where the disk's own has risen since it was opened.
     fn close(&mut self, disk: Self::D)
         ensures held { held self.new ≡ Self.D.told disk }
-        ensures failed { began self.old < Self.D.faults disk → Rose (faults self.old) (faults self.new) }
+        ensures failed { began self.old < Self.D.faults disk
+            → Rose (faults self.old) (faults self.new) }
         ensures faults { faults self.old ≤ faults self.new }
         ensures quiet { Self.D.faults disk ≤ began self.old → faults self.new ≡ faults self.old };
 

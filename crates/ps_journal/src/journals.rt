@@ -51,15 +51,19 @@ impl<D: Disk> Journal<D> {
     pub fn open(alloc: Global, disk: D) -> Result<(Journal<D>, Vec<Record>), (D, OpenFault)>
         ensures keeps { IfOk result (λ opened. Keeps D.told opened.0 opened.1.items []) }
         ensures valid { IfOk result (λ opened. All IsRecord opened.1.items) }
-        ensures reads { IfOk result (λ opened. IfSome (D.told disk) (λ known. Opens known.content (Ok opened.1.items))) }
-        ensures refuses { IfErr result (λ refused. IfSome (D.told disk) (λ known. Opens known.content (Err refused.1))) }
+        ensures reads { IfOk result (λ opened.
+            IfSome (D.told disk) (λ known. Opens known.content (Ok opened.1.items))) }
+        ensures refuses { IfErr result (λ refused.
+            IfSome (D.told disk) (λ known. Opens known.content (Err refused.1))) }
         ensures made { IfOk result (λ opened. IsMade (D.told disk) (D.told (disk_of opened.0))) }
         ensures crash { IfOk result (λ opened. Reopens (D.told disk) (D.told (disk_of opened.0))) }
         ensures crash_refused { IfErr result (λ refused. Reopens (D.told disk) (D.told refused.0)) }
-        ensures failed { IfErr result (λ refused. refused.1 ≡ OpenFault.Failed → Rose (D.faults disk) (D.faults refused.0)) }
+        ensures failed { IfErr result (λ refused.
+            refused.1 ≡ OpenFault.Failed → Rose (D.faults disk) (D.faults refused.0)) }
         ensures faults { IfErr result (λ refused. D.faults disk ≤ D.faults refused.0) }
         ensures quiet { IfOk result (λ opened. D.faults (disk_of opened.0) ≡ D.faults disk) }
-        ensures quiet_refused { IfErr result (λ refused. refused.1 ≢ OpenFault.Failed → D.faults refused.0 ≡ D.faults disk) }
+        ensures quiet_refused { IfErr result (λ refused.
+            refused.1 ≢ OpenFault.Failed → D.faults refused.0 ≡ D.faults disk) }
     {
         let mut disk = disk;
         match load(alloc, &mut disk) {
@@ -76,11 +80,16 @@ impl<D: Disk> Journal<D> {
 
     // Shuts a gate that may be open on the disk.
     fn settle(&mut self) -> Result<(), Failed>
-        ensures ok { OnOk result ((bodies others : List (List ℕ)) → Stands (D.told self.old.0) self.old.1 bodies others → Stands (D.told self.new.0) self.new.1 bodies []) }
+        ensures ok { OnOk result ((bodies others : List (List ℕ))
+            → Stands (D.told self.old.0) self.old.1 bodies others
+            → Stands (D.told self.new.0) self.new.1 bodies []) }
         ensures closed { OnOk result (self.new.1.standing ≡ Standing.Closed) }
-        ensures err { OnErr result ((bodies others : List (List ℕ)) → Stands (D.told self.old.0) self.old.1 bodies others → Stands (D.told self.new.0) self.new.1 bodies others) }
+        ensures err { OnErr result
+            ((bodies others : List (List ℕ)) → Stands (D.told self.old.0) self.old.1 bodies others
+            → Stands (D.told self.new.0) self.new.1 bodies others) }
         ensures end { self.new.1.end ≡ self.old.1.end }
-        ensures crash { (bodies others : List (List ℕ)) → Stands (D.told self.old.0) self.old.1 bodies others
+        ensures crash { (bodies others : List (List ℕ))
+            → Stands (D.told self.old.0) self.old.1 bodies others
             → Throughout (LeavesBodies bodies others) (D.told self.old.0) (D.told self.new.0) }
         ensures failed { OnErr result (Rose (D.faults self.old.0) (D.faults self.new.0)) }
         ensures faults { D.faults self.old.0 ≤ D.faults self.new.0 }
@@ -104,11 +113,16 @@ impl<D: Disk> Journal<D> {
     fn stage(&mut self, block: &[u8]) -> Result<(), Failed>
         requires closed { self.old.1.standing ≡ Standing.Closed }
         requires small { self.old.1.end + 1 + length block.now ≤ limit }
-        ensures ok { OnOk result ((bodies : List (List ℕ)) (body : List ℕ) → block.now ≡ framed body ++ 0 ∷ []
-            → Stands (D.told self.old.0) self.old.1 bodies [] → Stands (D.told self.new.0) self.new.1 bodies (body ∷ [])) }
+        ensures ok { OnOk result ((bodies : List (List ℕ)) (body : List ℕ)
+            → block.now ≡ framed body ++ 0 ∷ []
+            → Stands (D.told self.old.0) self.old.1 bodies []
+            → Stands (D.told self.new.0) self.new.1 bodies (body ∷ [])) }
         ensures ajar { OnOk result (self.new.1.standing ≡ Standing.Doubtful) }
-        ensures room { OnOk result (ForSome (D.told self.new.0) (λ known. self.old.1.end + 1 + length block.now ≤ length known.now.sure)) }
-        ensures err { OnErr result ((bodies : List (List ℕ)) → Stands (D.told self.old.0) self.old.1 bodies [] → Stands (D.told self.new.0) self.new.1 bodies []) }
+        ensures room { OnOk result (ForSome (D.told self.new.0) (λ known.
+            self.old.1.end + 1 + length block.now ≤ length known.now.sure)) }
+        ensures err { OnErr result
+            ((bodies : List (List ℕ)) → Stands (D.told self.old.0) self.old.1 bodies []
+            → Stands (D.told self.new.0) self.new.1 bodies []) }
         ensures end { self.new.1.end ≡ self.old.1.end }
         ensures crash { (bodies : List (List ℕ)) → Stands (D.told self.old.0) self.old.1 bodies []
             → Throughout (LeavesBodies bodies []) (D.told self.old.0) (D.told self.new.0) }
@@ -127,12 +141,18 @@ impl<D: Disk> Journal<D> {
         requires order { self.old.1.end < next }
         requires small { next < limit }
         requires room { ForSome (D.told self.old.0) (λ known. next < length known.now.sure) }
-        ensures ok { OnOk result ((bodies : List (List ℕ)) (body : List ℕ) → next ≡ self.old.1.end + 5 + length body
-            → Stands (D.told self.old.0) self.old.1 bodies (body ∷ []) → Stands (D.told self.new.0) self.new.1 (bodies ++ body ∷ []) []) }
-        ensures place { OnOk result (self.new.1 ≡ record { end = next; standing = Standing.Fresh self.old.1.end }) }
-        ensures err { OnErr result ((bodies others : List (List ℕ)) → Stands (D.told self.old.0) self.old.1 bodies others → Stands (D.told self.new.0) self.new.1 bodies others) }
+        ensures ok { OnOk result ((bodies : List (List ℕ)) (body : List ℕ)
+            → next ≡ self.old.1.end + 5 + length body
+            → Stands (D.told self.old.0) self.old.1 bodies (body ∷ [])
+            → Stands (D.told self.new.0) self.new.1 (bodies ++ body ∷ []) []) }
+        ensures place { OnOk result (self.new.1
+            ≡ record { end = next; standing = Standing.Fresh self.old.1.end }) }
+        ensures err { OnErr result
+            ((bodies others : List (List ℕ)) → Stands (D.told self.old.0) self.old.1 bodies others
+            → Stands (D.told self.new.0) self.new.1 bodies others) }
         ensures same { OnErr result (self.new.1 ≡ self.old.1) }
-        ensures crash { (bodies others : List (List ℕ)) → Stands (D.told self.old.0) self.old.1 bodies others
+        ensures crash { (bodies others : List (List ℕ))
+            → Stands (D.told self.old.0) self.old.1 bodies others
             → Throughout (LeavesBodies bodies others) (D.told self.old.0) (D.told self.new.0) }
         ensures failed { OnErr result (Rose (D.faults self.old.0) (D.faults self.new.0)) }
         ensures faults { D.faults self.old.0 ≤ D.faults self.new.0 }
@@ -154,19 +174,29 @@ impl<D: Disk> Journal<D> {
     /// `KeepFull` comes exactly where the journal would be too long, and `KeepFailed` only where the disk's count of faults rose.
     pub fn append(&mut self, alloc: Global, entry: &Record) -> Result<(), AppendFault>
         requires { IsRecord entry.now }
-        ensures ok { OnOk result ((records others : List Entry) → Keeps D.told self.old records others → Keeps D.told self.new (records ++ entry.now ∷ []) []) }
-        ensures written { OnOk result ((bodies others : List (List ℕ)) → Stands (D.told (disk_of self.old)) (place_of self.old) bodies others
-            → Stands (D.told (disk_of self.new)) (place_of self.new) (bodies ++ body_of entry.now ∷ []) []) }
-        ensures fresh { OnOk result ((last : ℕ) × ((place_of self.new).standing ≡ Standing.Fresh last)) }
-        ensures err { OnErr result ((records others : List Entry) → Keeps D.told self.old records others
-            → (left : List Entry) × Keeps D.told self.new records left × AreAmong (entry.now ∷ others) left) }
+        ensures ok { OnOk result ((records others : List Entry)
+            → Keeps D.told self.old records others
+            → Keeps D.told self.new (records ++ entry.now ∷ []) []) }
+        ensures written { OnOk result ((bodies others : List (List ℕ))
+            → Stands (D.told (disk_of self.old)) (place_of self.old) bodies others
+            → Stands (D.told (disk_of self.new)) (place_of self.new)
+            (bodies ++ body_of entry.now ∷ []) []) }
+        ensures fresh { OnOk result ((last : ℕ)
+            × ((place_of self.new).standing ≡ Standing.Fresh last)) }
+        ensures err { OnErr result
+            ((records others : List Entry) → Keeps D.told self.old records others
+            → (left : List Entry) × Keeps D.told self.new records left
+            × AreAmong (entry.now ∷ others) left) }
         ensures crash { (records others : List Entry) → Keeps D.told self.old records others
-            → Throughout (Leaves records (entry.now ∷ others)) (D.told (disk_of self.old)) (D.told (disk_of self.new)) }
+            → Throughout (Leaves records (entry.now ∷ others)) (D.told (disk_of self.old))
+            (D.told (disk_of self.new)) }
         ensures full { IsFullExactly (length_with (place_of self.old) entry.now) result }
         ensures same { result ≢ Err AppendFault.KeepFailed → OnErr result (self.new ≡ self.old) }
-        ensures failed { result ≡ Err AppendFault.KeepFailed → Rose (D.faults (disk_of self.old)) (D.faults (disk_of self.new)) }
+        ensures failed { result ≡ Err AppendFault.KeepFailed
+            → Rose (D.faults (disk_of self.old)) (D.faults (disk_of self.new)) }
         ensures faults { D.faults (disk_of self.old) ≤ D.faults (disk_of self.new) }
-        ensures quiet { result ≢ Err AppendFault.KeepFailed → D.faults (disk_of self.new) ≡ D.faults (disk_of self.old) }
+        ensures quiet { result ≢ Err AppendFault.KeepFailed
+            → D.faults (disk_of self.new) ≡ D.faults (disk_of self.old) }
     {
         let body = entry.body(alloc)?;
         let count = body.len() as u64;
@@ -185,7 +215,9 @@ impl<D: Disk> Journal<D> {
     /// Takes the last record back, which was acknowledged by the last call that changed the journal. It counts as not written.
     pub fn take_back(&mut self)
         requires { (last : ℕ) × ((place_of self.old).standing ≡ Standing.Fresh last) }
-        ensures keeps { (records others : List Entry) (entry : Entry) → Keeps D.told self.old (records ++ entry ∷ []) others → Keeps D.told self.new records (entry ∷ []) }
+        ensures keeps { (records others : List Entry) (entry : Entry)
+            → Keeps D.told self.old (records ++ entry ∷ []) others
+            → Keeps D.told self.new records (entry ∷ []) }
         ensures disk { disk_of self.new ≡ disk_of self.old }
     {
         if let Standing::Fresh { last } = self.place.standing {

@@ -99,7 +99,8 @@ fn settle(alloc: Global, told: &mut Told) -> Result<(), Memory>
 impl MemoryDisk {
     /// A disk on which these bytes stand. The calls whose numbers, from 1, are among `failing` fail.
     pub fn new(alloc: Global, content: Items<u8>, failing: Items<u64>) -> Result<MemoryDisk, Memory>
-        ensures told { IfOk result (λ disk. ⟦<MemoryDisk as Disk>⟧.told disk ≡ Some (record { content = content; now = settled content; past = [] })) }
+        ensures told { IfOk result (λ disk. ⟦<MemoryDisk as Disk>⟧.told disk
+            ≡ Some (record { content = content; now = settled content; past = [] })) }
         ensures faults { IfOk result (λ disk. ⟦<MemoryDisk as Disk>⟧.faults disk ≡ 0) }
         ensures calls { IfOk result (λ disk. Begins failing disk.calls) }
     {

@@ -29,7 +29,8 @@ impl MemoryDisks {
 
     /// Gives the disk back; None where it is out.
     pub fn into_disk(self) -> Option<MemoryDisk>
-        ensures { option_map (λ disk. ⟦<MemoryDisk as Disk>⟧.told disk) result ≡ option_map Some (⟦<MemoryDisks as Disks>⟧.held self) }
+        ensures { option_map (λ disk. ⟦<MemoryDisk as Disk>⟧.told disk) result
+            ≡ option_map Some (⟦<MemoryDisks as Disks>⟧.held self) }
     {
         let MemoryDisks {
             disk,

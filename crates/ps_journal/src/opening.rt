@@ -24,10 +24,12 @@ fn new_journal() -> [u8; 9]
 
 // All the bytes of a disk, once they are sure to stand there.
 fn fetch<D: Disk>(alloc: Global, disk: &mut D) -> Result<Vec<u8>, OpenFault>
-    ensures ok { IfOk result (λ content. IfSome (D.told disk.new) (λ known. content.items ≡ known.content)) }
+    ensures ok { IfOk result (λ content.
+        IfSome (D.told disk.new) (λ known. content.items ≡ known.content)) }
     ensures small { IfOk result (λ content. length content.items ≤ limit) }
     ensures synced { OnOk result (D.told disk.new ≡ option_map synced (D.told disk.old)) }
-    ensures err { IfErr result (λ fault. IfSome (D.told disk.old) (λ known. Opens known.content (Err fault))) }
+    ensures err { IfErr result (λ fault.
+        IfSome (D.told disk.old) (λ known. Opens known.content (Err fault))) }
     ensures crash { Reopens (D.told disk.old) (D.told disk.new) }
     ensures failed { result ≡ Err OpenFault.Failed → Rose (D.faults disk.old) (D.faults disk.new) }
     ensures faults { D.faults disk.old ≤ D.faults disk.new }
@@ -47,9 +49,11 @@ fn fetch<D: Disk>(alloc: Global, disk: &mut D) -> Result<Vec<u8>, OpenFault>
 // The records that stand on a disk, and the place of the gate that ends them. A disk with a few bytes is made a journal.
 pub(crate) fn load<D: Disk>(alloc: Global, disk: &mut D) -> Result<(u64, Vec<Record>), OpenFault>
     ensures valid { IfOk result (λ found. All IsRecord found.1.items) }
-    ensures ok { IfOk result (λ found. IsLoaded (D.told disk.old) (D.told disk.new) found.0 found.1.items) }
+    ensures ok { IfOk result (λ found.
+        IsLoaded (D.told disk.old) (D.told disk.new) found.0 found.1.items) }
     ensures made { OnOk result (IsMade (D.told disk.old) (D.told disk.new)) }
-    ensures err { IfErr result (λ fault. IfSome (D.told disk.old) (λ known. Opens known.content (Err fault))) }
+    ensures err { IfErr result (λ fault.
+        IfSome (D.told disk.old) (λ known. Opens known.content (Err fault))) }
     ensures crash { Reopens (D.told disk.old) (D.told disk.new) }
     ensures failed { result ≡ Err OpenFault.Failed → Rose (D.faults disk.old) (D.faults disk.new) }
     ensures faults { D.faults disk.old ≤ D.faults disk.new }

@@ -19,7 +19,8 @@ fn is_header(bytes: &[u8]) -> bool
 
 // The first body behind an open gate, and what stands behind it, where that is a gate at least.
 fn first_body(behind: &[u8]) -> Option<(&[u8], &[u8])>
-    ensures { MatchOption result (HasNoFrame behind.now) (λ found. (behind.now ≡ framed found.0.now ++ found.1.now) × (0 < length found.1.now)) }
+    ensures { MatchOption result (HasNoFrame behind.now) (λ found.
+        (behind.now ≡ framed found.0.now ++ found.1.now) × (0 < length found.1.now)) }
 {
     let [a, b, c, d, rest @ ..] = behind else {
         return None;

@@ -15,10 +15,13 @@ use std::alloc::Global;
 /// after an acknowledgement a crash leaves it.
 pub fn run_once<D: Disk>(alloc: Global, disk: D, entry: &Record) -> (D, bool)
     requires { IsRecord entry.now }
-    ensures crash { (known : Told) (records others : List Entry) → D.told disk ≡ Some known → Leaves records others known.now
+    ensures crash { (known : Told) (records others : List Entry) → D.told disk ≡ Some known
+        → Leaves records others known.now
         → Throughout (LeavesThen records others entry.now) (D.told disk) (D.told result.0) }
-    ensures kept { IsTrue result.1 → (known last : Told) (records others : List Entry) → D.told disk ≡ Some known → Leaves records others known.now → D.told result.0 ≡ Some last
-        → (extra : List Entry) × IsAtMostOneOf others extra × Leaves (records ++ extra ++ entry.now ∷ []) [] last.now }
+    ensures kept { IsTrue result.1 → (known last : Told) (records others : List Entry)
+        → D.told disk ≡ Some known → Leaves records others known.now → D.told result.0 ≡ Some last
+        → (extra : List Entry) × IsAtMostOneOf others extra
+        × Leaves (records ++ extra ++ entry.now ∷ []) [] last.now }
 {
     match Journal::open(alloc, disk) {
         Err((disk, _fault)) => (disk, false),

@@ -73,7 +73,8 @@ fn read_shaped(alloc: Global, json: &Json) -> Result<StreamBody, LineFault>
 
 fn read_positions(alloc: Global, json: &Json) -> Result<Items<Known>, LineFault>
     ensures exact { Reads result (positions_of (view json.now)) }
-    ensures distinct { IfOk result (λ positions. IsDistinct bytes_eq (map (λ known. known.bucket) positions)) }
+    ensures distinct { IfOk result (λ positions.
+        IsDistinct bytes_eq (map (λ known. known.bucket) positions)) }
     ensures within { IfOk result (λ positions. All (λ known. known.after.0 ≤ greatest) positions) }
 {
     let Some(list) = json.get("buckets").and_then(Json::as_array) else {

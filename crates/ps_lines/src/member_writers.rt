@@ -34,7 +34,8 @@ pub fn write_word(writer: &mut Writer, name: &str, word: &str) -> Result<(), Mem
 }
 
 pub fn write_number(writer: &mut Writer, name: &str, n: u64) -> Result<(), Memory>
-    ensures value { OnOk result (Adds writer.old writer.new (member_tokens (name.now, number (unsigned n)))) }
+    ensures value { OnOk result (Adds writer.old writer.new
+        (member_tokens (name.now, number (unsigned n)))) }
     ensures fits { n < 2 ^ 64 }
 {
     writer.key(name)?;
@@ -44,14 +45,16 @@ pub fn write_number(writer: &mut Writer, name: &str, n: u64) -> Result<(), Memor
 
 // A sum as a number, which has 32 bits.
 pub fn write_sum(writer: &mut Writer, name: &str, sum: Sum) -> Result<(), Memory>
-    ensures value { OnOk result (Adds writer.old writer.new (member_tokens (name.now, number (unsigned sum.0)))) }
+    ensures value { OnOk result (Adds writer.old writer.new
+        (member_tokens (name.now, number (unsigned sum.0)))) }
     ensures fits { sum.0 < 2 ^ 32 }
 {
     write_number(writer, name, u64::from(sum.0))
 }
 
 pub fn write_priority(writer: &mut Writer, name: &str, priority: u8) -> Result<(), Memory>
-    ensures { OnOk result (Adds writer.old writer.new (member_tokens (name.now, number (unsigned priority)))) }
+    ensures { OnOk result (Adds writer.old writer.new
+        (member_tokens (name.now, number (unsigned priority)))) }
 {
     write_number(writer, name, u64::from(priority))
 }
@@ -84,7 +87,8 @@ pub fn write_upload(writer: &mut Writer, number: Option<u64>) -> Result<(), Memo
 }
 
 pub fn write_texts(writer: &mut Writer, name: &str, texts: &[Text]) -> Result<(), Memory>
-    ensures { OnOk result (Adds writer.old writer.new (member_tokens (name.now, list_json string texts.now))) }
+    ensures { OnOk result (Adds writer.old writer.new
+        (member_tokens (name.now, list_json string texts.now))) }
 {
     writer.key(name)?;
     writer.begin_array()?;

@@ -25,7 +25,8 @@ impl Object {
 
     // With a value under a name.
     pub fn with(self, alloc: Global, name: &str, value: Json) -> Result<Object, Memory>
-        ensures { IfOk result (λ made. members_view made.members.entries ≡ put name.now (view value) (members_view self.members.entries)) }
+        ensures { IfOk result (λ made. members_view made.members.entries
+            ≡ put name.now (view value) (members_view self.members.entries)) }
     {
         let Object { mut members } = self;
         insert(&mut members, String::from_str(alloc, name)?, value)?;
@@ -33,7 +34,8 @@ impl Object {
     }
 
     pub fn with_text(self, alloc: Global, name: &str, text: &str) -> Result<Object, Memory>
-        ensures { IfOk result (λ made. members_view made.members.entries ≡ put name.now (string text.now) (members_view self.members.entries)) }
+        ensures { IfOk result (λ made. members_view made.members.entries
+            ≡ put name.now (string text.now) (members_view self.members.entries)) }
     {
         let text = Json::String(String::from_str(alloc, text)?);
         self.with(alloc, name, text)
@@ -41,7 +43,8 @@ impl Object {
 
     // With a number as its decimal text.
     pub fn with_decimal(self, alloc: Global, name: &str, n: u64) -> Result<Object, Memory>
-        ensures { IfOk result (λ made. members_view made.members.entries ≡ put name.now (string (decimal n)) (members_view self.members.entries)) }
+        ensures { IfOk result (λ made. members_view made.members.entries
+            ≡ put name.now (string (decimal n)) (members_view self.members.entries)) }
     {
         let text = Json::String(format!(in alloc; "{n}")?);
         self.with(alloc, name, text)

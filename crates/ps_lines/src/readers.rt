@@ -110,7 +110,8 @@ fn read_expires(json: &Json) -> Result<Line, LineFault>
 }
 
 fn read_shaped_checkpoint(alloc: Global, json: &Json) -> Result<Line, LineFault>
-    ensures { Reads result (shaped (is_checkpoint_shape (view json.now)) (checkpoint_of (view json.now))) }
+    ensures { Reads result
+        (shaped (is_checkpoint_shape (view json.now)) (checkpoint_of (view json.now))) }
 {
     if !is_checkpoint(json) {
         return Err(LineFault::BadShape);

@@ -24,7 +24,8 @@ use std::alloc::Global;
 pub fn write_line(alloc: Global, line: &Line) -> Result<Vec<u8>, Memory>
     requires { IsWritable line.now }
     ensures value { IfOk result (λ bytes. bytes.items ≡ text_of line.now) }
-    ensures read_again { IfOk result (λ bytes. line_of bytes.items ≡ Ok (without_targets line.now)) }
+    ensures read_again { IfOk result (λ bytes.
+        line_of bytes.items ≡ Ok (without_targets line.now)) }
 {
     decimals_read_back();
     let mut writer = Writer::new(Vec::with_capacity(alloc, 256)?);
@@ -110,7 +111,8 @@ fn write_checkpoint(
     number: Option<u64>,
     buckets: &[Entry],
 ) -> Result<(), Memory>
-    ensures value { OnOk result (Adds writer.old writer.new (tokens_of (checkpoint_json last_op number buckets.now))) }
+    ensures value { OnOk result (Adds writer.old writer.new
+        (tokens_of (checkpoint_json last_op number buckets.now))) }
     ensures sums { OnOk result (All (λ entry. entry.sum.0 < 2 ^ 32) buckets.now) }
     ensures counts { OnOk result (All (λ entry. entry.count < 2 ^ 64) buckets.now) }
 {
@@ -129,7 +131,8 @@ fn write_diff(
     removed: &[Text],
     updated: &[Entry],
 ) -> Result<(), Memory>
-    ensures value { OnOk result (Adds writer.old writer.new (tokens_of (diff_json last_op number removed.now updated.now))) }
+    ensures value { OnOk result (Adds writer.old writer.new
+        (tokens_of (diff_json last_op number removed.now updated.now))) }
     ensures sums { OnOk result (All (λ entry. entry.sum.0 < 2 ^ 32) updated.now) }
     ensures counts { OnOk result (All (λ entry. entry.count < 2 ^ 64) updated.now) }
 {
@@ -150,7 +153,8 @@ fn write_data(
     ops: &[Op],
     next_after: OpId,
 ) -> Result<(), Memory>
-    ensures value { OnOk result (Adds writer.old writer.new (tokens_of (data_json bucket.now after has_more ops.now next_after))) }
+    ensures value { OnOk result (Adds writer.old writer.new
+        (tokens_of (data_json bucket.now after has_more ops.now next_after))) }
     ensures sums { OnOk result (All (λ op. checksum op < 2 ^ 32) ops.now) }
 {
     writer.begin_object()?;
@@ -173,7 +177,8 @@ fn write_complete(writer: &mut Writer, last_op: OpId) -> Result<(), Memory>
 }
 
 fn write_entries(writer: &mut Writer, name: &str, entries: &[Entry]) -> Result<(), Memory>
-    ensures value { OnOk result (Adds writer.old writer.new (member_tokens (name.now, list_json entry_json entries.now))) }
+    ensures value { OnOk result (Adds writer.old writer.new
+        (member_tokens (name.now, list_json entry_json entries.now))) }
     ensures sums { OnOk result (All (λ entry. entry.sum.0 < 2 ^ 32) entries.now) }
     ensures counts { OnOk result (All (λ entry. entry.count < 2 ^ 64) entries.now) }
 {
@@ -201,7 +206,8 @@ fn write_entry(writer: &mut Writer, entry: &Entry) -> Result<(), Memory>
 }
 
 fn write_ops(writer: &mut Writer, name: &str, ops: &[Op]) -> Result<(), Memory>
-    ensures value { OnOk result (Adds writer.old writer.new (member_tokens (name.now, list_json op_json ops.now))) }
+    ensures value { OnOk result (Adds writer.old writer.new
+        (member_tokens (name.now, list_json op_json ops.now))) }
     ensures sums { OnOk result (All (λ op. checksum op < 2 ^ 32) ops.now) }
 {
     writer.key(name)?;
@@ -238,7 +244,8 @@ fn write_put(
     content: &Text,
     sum: Sum,
 ) -> Result<(), Memory>
-    ensures value { OnOk result (Adds writer.old writer.new (tokens_of (put_json id key.now content.now sum))) }
+    ensures value { OnOk result (Adds writer.old writer.new
+        (tokens_of (put_json id key.now content.now sum))) }
     ensures sums { OnOk result (sum.0 < 2 ^ 32) }
 {
     writer.begin_object()?;
@@ -254,7 +261,8 @@ fn write_put(
 }
 
 fn write_remove(writer: &mut Writer, id: OpId, key: &Key, sum: Sum) -> Result<(), Memory>
-    ensures value { OnOk result (Adds writer.old writer.new (tokens_of (remove_json id key.now sum))) }
+    ensures value { OnOk result (Adds writer.old writer.new
+        (tokens_of (remove_json id key.now sum))) }
     ensures sums { OnOk result (sum.0 < 2 ^ 32) }
 {
     writer.begin_object()?;

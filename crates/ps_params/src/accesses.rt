@@ -35,7 +35,9 @@ fn column_with<'a>(expr: &'a Expr, other: &Expr) -> Option<&'a Text>
 
 // The access by a column that is the left side of an operator.
 fn on_left<'a>(left: &'a Expr, right: &'a Expr, listed: bool) -> Option<Access<'a>>
-    ensures { IfSome result (λ access. (access.other.now ≡ right.now) × (access.listed ≡ listed) × IsColumnWith left.now (exprs.Column access.column.now) right.now) }
+    ensures { IfSome result
+        (λ access. (access.other.now ≡ right.now) × (access.listed ≡ listed)
+        × IsColumnWith left.now (exprs.Column access.column.now) right.now) }
 {
     match column_with(left, right) {
         Some(column) => Some(Access {
@@ -49,7 +51,9 @@ fn on_left<'a>(left: &'a Expr, right: &'a Expr, listed: bool) -> Option<Access<'
 
 // The access by an equality, from either side.
 fn by_equality<'a>(left: &'a Expr, right: &'a Expr) -> Option<Access<'a>>
-    ensures { IfSome result (λ access. IsAccess (exprs.Two operators.Equal left.now right.now) access.column.now access.other.now access.listed) }
+    ensures { IfSome result
+        (λ access. IsAccess (exprs.Two operators.Equal left.now right.now) access.column.now
+        access.other.now access.listed) }
 {
     equal_where_both_are_present();
     match on_left(left, right, false) {
@@ -60,7 +64,9 @@ fn by_equality<'a>(left: &'a Expr, right: &'a Expr) -> Option<Access<'a>>
 
 // The access by an element of a list.
 fn by_element<'a>(left: &'a Expr, right: &'a Expr) -> Option<Access<'a>>
-    ensures { IfSome result (λ access. IsAccess (exprs.Two operators.Within left.now right.now) access.column.now access.other.now access.listed) }
+    ensures { IfSome result
+        (λ access. IsAccess (exprs.Two operators.Within left.now right.now) access.column.now
+        access.other.now access.listed) }
 {
     equal_where_both_are_present();
     on_left(left, right, true)
@@ -68,7 +74,8 @@ fn by_element<'a>(left: &'a Expr, right: &'a Expr) -> Option<Access<'a>>
 
 /// The first access along the ANDs of a condition.
 pub(crate) fn access_of(condition: &Expr) -> Option<Access<'_>>
-    ensures { IfSome result (λ access. IsAccess condition.now access.column.now access.other.now access.listed) }
+    ensures { IfSome result (λ access.
+        IsAccess condition.now access.column.now access.other.now access.listed) }
 {
     let Expr::Two {
         operator,

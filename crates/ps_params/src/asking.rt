@@ -46,7 +46,8 @@ fn add_on(
     row: &Row,
 ) -> Result<(), Memory>
     requires { is_definition_name definition.now.name ≡ true }
-    ensures { OnOk result (Gains names.old names.new (names_on definition.now asker.now query.now (at_row id.now row.now))) }
+    ensures { OnOk result (Gains names.old names.new
+        (names_on definition.now asker.now query.now (at_row id.now row.now))) }
 {
     match vector_on(alloc, definition.names.as_slice(), query, asker, id, row)? {
         Some(values) => names.insert(bucket_of(alloc, &definition.name, values.as_slice())?),
@@ -70,7 +71,8 @@ impl Search<'_> {
     fn add_noted(&self, alloc: Global, names: &mut NameSet, note: &Noted) -> Result<(), Memory>
         requires { is_definition_name self.now.definition.now.name ≡ true }
         ensures { OnOk result (Gains names.old names.new
-            (flat_map (names_on self.now.definition.now self.now.asker.now self.now.query.now) (rows_of self.now.kept.now.notes self.now.upto.0 (note_of note.now ∷ [])))) }
+            (flat_map (names_on self.now.definition.now self.now.asker.now self.now.query.now)
+            (rows_of self.now.kept.now.notes self.now.upto.0 (note_of note.now ∷ [])))) }
     {
         match self.kept.standing(alloc, &note.table, &note.id, self.upto)? {
             Some(row) => add_on(
@@ -89,7 +91,8 @@ impl Search<'_> {
     // Puts the bucket on the row of a note among others, if that is of the query's table.
     fn add_candidate(&self, alloc: Global, names: &mut NameSet, note: &Noted) -> Result<(), Memory>
         requires { is_definition_name self.now.definition.now.name ≡ true }
-        ensures { OnOk result (Gains names.old names.new (names_found self.now (note_of note.now ∷ []))) }
+        ensures { OnOk result (Gains names.old names.new
+            (names_found self.now (note_of note.now ∷ []))) }
     {
         if !note.table.equals(self.table) {
             return Ok(());
@@ -100,7 +103,8 @@ impl Search<'_> {
     // Puts the buckets on the rows of some notes among others.
     fn add_notes(&self, alloc: Global, names: &mut NameSet, notes: &[Noted]) -> Result<(), Memory>
         requires { is_definition_name self.now.definition.now.name ≡ true }
-        ensures { OnOk result (Gains names.old names.new (names_found self.now (map note_of notes.now))) }
+        ensures { OnOk result (Gains names.old names.new
+            (names_found self.now (map note_of notes.now))) }
     {
         'notes: for note in notes {
             self.add_candidate(alloc, names, note)?;
@@ -111,7 +115,8 @@ impl Search<'_> {
     // Puts the buckets on the rows of the notes at some places among others.
     fn add_places(&self, alloc: Global, names: &mut NameSet, places: &[usize]) -> Result<(), Memory>
         requires { is_definition_name self.now.definition.now.name ≡ true }
-        ensures { OnOk result (Gains names.old names.new (names_found self.now (notes_at self.now.kept.now.notes places.now))) }
+        ensures { OnOk result (Gains names.old names.new
+            (names_found self.now (notes_at self.now.kept.now.notes places.now))) }
     {
         'places: for place in places {
             let Some(note) = note_at(self.kept.notes(), *place) else {
@@ -131,7 +136,9 @@ impl Search<'_> {
     ) -> Result<(), Memory>
         requires { is_definition_name self.now.definition.now.name ≡ true }
         ensures { OnOk result (Gains names.old names.new
-            (names_found self.now (lying self.now.kept.now.paths self.now.kept.now.notes self.now.kept.now.indexed spot.now))) }
+            (names_found self.now
+            (lying self.now.kept.now.paths self.now.kept.now.notes
+            self.now.kept.now.indexed spot.now))) }
     {
         let places = self.kept.places(spot);
         self.add_places(alloc, names, places)
@@ -146,7 +153,9 @@ impl Search<'_> {
     ) -> Result<(), Memory>
         requires { is_definition_name self.now.definition.now.name ≡ true }
         ensures { OnOk result (Gains names.old names.new
-            (names_found self.now (lying_at self.now.kept.now.paths self.now.kept.now.notes self.now.kept.now.indexed spots.now))) }
+            (names_found self.now
+            (lying_at self.now.kept.now.paths self.now.kept.now.notes
+            self.now.kept.now.indexed spots.now))) }
     {
         'spots: for spot in spots {
             self.add_spot(alloc, names, spot)?;
@@ -163,7 +172,8 @@ impl Search<'_> {
     ) -> Result<(), Memory>
         requires { is_definition_name self.now.definition.now.name ≡ true }
         ensures { OnOk result (Gains names.old names.new (names_found self.now
-            (lying_at self.now.kept.now.paths self.now.kept.now.notes self.now.kept.now.indexed spots.now ++ drop self.now.kept.now.indexed self.now.kept.now.notes))) }
+            (lying_at self.now.kept.now.paths self.now.kept.now.notes self.now.kept.now.indexed
+            spots.now ++ drop self.now.kept.now.indexed self.now.kept.now.notes))) }
     {
         self.add_spots(alloc, names, spots)?;
         let late = self.kept.late();
@@ -174,7 +184,8 @@ impl Search<'_> {
     // only they and those of late notes are looked at.
     fn add_all(&self, alloc: Global, names: &mut NameSet) -> Result<(), Memory>
         requires { is_definition_name self.now.definition.now.name ≡ true }
-        ensures { OnOk result (Gains names.old names.new (names_found self.now self.now.kept.now.notes)) }
+        ensures { OnOk result (Gains names.old names.new
+            (names_found self.now self.now.kept.now.notes)) }
     {
         match spots(
             alloc,
@@ -200,7 +211,9 @@ fn add_query(
     upto: Position,
 ) -> Result<(), Memory>
     requires { is_definition_name definition.now.name ≡ true }
-    ensures { OnOk result (Gains names.old names.new (query_names definition.now asker.now (rows_of kept.now.notes upto.0 kept.now.notes) query.now)) }
+    ensures { OnOk result (Gains names.old names.new
+        (query_names definition.now asker.now
+        (rows_of kept.now.notes upto.0 kept.now.notes) query.now)) }
 {
     match &query.table {
         Some(table) => {
@@ -233,7 +246,8 @@ fn add_queries(
 ) -> Result<(), Memory>
     requires { is_definition_name definition.now.name ≡ true }
     ensures { OnOk result (Gains names.old names.new
-        (flat_map (query_names definition.now asker.now (rows_of kept.now.notes upto.0 kept.now.notes)) definition.now.parameters)) }
+        (flat_map (query_names definition.now asker.now
+        (rows_of kept.now.notes upto.0 kept.now.notes)) definition.now.parameters)) }
 {
     'queries: for query in definition.parameters.as_slice() {
         add_query(alloc, names, definition, query, asker, kept, upto)?;
@@ -251,7 +265,9 @@ fn add_definition(
     upto: Position,
 ) -> Result<(), Memory>
     requires { is_definition_name definition.now.name ≡ true }
-    ensures { OnOk result (Gains names.old names.new (names_of_definition asker.now (rows_of kept.now.notes upto.0 kept.now.notes) definition.now)) }
+    ensures { OnOk result (Gains names.old names.new
+        (names_of_definition asker.now
+        (rows_of kept.now.notes upto.0 kept.now.notes) definition.now)) }
 {
     if definition.parameters.is_empty() {
         let none = Vec::new(alloc);
@@ -271,7 +287,8 @@ pub(crate) fn add_definitions(
 ) -> Result<(), Memory>
     requires { AllByRecursion IsSound definitions.now }
     ensures { OnOk result (Gains names.old names.new
-        (flat_map (names_of_definition asker.now (rows_of kept.now.notes upto.0 kept.now.notes)) definitions.now)) }
+        (flat_map (names_of_definition asker.now (rows_of kept.now.notes upto.0 kept.now.notes))
+        definitions.now)) }
 {
     'definitions: for definition in definitions {
         add_definition(alloc, names, definition, asker, kept, upto)?;

@@ -94,7 +94,9 @@ impl ParameterIndex {
         ensures last { self.new.last ≡ at.0 }
         ensures forgotten { self.new.forgotten ≡ self.old.forgotten }
         ensures notes { let note : Note = record { at = at.0; table = table; id = id; row = row } in
-            self.new.notes ≡ (if is_read self.old.rules.definitions table then self.old.notes ++ note ∷ [] else self.old.notes) }
+            self.new.notes
+            ≡ (if is_read self.old.rules.definitions table then self.old.notes
+            ++ note ∷ [] else self.old.notes) }
         ensures room { self.old.spare ≤ self.new.spare + 1 }
     {
         self.last = at;
@@ -117,7 +119,8 @@ impl ParameterIndex {
         requires kept { self.now.forgotten ≤ upto.0 }
         // Each is of a vector of integers of signed 64 bits.
         ensures told { IfOk result AreTold }
-        ensures names { (source : List SourceRow) → StandsAt self.now.rules.definitions self.now.notes upto.0 source
+        ensures names { (source : List SourceRow)
+            → StandsAt self.now.rules.definitions self.now.notes upto.0 source
             → IfOk result (λ names. names ≡ bucket_names rules.now.definitions asker.now source) }
     {
         let mut names = NameSet::new(alloc);

@@ -141,14 +141,17 @@ impl Kept {
 
     /// The number of the path to a table's notes: by a column, or to all of them.
     pub(crate) fn path(&self, table: &Text, column: Option<&str>) -> Option<usize>
-        ensures { IfSome result (λ number. slice_get self.now.paths number ≡ Some (record { table = table.now; column = option_copied column.entry })) }
+        ensures { IfSome result
+            (λ number. slice_get self.now.paths number
+            ≡ Some (record { table = table.now; column = option_copied column.entry })) }
     {
         self.paths.number_of(table, column)
     }
 
     /// The places of the notes that lie at a spot.
     pub(crate) fn places(&self, spot: &(usize, Text)) -> &[usize]
-        ensures { result.now ≡ places_from (lies_at self.now.paths spot.now.0 spot.now.1) 0 (take self.now.indexed self.now.notes) }
+        ensures { result.now ≡ places_from (lies_at self.now.paths spot.now.0 spot.now.1) 0
+            (take self.now.indexed self.now.notes) }
     {
         found_at(&self.found, spot)
     }
@@ -161,7 +164,8 @@ impl Kept {
         id: &Text,
         upto: Position,
     ) -> Result<Option<&Row>, Memory>
-        ensures { IfOk result (λ row. option_copied row ≡ row_at (take self.now.indexed self.now.notes) table.now id.now upto.0) }
+        ensures { IfOk result (λ row. option_copied row
+            ≡ row_at (take self.now.indexed self.now.notes) table.now id.now upto.0) }
     {
         match self.path(table, Some("id")) {
             Some(number) => {
@@ -184,7 +188,8 @@ impl Kept {
         id: &Text,
         upto: Position,
     ) -> Result<Option<&Row>, Memory>
-        ensures { IfOk result (λ row. option_copied row ≡ row_at self.now.notes table.now id.now upto.0) }
+        ensures { IfOk result (λ row.
+            option_copied row ≡ row_at self.now.notes table.now id.now upto.0) }
     {
         let early = self.standing_early(alloc, table, id, upto)?;
         Ok(standing_after(early, self.late(), table, id, upto))
@@ -206,7 +211,8 @@ fn standing_after<'a>(
     id: &Text,
     upto: Position,
 ) -> Option<&'a Row>
-    ensures { option_copied result ≡ row_after table.now id.now upto.0 (option_copied before.entry) (map note_of notes.now) }
+    ensures { option_copied result
+        ≡ row_after table.now id.now upto.0 (option_copied before.entry) (map note_of notes.now) }
 {
     let mut standing = before;
     'notes: for note in notes {
@@ -233,7 +239,8 @@ fn standing_among<'a>(
     id: &Text,
     upto: Position,
 ) -> Option<&'a Row>
-    ensures { option_copied result ≡ row_at (notes_at (map note_of notes.now) places.now) table.now id.now upto.0 }
+    ensures { option_copied result
+        ≡ row_at (notes_at (map note_of notes.now) places.now) table.now id.now upto.0 }
 {
     'places: for behind in 0..places.len() {
         let Some(note) = note_at(notes, places[places.len() - 1 - behind]) else {

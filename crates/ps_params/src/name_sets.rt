@@ -49,7 +49,8 @@ impl NameSet {
     /// The names in the order of their bytes.
     pub(crate) fn in_order(self, alloc: Global) -> Result<Items<Text>, Memory>
         ensures told { IfOk result AreTold }
-        ensures names { IfOk result (λ names. (same : List (List ℕ)) → HaveSame self same → names ≡ names_in_order same) }
+        ensures names { IfOk result (λ names.
+            (same : List (List ℕ)) → HaveSame self same → names ≡ names_in_order same) }
     {
         let _ordered = self.known.len();
         let NameSet { known } = self;

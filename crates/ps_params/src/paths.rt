@@ -38,7 +38,8 @@ fn add_number(
     number: usize,
 ) -> Result<(), Memory>
     ensures { OnOk result ((other : List ℕ) → numbers_at numbers.new other
-        ≡ (if bytes_eq table.now other then numbers_at numbers.old other ++ number ∷ [] else numbers_at numbers.old other)) }
+        ≡ (if bytes_eq table.now other then numbers_at numbers.old other
+        ++ number ∷ [] else numbers_at numbers.old other)) }
 {
     if let Some(places) = numbers.get_mut(table) {
         places.push(number)?;
@@ -107,7 +108,9 @@ impl Paths {
 
     /// The number of the path of a table and a column, if there is one.
     pub(crate) fn number_of(&self, table: &Text, column: Option<&str>) -> Option<usize>
-        ensures { IfSome result (λ number. slice_get self.now number ≡ Some (record { table = table.now; column = option_copied column.entry })) }
+        ensures { IfSome result
+            (λ number. slice_get self.now number
+            ≡ Some (record { table = table.now; column = option_copied column.entry })) }
     {
         'numbers: for number in self.numbers(table) {
             let Some(path) = self.get(*number) else {

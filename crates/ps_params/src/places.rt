@@ -72,7 +72,8 @@ fn add_place(
     place: usize,
 ) -> Result<(), Memory>
     ensures { OnOk result ((other : ℕ × List ℕ) → places_at found.new other
-        ≡ (if is_spot spot other then places_at found.old other ++ place ∷ [] else places_at found.old other)) }
+        ≡ (if is_spot spot other then places_at found.old other
+        ++ place ∷ [] else places_at found.old other)) }
 {
     if let Some(places) = found.get_mut(&spot) {
         places.push(place)?;
@@ -94,7 +95,8 @@ fn add_on_path(
     place: usize,
 ) -> Result<(), Memory>
     ensures { OnOk result ((other : ℕ) (text : List ℕ) → places_at found.new (other, text)
-        ≡ (if nat_eq number other && lies_at paths.now other text (note_of note.now) then places_at found.old (other, text) ++ place ∷ [] else places_at found.old (other, text))) }
+        ≡ (if nat_eq number other && lies_at paths.now other text (note_of note.now) then places_at
+        found.old (other, text) ++ place ∷ [] else places_at found.old (other, text))) }
 {
     let Some(path) = paths.get(number) else {
         return Ok(());
@@ -114,7 +116,8 @@ fn add_note(
     place: usize,
 ) -> Result<(), Memory>
     ensures { OnOk result ((number : ℕ) (text : List ℕ) → places_at found.new (number, text)
-        ≡ (if lies_at paths.now number text (note_of note.now) then places_at found.old (number, text) ++ place ∷ [] else places_at found.old (number, text))) }
+        ≡ (if lies_at paths.now number text (note_of note.now) then places_at found.old
+        (number, text) ++ place ∷ [] else places_at found.old (number, text))) }
 {
     'numbers: for number in paths.numbers(&note.table) {
         add_on_path(alloc, found, paths, *number, note, place)?;

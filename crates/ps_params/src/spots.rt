@@ -21,7 +21,8 @@ fn compared(
     listed: bool,
     asker: &Asker,
 ) -> Result<Items<Value>, Memory>
-    ensures { IfOk result (λ values. values ≡ compared_values (without_bucket asker.now [] []) other.now listed) }
+    ensures { IfOk result (λ values.
+        values ≡ compared_values (without_bucket asker.now [] []) other.now listed) }
 {
     let id = Text::from_string(String::new(alloc));
     let row = Row::from_columns(Items::new(alloc));
@@ -56,7 +57,8 @@ fn spots_of_table(
     table: &Text,
     asker: &Asker,
 ) -> Result<Option<Items<(usize, Text)>>, Memory>
-    ensures { IfOk result (λ spots. IfSome spots (Covers kept.now.paths asker.now condition.now table.now)) }
+    ensures { IfOk result (λ spots.
+        IfSome spots (Covers kept.now.paths asker.now condition.now table.now)) }
 {
     let Some(number) = kept.path(table, None) else {
         return Ok(None);
@@ -74,7 +76,8 @@ pub(crate) fn spots(
     table: &Text,
     asker: &Asker,
 ) -> Result<Option<Items<(usize, Text)>>, Memory>
-    ensures { IfOk result (λ spots. IfSome spots (Covers kept.now.paths asker.now condition.now table.now)) }
+    ensures { IfOk result (λ spots.
+        IfSome spots (Covers kept.now.paths asker.now condition.now table.now)) }
 {
     same_on_every_row();
     let Some(held) = condition else {

@@ -20,7 +20,9 @@ fn copy_key(alloc: Global, key: &(Text, Text)) -> Result<(Text, Text), Memory>
 
 // Settles a row, and says whether there was memory for it.
 fn settle(alloc: Global, settled: &mut BTreeSet<(Text, Text)>, key: &(Text, Text)) -> bool
-    ensures { (table id : List ℕ) → is_settled settled.new table id ≡ settles result key.now (is_settled settled.old) table id }
+    ensures { (table id : List ℕ)
+        → is_settled settled.new table id
+        ≡ settles result key.now (is_settled settled.old) table id }
 {
     let Ok(copy) = copy_key(alloc, key) else {
         return false;
@@ -39,7 +41,9 @@ fn settle_by(
     at: Position,
     floor: Position,
 ) -> bool
-    ensures settled { (table id : List ℕ) → is_settled settled.new table id ≡ settles result key.now (is_settled settled.old) table id }
+    ensures settled { (table id : List ℕ)
+        → is_settled settled.new table id
+        ≡ settles result key.now (is_settled settled.old) table id }
     ensures early { result ≡ true → at.0 ≤ floor.0 }
 {
     if floor.0 < at.0 {
@@ -67,7 +71,8 @@ fn take_back(
     floor: Position,
 )
     requires { vec_len kept.old < vec_capacity kept.old }
-    ensures left { SameLeft floor.0 (note_of noted) (is_settled settled.old) (seen kept.old.items) (is_settled settled.new) (seen kept.new.items) }
+    ensures left { SameLeft floor.0 (note_of noted) (is_settled settled.old) (seen kept.old.items)
+        (is_settled settled.new) (seen kept.new.items) }
     ensures len { vec_len kept.new ≤ vec_len kept.old + 1 }
     ensures capacity { vec_capacity kept.new ≡ vec_capacity kept.old }
 {

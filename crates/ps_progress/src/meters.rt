@@ -77,7 +77,8 @@ impl<K: Sink> Meter<K> {
 
     // Tells how far the download is.
     fn report(&mut self, alloc: Global, now: Download)
-        ensures { Reports self.old self.new (Some now) ⊎ (self.new ≡ record self.old { so_far = None }) }
+        ensures { Reports self.old self.new (Some now)
+            ⊎ (self.new ≡ record self.old { so_far = None }) }
     {
         match text_of(alloc, now) {
             Ok(text) => match self.to.write(text.as_bytes()) {

@@ -30,7 +30,9 @@ use std::alloc::Global;
 
 // The names of outputs, if no two are the same.
 fn distinct_names(alloc: Global, outputs: &[Output]) -> Result<Option<NameSet>, Memory>
-    ensures { IfOk result (λ found. found ≡ (if has_repeated (output_names outputs.now) then None else Some (output_names outputs.now))) }
+    ensures { IfOk result (λ found. found
+        ≡ (if has_repeated (output_names outputs.now) then None else Some
+        (output_names outputs.now))) }
 {
     let mut names = NameSet::new(alloc);
     'outputs: for output in outputs {
@@ -136,7 +138,8 @@ fn has_unknown_in(query: &DataQuery, names: &NameSet) -> bool
 }
 
 fn has_unknown_in_outputs(outputs: &[Output], names: &NameSet) -> bool
-    ensures { result ≡ list_any (λ (o : OutputData). mentions (λ name. not (is_in name names.now)) o.expr) outputs.now }
+    ensures { result ≡ list_any (λ (o : OutputData). mentions (λ name.
+        not (is_in name names.now)) o.expr) outputs.now }
 {
     outputs
         .iter()
@@ -144,7 +147,8 @@ fn has_unknown_in_outputs(outputs: &[Output], names: &NameSet) -> bool
 }
 
 fn has_unknown_in_condition(condition: &Option<Expr>, names: &NameSet) -> bool
-    ensures { result ≡ in_condition (λ (e : ExprData). mentions (λ name. not (is_in name names.now)) e) condition.now }
+    ensures { result ≡ in_condition (λ (e : ExprData). mentions (λ name.
+        not (is_in name names.now)) e) condition.now }
 {
     match condition {
         None => false,
@@ -239,7 +243,8 @@ fn is_readable(text: &Text) -> bool
 // The parameter query of a text that was written somewhere.
 #[tactic(auto, using(crate::proofs::PlacedFaults::placed))]
 fn parameter_query(alloc: Global, written: &Written) -> Result<ParameterQuery, RulesFault>
-    ensures { Reads result (sql written.now.line written.now.column (parameter_query_of written.now.text)) }
+    ensures { Reads result
+        (sql written.now.line written.now.column (parameter_query_of written.now.text)) }
 {
     if !is_readable(&written.text) {
         return Err(RulesFault::Memory);
@@ -253,7 +258,8 @@ fn parameter_query(alloc: Global, written: &Written) -> Result<ParameterQuery, R
 // The data query of a text that was written somewhere.
 #[tactic(auto, using(crate::proofs::PlacedFaults::placed))]
 fn data_query(alloc: Global, written: &Written) -> Result<DataQuery, RulesFault>
-    ensures { Reads result (sql written.now.line written.now.column (data_query_of written.now.text)) }
+    ensures { Reads result
+        (sql written.now.line written.now.column (data_query_of written.now.text)) }
 {
     if !is_readable(&written.text) {
         return Err(RulesFault::Memory);
@@ -315,7 +321,9 @@ fn check_outputs(
     written: &Written,
     query: &ParameterQuery,
 ) -> Result<(), RulesFault>
-    ensures { (warnings : List WarningData) → Reads (known_after known.now warnings written.now query.now result) (known_from (record { queries = known.now; warnings = warnings }) written.now query.now) }
+    ensures { (warnings : List WarningData)
+        → Reads (known_after known.now warnings written.now query.now result)
+        (known_from (record { queries = known.now; warnings = warnings }) written.now query.now) }
 {
     let line = written.line;
     let column = written.column;
@@ -336,7 +344,9 @@ fn fitting_query(
     known: &[ParameterQuery],
     written: &Written,
 ) -> Result<ParameterQuery, RulesFault>
-    ensures { (warnings : List WarningData) → Reads (known_by known.now warnings written.now result) (known_with (record { queries = known.now; warnings = warnings }) written.now) }
+    ensures { (warnings : List WarningData)
+        → Reads (known_by known.now warnings written.now result)
+        (known_with (record { queries = known.now; warnings = warnings }) written.now) }
 {
     let query = parameter_query(alloc, written)?;
     match check_outputs(alloc, known, written, &query) {
@@ -390,7 +400,9 @@ fn checked_branches(
     written: &Written,
     query: &DataQuery,
 ) -> Result<Items<Branch>, RulesFault>
-    ensures { (number : ℕ) → Reads (planned_with query.now number result) (planned_from names.now number written.now.line written.now.column query.now) }
+    ensures { (number : ℕ)
+        → Reads (planned_with query.now number result)
+        (planned_from names.now number written.now.line written.now.column query.now) }
 {
     let line = written.line;
     let column = written.column;

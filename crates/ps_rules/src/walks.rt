@@ -37,7 +37,8 @@ pub(crate) fn has_unknown(expr: &Expr, names: &NameSet) -> bool
 #[cycle(unknown)]
 #[tactic(auto)]
 fn any_has_unknown(all: &[Expr], names: &NameSet) -> bool
-    ensures { result ≡ list_any (λ (e : ExprData). mentions (λ name. not (is_in name names.now)) e) all.now }
+    ensures { result ≡ list_any (λ (e : ExprData). mentions (λ name.
+        not (is_in name names.now)) e) all.now }
 {
     'all: for one in all {
         if has_unknown(one, names) {

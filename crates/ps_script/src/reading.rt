@@ -100,7 +100,8 @@ fn behind(alloc: Global, word: &[u8], rest: &[u8]) -> Result<ScriptEvent, Script
 
 fn client(alloc: Global, rest: &[u8]) -> Result<ScriptEvent, ScriptFault>
     ensures exact { Reads result (client_in (cut_at 32 rest.now).0 (cut_at 32 rest.now).1) }
-    ensures refused { RefusesUnless (has_claims (cut_at 32 rest.now).0 (cut_at 32 rest.now).1) result }
+    ensures refused { RefusesUnless
+        (has_claims (cut_at 32 rest.now).0 (cut_at 32 rest.now).1) result }
 {
     let (name, Some(claims)) = cut(rest, b' ') else {
         return Err(ScriptFault::BadEvent);
@@ -114,7 +115,8 @@ fn client(alloc: Global, rest: &[u8]) -> Result<ScriptEvent, ScriptFault>
 
 fn local(alloc: Global, rest: &[u8]) -> Result<ScriptEvent, ScriptFault>
     ensures exact { Reads result (local_in (cut_at 32 rest.now).0 (cut_at 32 rest.now).1) }
-    ensures refused { RefusesUnless (has_change (cut_at 32 rest.now).0 (cut_at 32 rest.now).1) result }
+    ensures refused { RefusesUnless
+        (has_change (cut_at 32 rest.now).0 (cut_at 32 rest.now).1) result }
 {
     let (name, Some(text)) = cut(rest, b' ') else {
         return Err(ScriptFault::BadEvent);

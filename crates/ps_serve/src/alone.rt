@@ -28,9 +28,12 @@ fn answer<K: Sink, C: Clock>(
     clock: &C,
 ) -> (u16, End)
     requires filled { AreFilled asked }
-    requires serves { (fixed : FixedSeen) × (history : List EventSeen) × StoreStandsFor fixed store.old history }
-    ensures does { (fixed : FixedSeen) (history : List EventSeen) → StoreStandsFor fixed store.old history
-        → Does (C.may_give clock.now) fixed history asked store.old store.new (K.taken to.old) (K.taken to.new) (K.faults to.old) (K.faults to.new) result.0 result.1 }
+    requires serves { (fixed : FixedSeen) × (history : List EventSeen)
+        × StoreStandsFor fixed store.old history }
+    ensures does { (fixed : FixedSeen) (history : List EventSeen)
+        → StoreStandsFor fixed store.old history
+        → Does (C.may_give clock.now) fixed history asked store.old store.new (K.taken to.old)
+        (K.taken to.new) (K.faults to.old) (K.faults to.new) result.0 result.1 }
     ensures faults { K.faults to.old ≤ K.faults to.new }
     ensures number { K.number to.new ≡ K.number to.old }
 {
@@ -70,14 +73,20 @@ pub fn answer_alone<S: Source, K: Sink, C: Clock>(
     to: &mut K,
     clock: &C,
 ) -> (u16, End)
-    requires { (fixed : FixedSeen) × (history : List EventSeen) × StoreStandsFor fixed store.old history }
+    requires { (fixed : FixedSeen) × (history : List EventSeen)
+        × StoreStandsFor fixed store.old history }
     // What the bytes of the request ask for, and what was done and written then.
-    ensures answers { (fixed : FixedSeen) (history : List EventSeen) → StoreStandsFor fixed store.old history
-        → Answers (C.may_give clock.now) site.now.keys fixed history (S.input from.old) (S.input from.new) (S.faults from.old) (S.faults from.new)
-        store.old store.new (K.taken to.old) (K.taken to.new) (K.faults to.old) (K.faults to.new) result.0 result.1 }
+    ensures answers { (fixed : FixedSeen) (history : List EventSeen)
+        → StoreStandsFor fixed store.old history
+        → Answers (C.may_give clock.now) site.now.keys fixed history (S.input from.old)
+        (S.input from.new) (S.faults from.old) (S.faults from.new)
+        store.old store.new (K.taken to.old) (K.taken to.new) (K.faults to.old)
+        (K.faults to.new) result.0 result.1 }
     // The store after it stands for what it stood for, and at most one event more.
-    ensures serves { (fixed : FixedSeen) (history : List EventSeen) → StoreStandsFor fixed store.old history
-        → (events : List EventSeen) × (length events ≤ 1) × StoreStandsFor fixed store.new (history ++ events) }
+    ensures serves { (fixed : FixedSeen) (history : List EventSeen)
+        → StoreStandsFor fixed store.old history
+        → (events : List EventSeen) × (length events ≤ 1)
+        × StoreStandsFor fixed store.new (history ++ events) }
     ensures read_faults { S.faults from.old ≤ S.faults from.new }
     ensures source { S.number from.new ≡ S.number from.old }
     ensures write_faults { K.faults to.old ≤ K.faults to.new }

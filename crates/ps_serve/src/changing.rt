@@ -21,7 +21,8 @@ use std::alloc::Global;
 
 // Tells the number of a write checkpoint.
 pub(crate) fn tell_number<K: Sink>(alloc: Global, number: u64, to: &mut K) -> (u16, End)
-    ensures written { IsWritten ends.Answered 200 (body_answer (number_told number)) (K.taken to.old) (K.taken to.new) (K.faults to.old) (K.faults to.new) result.0 result.1 }
+    ensures written { IsWritten ends.Answered 200 (body_answer (number_told number))
+        (K.taken to.old) (K.taken to.new) (K.faults to.old) (K.faults to.new) result.0 result.1 }
     ensures faults { K.faults to.old ≤ K.faults to.new }
     ensures number { K.number to.new ≡ K.number to.old }
 {
@@ -33,7 +34,8 @@ pub(crate) fn tell_number<K: Sink>(alloc: Global, number: u64, to: &mut K) -> (u
 
 // Tells the position of an upload.
 pub(crate) fn tell_position<K: Sink>(alloc: Global, position: Position, to: &mut K) -> (u16, End)
-    ensures written { IsWritten ends.Answered 200 (body_answer (position_told position.0)) (K.taken to.old) (K.taken to.new) (K.faults to.old) (K.faults to.new) result.0 result.1 }
+    ensures written { IsWritten ends.Answered 200 (body_answer (position_told position.0))
+        (K.taken to.old) (K.taken to.new) (K.faults to.old) (K.faults to.new) result.0 result.1 }
     ensures faults { K.faults to.old ≤ K.faults to.new }
     ensures number { K.number to.new ≡ K.number to.old }
 {
@@ -51,9 +53,12 @@ pub fn answer_number<K: Sink>(
     client: &Text,
     to: &mut K,
 ) -> (u16, End)
-    requires { (fixed : FixedSeen) × (history : List EventSeen) × StoreStandsFor fixed store.old history }
-    ensures answers { (fixed : FixedSeen) (history : List EventSeen) → StoreStandsFor fixed store.old history
-        → AnswersNumber fixed history user.now client.now store.new (K.taken to.old) (K.taken to.new) (K.faults to.old) (K.faults to.new) result.0 result.1 }
+    requires { (fixed : FixedSeen) × (history : List EventSeen)
+        × StoreStandsFor fixed store.old history }
+    ensures answers { (fixed : FixedSeen) (history : List EventSeen)
+        → StoreStandsFor fixed store.old history
+        → AnswersNumber fixed history user.now client.now store.new (K.taken to.old)
+        (K.taken to.new) (K.faults to.old) (K.faults to.new) result.0 result.1 }
     ensures faults { K.faults to.old ≤ K.faults to.new }
     ensures number { K.number to.new ≡ K.number to.old }
 {
@@ -72,9 +77,12 @@ pub fn answer_upload<K: Sink>(
     to: &mut K,
 ) -> (u16, End)
     requires tables { All (λ (change : ChangeSeen). 0 < length change.table) changes }
-    requires stands { (fixed : FixedSeen) × (history : List EventSeen) × StoreStandsFor fixed store.old history }
-    ensures answers { (fixed : FixedSeen) (history : List EventSeen) → StoreStandsFor fixed store.old history
-        → AnswersUpload fixed history changes store.new (K.taken to.old) (K.taken to.new) (K.faults to.old) (K.faults to.new) result.0 result.1 }
+    requires stands { (fixed : FixedSeen) × (history : List EventSeen)
+        × StoreStandsFor fixed store.old history }
+    ensures answers { (fixed : FixedSeen) (history : List EventSeen)
+        → StoreStandsFor fixed store.old history
+        → AnswersUpload fixed history changes store.new (K.taken to.old) (K.taken to.new)
+        (K.faults to.old) (K.faults to.new) result.0 result.1 }
     ensures faults { K.faults to.old ≤ K.faults to.new }
     ensures number { K.number to.new ≡ K.number to.old }
 {

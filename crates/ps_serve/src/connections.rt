@@ -49,7 +49,8 @@ fn outcome_of(alloc: Global, answered: (u16, End)) -> Outcome
 
 // Tells the number of a write checkpoint, or why there is none.
 fn tell_made<K: Sink>(alloc: Global, made: Result<u64, NumberFault>, to: &mut K) -> (u16, End)
-    ensures tells { TellsNumber made (K.taken to.old) (K.taken to.new) (K.faults to.old) (K.faults to.new) result.0 result.1 }
+    ensures tells { TellsNumber made (K.taken to.old) (K.taken to.new) (K.faults to.old)
+        (K.faults to.new) result.0 result.1 }
     ensures faults { K.faults to.old ≤ K.faults to.new }
     ensures number { K.number to.new ≡ K.number to.old }
 {
@@ -63,7 +64,8 @@ fn tell_made<K: Sink>(alloc: Global, made: Result<u64, NumberFault>, to: &mut K)
 // Tells the position of an upload, or why there is none.
 fn tell_fed<K: Sink>(alloc: Global, fed: Result<Position, FeedFault>, to: &mut K) -> (u16, End)
     requires { IsUploadAnswer fed }
-    ensures tells { TellsPosition fed (K.taken to.old) (K.taken to.new) (K.faults to.old) (K.faults to.new) result.0 result.1 }
+    ensures tells { TellsPosition fed (K.taken to.old) (K.taken to.new) (K.faults to.old)
+        (K.faults to.new) result.0 result.1 }
     ensures faults { K.faults to.old ≤ K.faults to.new }
     ensures number { K.number to.new ≡ K.number to.old }
 {
@@ -88,8 +90,10 @@ fn number_through<R: Wait, K: Sink, B: Bell>(
     requires { IsSeatOf desk.now.lock.now seat }
     ensures lock { IsSeatOf desk.now.lock.now result.0 }
     ensures saw { IsPrefix (seen_by seat) (seen_by result.0) }
-    ensures answers { AnswersNumberAt (fixed_of desk.now.lock.now) (length (seen_by seat)) (seen_by result.0) user.now client.now
-        (own_entries_of seat) (own_entries_of result.0) (K.taken to.old) (K.taken to.new) (K.faults to.old) (K.faults to.new) result.1 }
+    ensures answers { AnswersNumberAt (fixed_of desk.now.lock.now) (length (seen_by seat))
+        (seen_by result.0) user.now client.now
+        (own_entries_of seat) (own_entries_of result.0) (K.taken to.old) (K.taken to.new)
+        (K.faults to.old) (K.faults to.new) result.1 }
     ensures faults { K.faults to.old ≤ K.faults to.new }
     ensures number { K.number to.new ≡ K.number to.old }
 {
@@ -114,8 +118,10 @@ fn upload_through<R: Wait, K: Sink, B: Bell>(
     requires tables { All (λ (change : ChangeSeen). 0 < length change.table) changes }
     ensures lock { IsSeatOf desk.now.lock.now result.0 }
     ensures saw { IsPrefix (seen_by seat) (seen_by result.0) }
-    ensures answers { AnswersUploadAt (fixed_of desk.now.lock.now) (length (seen_by seat)) (seen_by result.0) changes
-        (own_entries_of seat) (own_entries_of result.0) (K.taken to.old) (K.taken to.new) (K.faults to.old) (K.faults to.new) result.1 }
+    ensures answers { AnswersUploadAt (fixed_of desk.now.lock.now) (length (seen_by seat))
+        (seen_by result.0) changes
+        (own_entries_of seat) (own_entries_of result.0) (K.taken to.old) (K.taken to.new)
+        (K.faults to.old) (K.faults to.new) result.1 }
     ensures faults { K.faults to.old ≤ K.faults to.new }
     ensures number { K.number to.new ≡ K.number to.old }
 {
@@ -142,8 +148,10 @@ fn answer<R: Wait, K: Sink, C: Clock, B: Bell>(
     requires filled { AreFilled asked }
     ensures lock { IsSeatOf desk.now.lock.now result.0 }
     ensures saw { IsPrefix (seen_by seat) (seen_by result.0) }
-    ensures does { DoesAt (fixed_of desk.now.lock.now) (length (seen_by seat)) (seen_by result.0) (C.may_give clock.now) until_drained asked
-        (own_entries_of seat) (own_entries_of result.0) (K.taken to.old) (K.taken to.new) (K.faults to.old) (K.faults to.new) result.1 }
+    ensures does { DoesAt (fixed_of desk.now.lock.now) (length (seen_by seat)) (seen_by result.0)
+        (C.may_give clock.now) until_drained asked
+        (own_entries_of seat) (own_entries_of result.0) (K.taken to.old) (K.taken to.new)
+        (K.faults to.old) (K.faults to.new) result.1 }
     ensures faults { K.faults to.old ≤ K.faults to.new }
     ensures number { K.number to.new ≡ K.number to.old }
 {
@@ -195,8 +203,10 @@ pub fn answer_connection<R: Wait, S: Source, K: Sink, C: Clock, B: Bell>(
     ensures lock { IsSeatOf lock.now result.0 }
     ensures saw { IsPrefix (seen_by seat) (seen_by result.0) }
     // What the bytes of the request ask for, and what was done and written then, with every cause at a place of the history or at an event.
-    ensures answers { AnswersAt (fixed_of lock.now) (length (seen_by seat)) (seen_by result.0) (C.may_give clock.now) site.now.keys site.now.until_drained
-        (own_entries_of seat) (own_entries_of result.0) (S.input from.old) (S.input from.new) (S.faults from.old) (S.faults from.new)
+    ensures answers { AnswersAt (fixed_of lock.now) (length (seen_by seat)) (seen_by result.0)
+        (C.may_give clock.now) site.now.keys site.now.until_drained
+        (own_entries_of seat) (own_entries_of result.0) (S.input from.old) (S.input from.new)
+        (S.faults from.old) (S.faults from.new)
         (K.taken to.old) (K.taken to.new) (K.faults to.old) (K.faults to.new) result.1 }
     ensures read_faults { S.faults from.old ≤ S.faults from.new }
     ensures source { S.number from.new ≡ S.number from.old }

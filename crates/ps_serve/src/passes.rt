@@ -55,7 +55,8 @@ fn verified(
     authorization: &Option<Text>,
     now: u64,
 ) -> Result<Claims, Refusal>
-    ensures { ReadsOr (HasToken authorization.now) result (verified_in keys.now now authorization.now) }
+    ensures { ReadsOr (HasToken authorization.now) result
+        (verified_in keys.now now authorization.now) }
 {
     let Some(value) = authorization else {
         return Err(Refusal::Unauthorized);

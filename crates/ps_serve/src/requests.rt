@@ -72,7 +72,8 @@ fn change_refusal(fault: ChangeFault) -> Refusal
 
 // The body behind a head.
 fn body_behind<S: Source>(alloc: Global, head: &Head, from: &mut S) -> Result<Vec<u8>, Refusal>
-    ensures body { HasBody head.now (S.input from.old) (S.input from.new) (S.faults from.old) (S.faults from.new) result }
+    ensures body { HasBody head.now (S.input from.old) (S.input from.new) (S.faults from.old)
+        (S.faults from.new) result }
     ensures faults { S.faults from.old ≤ S.faults from.new }
     ensures number { S.number from.new ≡ S.number from.old }
 {
@@ -142,7 +143,8 @@ fn asked_behind<S: Source>(
     now: u64,
     from: &mut S,
 ) -> Result<Asked, Refusal>
-    ensures asks { AsksBehind keys.now now head.now (S.input from.old) (S.input from.new) (S.faults from.old) (S.faults from.new) result }
+    ensures asks { AsksBehind keys.now now head.now (S.input from.old) (S.input from.new)
+        (S.faults from.old) (S.faults from.new) result }
     ensures filled { IfOk result AreFilled }
     ensures faults { S.faults from.old ≤ S.faults from.new }
     ensures number { S.number from.new ≡ S.number from.old }
@@ -172,7 +174,8 @@ pub fn read_request<S: Source, C: Clock>(
     from: &mut S,
     clock: &C,
 ) -> Result<Asked, Refusal>
-    ensures asks { Asks (C.may_give clock.now) keys.now (S.input from.old) (S.input from.new) (S.faults from.old) (S.faults from.new) result }
+    ensures asks { Asks (C.may_give clock.now) keys.now (S.input from.old) (S.input from.new)
+        (S.faults from.old) (S.faults from.new) result }
     ensures filled { IfOk result AreFilled }
     ensures faults { S.faults from.old ≤ S.faults from.new }
     ensures number { S.number from.new ≡ S.number from.old }

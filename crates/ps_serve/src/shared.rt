@@ -50,7 +50,8 @@ fn listen<B: Bell>(bell: &mut B, action: Action, heard: u64) -> u64 {
 
 // Whether the stream ends here, since it shows all that will ever be.
 fn is_over<C>(terms: &Terms<C>, session: &Session) -> bool
-    ensures { IsTrue result ↔ ((terms.now.until_drained ≡ true) × IsDrained (state_of session.now)) }
+    ensures { IsTrue result
+        ↔ ((terms.now.until_drained ≡ true) × IsDrained (state_of session.now)) }
 {
     terms.until_drained && session.drained()
 }
@@ -66,13 +67,20 @@ pub fn stream_on<R: Wait, K: Sink, C: Clock, B: Bell>(
 ) -> (Reader, End)
     requires at_end { IsAtEnd desk.now.lock.now reader }
     requires begun { (state_of stream.old.session).phase ≢ Start }
-    requires way { (at : ℕ) × IsUnderWay (course_of (fixed_of desk.now.lock.now).rules (seen reader) stream.old.session.asker) (length (seen reader)) at (state_of stream.old.session) }
+    requires way { (at : ℕ) × IsUnderWay
+        (course_of (fixed_of desk.now.lock.now).rules (seen reader) stream.old.session.asker)
+        (length (seen reader)) at (state_of stream.old.session) }
     ensures goes_on { GoesOn desk.now.lock.now reader result.0 }
-    ensures ends { (positions : List KnownSeen) (low : ℕ) (front : List ℕ) (first : Option (List ℕ)) (before : ℕ) → before ≤ K.faults to.old
-        → HasStreamed (C.may_give terms.now.clock.now) terms.now.exp (fixed_of desk.now.lock.now) stream.old.session.asker positions low
-        (seen reader) front first (K.taken to.old) (state_of stream.old.session) stream.old.served.items
-        → EndsSo (C.may_give terms.now.clock.now) terms.now.exp (fixed_of desk.now.lock.now) stream.old.session.asker positions low
-        (seen result.0) terms.now.until_drained front first (K.taken to.new) stream.new.served.items before (K.faults to.new) result.1 }
+    ensures ends { (positions : List KnownSeen) (low : ℕ) (front : List ℕ)
+        (first : Option (List ℕ)) (before : ℕ) → before ≤ K.faults to.old
+        → HasStreamed (C.may_give terms.now.clock.now) terms.now.exp (fixed_of desk.now.lock.now)
+        stream.old.session.asker positions low
+        (seen reader) front first (K.taken to.old)
+        (state_of stream.old.session) stream.old.served.items
+        → EndsSo (C.may_give terms.now.clock.now) terms.now.exp (fixed_of desk.now.lock.now)
+        stream.old.session.asker positions low
+        (seen result.0) terms.now.until_drained front first (K.taken to.new)
+        stream.new.served.items before (K.faults to.new) result.1 }
     ensures faults { K.faults to.old ≤ K.faults to.new }
     ensures number { K.number to.new ≡ K.number to.old }
 {
@@ -115,7 +123,8 @@ fn take_first<R: Wait>(
 ) -> (Reader, Result<Vec<u8>, Refusal>)
     requires start { (state_of session.old).phase ≡ Start }
     requires at_end { IsAtEnd desk.now.lock.now reader }
-    ensures begins { HasBegun desk.now.lock.now reader result.0 session.old.asker (state_of session.old) (state_of session.new) result.1 }
+    ensures begins { HasBegun desk.now.lock.now reader result.0 session.old.asker
+        (state_of session.old) (state_of session.new) result.1 }
     ensures asker { session.new.asker ≡ session.old.asker }
 {
     let (reader, turned) = turn_through(desk, reader, session);
@@ -151,9 +160,12 @@ pub fn stream_from<R: Wait, K: Sink, C: Clock, B: Bell>(
     requires none { stream.old.served.items ≡ [] }
     requires at_end { IsAtEnd desk.now.lock.now reader }
     ensures goes_on { GoesOn desk.now.lock.now reader result.0 }
-    ensures streams { (positions : List KnownSeen) (low : ℕ) → low ≤ length (seen reader) → state_of stream.old.session ≡ begin (requested_in positions)
-        → StreamsAt (fixed_of desk.now.lock.now) low (seen result.0) (C.may_give terms.now.clock.now) terms.now.until_drained
-        stream.old.session.asker positions terms.now.exp (K.taken to.old) (K.taken to.new) (K.faults to.old) (K.faults to.new)
+    ensures streams { (positions : List KnownSeen) (low : ℕ) → low ≤ length (seen reader)
+        → state_of stream.old.session ≡ begin (requested_in positions)
+        → StreamsAt (fixed_of desk.now.lock.now) low (seen result.0)
+        (C.may_give terms.now.clock.now) terms.now.until_drained
+        stream.old.session.asker positions terms.now.exp (K.taken to.old) (K.taken to.new)
+        (K.faults to.old) (K.faults to.new)
         (record { status = result.1.0; end = result.1.1; served = stream.new.served.items }) }
     ensures faults { K.faults to.old ≤ K.faults to.new }
     ensures number { K.number to.new ≡ K.number to.old }
@@ -192,8 +204,10 @@ pub fn stream_through<R: Wait, K: Sink, C: Clock, B: Bell>(
     ensures lock { IsSeatOf desk.now.lock.now result.0 }
     ensures saw { IsPrefix (seen_by seat) (seen_by result.0) }
     ensures own { own_entries_of result.0 ≡ own_entries_of seat }
-    ensures streams { StreamsAt (fixed_of desk.now.lock.now) (length (seen_by seat)) (seen_by result.0) (C.may_give terms.now.clock.now) terms.now.until_drained
-        request.asker request.positions terms.now.exp (K.taken to.old) (K.taken to.new) (K.faults to.old) (K.faults to.new) result.1 }
+    ensures streams { StreamsAt (fixed_of desk.now.lock.now) (length (seen_by seat))
+        (seen_by result.0) (C.may_give terms.now.clock.now) terms.now.until_drained
+        request.asker request.positions terms.now.exp (K.taken to.old) (K.taken to.new)
+        (K.faults to.old) (K.faults to.new) result.1 }
     ensures faults { K.faults to.old ≤ K.faults to.new }
     ensures number { K.number to.new ≡ K.number to.old }
 {

@@ -53,7 +53,8 @@ pub struct Stream {
 
 // Writes bytes.
 fn put<K: Sink>(bytes: &[u8], to: &mut K) -> Result<(), End>
-    ensures puts { Puts bytes.now (K.taken to.old) (K.taken to.new) (K.faults to.old) (K.faults to.new) result }
+    ensures puts { Puts bytes.now (K.taken to.old) (K.taken to.new) (K.faults to.old)
+        (K.faults to.new) result }
     ensures faults { K.faults to.old ≤ K.faults to.new }
     ensures number { K.number to.new ≡ K.number to.old }
 {
@@ -147,7 +148,8 @@ fn write_sent<K: Sink>(
 /// What is told of the checkpoint at the end of what a reader has seen.
 pub fn served_at(reader: &Reader) -> Served
     ensures place { result.place ≡ length (seen reader.now) }
-    ensures checkpoint { (result.position ≡ reader.now.checkpoint.position) × (result.last_op ≡ reader.now.checkpoint.op) }
+    ensures checkpoint { (result.position ≡ reader.now.checkpoint.position)
+        × (result.last_op ≡ reader.now.checkpoint.op) }
     ensures completed { result.completed ≡ false }
 {
     Served {
@@ -167,11 +169,15 @@ fn send_on<R: Wait, K: Sink>(
     completes: bool,
 ) -> (Reader, Result<(), End>)
     requires phase { (state_of stream.old.session).phase ≡ Download }
-    requires completes { completes ≡ completes_in (state_of stream.old.session).phase (state_of stream.old.session) }
+    requires completes { completes ≡ completes_in (state_of stream.old.session).phase
+        (state_of stream.old.session) }
     requires at_end { IsAtEnd desk.now.lock.now reader }
-    requires way { (at : ℕ) × IsUnderWay (course_of (fixed_of desk.now.lock.now).rules (seen reader) stream.old.session.asker) (length (seen reader)) at (state_of stream.old.session) }
+    requires way { (at : ℕ) × IsUnderWay
+        (course_of (fixed_of desk.now.lock.now).rules (seen reader) stream.old.session.asker)
+        (length (seen reader)) at (state_of stream.old.session) }
     ensures sent { HasSent desk.now.lock.now reader result.0 stream.old.session.asker
-        (state_of stream.old.session) (state_of stream.new.session) stream.old.served.items stream.new.served.items
+        (state_of stream.old.session) (state_of stream.new.session)
+        stream.old.served.items stream.new.served.items
         (K.taken to.old) (K.taken to.new) (K.faults to.old) (K.faults to.new) result.1 }
     ensures asker { stream.new.session.asker ≡ stream.old.session.asker }
     ensures faults { K.faults to.old ≤ K.faults to.new }
@@ -198,9 +204,13 @@ fn take_again<R: Wait, K: Sink, C: Clock>(
 ) -> (Reader, Result<(), End>)
     requires again { TakesAgain (state_of stream.old.session).phase }
     requires at_end { IsAtEnd desk.now.lock.now reader }
-    requires way { (at : ℕ) × IsUnderWay (course_of (fixed_of desk.now.lock.now).rules (seen reader) stream.old.session.asker) (length (seen reader)) at (state_of stream.old.session) }
-    ensures steps { HasStepped (C.may_give terms.now.clock.now) terms.now.exp desk.now.lock.now reader result.0 stream.old.session.asker
-        (state_of stream.old.session) (state_of stream.new.session) stream.old.served.items stream.new.served.items
+    requires way { (at : ℕ) × IsUnderWay
+        (course_of (fixed_of desk.now.lock.now).rules (seen reader) stream.old.session.asker)
+        (length (seen reader)) at (state_of stream.old.session) }
+    ensures steps { HasStepped (C.may_give terms.now.clock.now) terms.now.exp desk.now.lock.now
+        reader result.0 stream.old.session.asker
+        (state_of stream.old.session) (state_of stream.new.session)
+        stream.old.served.items stream.new.served.items
         (K.taken to.old) (K.taken to.new) (K.faults to.old) (K.faults to.new) result.1 }
     ensures asker { stream.new.session.asker ≡ stream.old.session.asker }
     ensures faults { K.faults to.old ≤ K.faults to.new }
@@ -239,9 +249,13 @@ pub fn step<R: Wait, K: Sink, C: Clock>(
     requires action { next_action (state_of stream.old.session) ≡ action }
     requires begun { (state_of stream.old.session).phase ≢ Start }
     requires at_end { IsAtEnd desk.now.lock.now reader }
-    requires way { (at : ℕ) × IsUnderWay (course_of (fixed_of desk.now.lock.now).rules (seen reader) stream.old.session.asker) (length (seen reader)) at (state_of stream.old.session) }
-    ensures steps { HasStepped (C.may_give terms.now.clock.now) terms.now.exp desk.now.lock.now reader result.0 stream.old.session.asker
-        (state_of stream.old.session) (state_of stream.new.session) stream.old.served.items stream.new.served.items
+    requires way { (at : ℕ) × IsUnderWay
+        (course_of (fixed_of desk.now.lock.now).rules (seen reader) stream.old.session.asker)
+        (length (seen reader)) at (state_of stream.old.session) }
+    ensures steps { HasStepped (C.may_give terms.now.clock.now) terms.now.exp desk.now.lock.now
+        reader result.0 stream.old.session.asker
+        (state_of stream.old.session) (state_of stream.new.session)
+        stream.old.served.items stream.new.served.items
         (K.taken to.old) (K.taken to.new) (K.faults to.old) (K.faults to.new) result.1 }
     ensures asker { stream.new.session.asker ≡ stream.old.session.asker }
     ensures faults { K.faults to.old ≤ K.faults to.new }

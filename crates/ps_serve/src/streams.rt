@@ -29,7 +29,8 @@ use std::alloc::Global;
 // Writes the line of a turn, if it gives one.
 pub(crate) fn send<K: Sink>(alloc: Global, line: Option<Line>, to: &mut K) -> Result<(), End>
     requires { IfSome line IsWritable }
-    ensures sends { Sends line (K.taken to.old) (K.taken to.new) (K.faults to.old) (K.faults to.new) result }
+    ensures sends { Sends line (K.taken to.old) (K.taken to.new) (K.faults to.old)
+        (K.faults to.new) result }
     ensures faults { K.faults to.old ≤ K.faults to.new }
     ensures number { K.number to.new ≡ K.number to.old }
 {
@@ -47,9 +48,12 @@ pub(crate) fn send<K: Sink>(alloc: Global, line: Option<Line>, to: &mut K) -> Re
 
 // The line of the session's turn, if it makes one.
 fn turn(alloc: Global, store: &Store, session: &mut Session) -> Result<Option<Line>, TakeFault>
-    requires { (fixed : FixedSeen) × (history : List EventSeen) × StoreStandsFor fixed store.now history × IsHere fixed history session.old }
-    ensures turns { (fixed : FixedSeen) (history : List EventSeen) → StoreStandsFor fixed store.now history → IsHere fixed history session.old
-        → TurnsTo fixed history session.old.asker (state_of session.old) (state_of session.new) result }
+    requires { (fixed : FixedSeen) × (history : List EventSeen)
+        × StoreStandsFor fixed store.now history × IsHere fixed history session.old }
+    ensures turns { (fixed : FixedSeen) (history : List EventSeen)
+        → StoreStandsFor fixed store.now history → IsHere fixed history session.old
+        → TurnsTo fixed history session.old.asker (state_of session.old)
+        (state_of session.new) result }
     ensures writable { IfOk result (λ line. IfSome line IsWritable) }
     ensures asker { session.new.asker ≡ session.old.asker }
 {
@@ -60,9 +64,12 @@ fn turn(alloc: Global, store: &Store, session: &mut Session) -> Result<Option<Li
 // Takes the first checkpoint.
 fn take(alloc: Global, store: &Store, session: &mut Session) -> Result<Option<Line>, TakeFault>
     requires start { (state_of session.old).phase ≡ Start }
-    requires serves { (fixed : FixedSeen) × (history : List EventSeen) × StoreStandsFor fixed store.now history }
-    ensures takes { (fixed : FixedSeen) (history : List EventSeen) → StoreStandsFor fixed store.now history
-        → Takes fixed history session.old.asker (turn_for fixed history session.old) (state_of session.new) result }
+    requires serves { (fixed : FixedSeen) × (history : List EventSeen)
+        × StoreStandsFor fixed store.now history }
+    ensures takes { (fixed : FixedSeen) (history : List EventSeen)
+        → StoreStandsFor fixed store.now history
+        → Takes fixed history session.old.asker (turn_for fixed history session.old)
+        (state_of session.new) result }
     ensures writable { IfOk result (λ line. IfSome line IsWritable) }
     ensures asker { session.new.asker ≡ session.old.asker }
 {
@@ -78,10 +85,14 @@ fn send_on<K: Sink>(
     to: &mut K,
 ) -> Result<(), End>
     requires phase { (state_of session.old).phase ≡ Download }
-    requires here { (fixed : FixedSeen) × (history : List EventSeen) × StoreStandsFor fixed store.now history × IsHere fixed history session.old }
-    ensures sends { (fixed : FixedSeen) (history : List EventSeen) → StoreStandsFor fixed store.now history → IsHere fixed history session.old
-        → Sends (turn_for fixed history session.old).line (K.taken to.old) (K.taken to.new) (K.faults to.old) (K.faults to.new) result }
-    ensures state { OnOk result ((fixed : FixedSeen) (history : List EventSeen) → StoreStandsFor fixed store.now history → IsHere fixed history session.old
+    requires here { (fixed : FixedSeen) × (history : List EventSeen)
+        × StoreStandsFor fixed store.now history × IsHere fixed history session.old }
+    ensures sends { (fixed : FixedSeen) (history : List EventSeen)
+        → StoreStandsFor fixed store.now history → IsHere fixed history session.old
+        → Sends (turn_for fixed history session.old).line (K.taken to.old) (K.taken to.new)
+        (K.faults to.old) (K.faults to.new) result }
+    ensures state { OnOk result ((fixed : FixedSeen) (history : List EventSeen)
+        → StoreStandsFor fixed store.now history → IsHere fixed history session.old
         → state_of session.new ≡ (turn_for fixed history session.old).session) }
     ensures asker { session.new.asker ≡ session.old.asker }
     ensures faults { K.faults to.old ≤ K.faults to.new }
@@ -103,11 +114,15 @@ fn take_again<K: Sink, C: Clock>(
     clock: &C,
     exp: u64,
 ) -> Result<(), End>
-    requires here { (fixed : FixedSeen) × (history : List EventSeen) × StoreStandsFor fixed store.now history × IsHere fixed history session.old }
-    ensures sends { (fixed : FixedSeen) (history : List EventSeen) → StoreStandsFor fixed store.now history → IsHere fixed history session.old
-        → SendsInTime (C.may_give clock.now) exp fixed history session.old.asker (turn_for fixed history session.old).line
+    requires here { (fixed : FixedSeen) × (history : List EventSeen)
+        × StoreStandsFor fixed store.now history × IsHere fixed history session.old }
+    ensures sends { (fixed : FixedSeen) (history : List EventSeen)
+        → StoreStandsFor fixed store.now history → IsHere fixed history session.old
+        → SendsInTime (C.may_give clock.now) exp fixed history session.old.asker
+        (turn_for fixed history session.old).line
         (K.taken to.old) (K.taken to.new) (K.faults to.old) (K.faults to.new) result }
-    ensures state { OnOk result ((fixed : FixedSeen) (history : List EventSeen) → StoreStandsFor fixed store.now history → IsHere fixed history session.old
+    ensures state { OnOk result ((fixed : FixedSeen) (history : List EventSeen)
+        → StoreStandsFor fixed store.now history → IsHere fixed history session.old
         → state_of session.new ≡ (turn_for fixed history session.old).session) }
     ensures asker { session.new.asker ≡ session.old.asker }
     ensures faults { K.faults to.old ≤ K.faults to.new }
@@ -136,11 +151,15 @@ fn make_turn<K: Sink, C: Clock>(
 ) -> Result<(), End>
     requires action { next_action (state_of session.old) ≡ action }
     requires goes { action ≢ actions.Wait }
-    requires here { (fixed : FixedSeen) × (history : List EventSeen) × StoreStandsFor fixed store.now history × IsHere fixed history session.old }
-    ensures sends { (fixed : FixedSeen) (history : List EventSeen) → StoreStandsFor fixed store.now history → IsHere fixed history session.old
-        → SendsSo action (C.may_give clock.now) exp fixed history session.old.asker (turn_for fixed history session.old).line
+    requires here { (fixed : FixedSeen) × (history : List EventSeen)
+        × StoreStandsFor fixed store.now history × IsHere fixed history session.old }
+    ensures sends { (fixed : FixedSeen) (history : List EventSeen)
+        → StoreStandsFor fixed store.now history → IsHere fixed history session.old
+        → SendsSo action (C.may_give clock.now) exp fixed history session.old.asker
+        (turn_for fixed history session.old).line
         (K.taken to.old) (K.taken to.new) (K.faults to.old) (K.faults to.new) result }
-    ensures state { OnOk result ((fixed : FixedSeen) (history : List EventSeen) → StoreStandsFor fixed store.now history → IsHere fixed history session.old
+    ensures state { OnOk result ((fixed : FixedSeen) (history : List EventSeen)
+        → StoreStandsFor fixed store.now history → IsHere fixed history session.old
         → state_of session.new ≡ (turn_for fixed history session.old).session) }
     ensures asker { session.new.asker ≡ session.old.asker }
     ensures faults { K.faults to.old ≤ K.faults to.new }
@@ -175,10 +194,13 @@ fn go_on<K: Sink, C: Clock>(
     exp: u64,
 ) -> End
     requires sending { IsSending (state_of session.old).phase }
-    requires here { (fixed : FixedSeen) × (history : List EventSeen) × StoreStandsFor fixed store.now history × IsHere fixed history session.old }
-    ensures streams { (fixed : FixedSeen) (history : List EventSeen) (positions : List KnownSeen) (done : List LineSeen) → StoreStandsFor fixed store.now history
+    requires here { (fixed : FixedSeen) × (history : List EventSeen)
+        × StoreStandsFor fixed store.now history × IsHere fixed history session.old }
+    ensures streams { (fixed : FixedSeen) (history : List EventSeen) (positions : List KnownSeen)
+        (done : List LineSeen) → StoreStandsFor fixed store.now history
         → IsStreamingFor fixed history positions session.old done
-        → StreamsOn (C.may_give clock.now) exp fixed history session.old.asker positions [] done (K.taken to.old) (K.taken to.new) (K.faults to.old) (K.faults to.new) result }
+        → StreamsOn (C.may_give clock.now) exp fixed history session.old.asker positions [] done
+        (K.taken to.old) (K.taken to.new) (K.faults to.old) (K.faults to.new) result }
     ensures once { TakesOnce result }
     ensures faults { K.faults to.old ≤ K.faults to.new }
     ensures number { K.number to.new ≡ K.number to.old }
@@ -200,9 +222,12 @@ fn go_on<K: Sink, C: Clock>(
 // The bytes of the first checkpoint's line.
 fn first_line(alloc: Global, store: &Store, session: &mut Session) -> Result<Vec<u8>, Refusal>
     requires start { (state_of session.old).phase ≡ Start }
-    requires serves { (fixed : FixedSeen) × (history : List EventSeen) × StoreStandsFor fixed store.now history }
-    ensures begins { (fixed : FixedSeen) (history : List EventSeen) → StoreStandsFor fixed store.now history
-        → Begins fixed history session.old.asker (turn_for fixed history session.old) (state_of session.new) result }
+    requires serves { (fixed : FixedSeen) × (history : List EventSeen)
+        × StoreStandsFor fixed store.now history }
+    ensures begins { (fixed : FixedSeen) (history : List EventSeen)
+        → StoreStandsFor fixed store.now history
+        → Begins fixed history session.old.asker (turn_for fixed history session.old)
+        (state_of session.new) result }
     ensures asker { session.new.asker ≡ session.old.asker }
 {
     let line = match take(alloc, store, session) {
@@ -238,10 +263,13 @@ fn stream_from<K: Sink, C: Clock>(
     exp: u64,
 ) -> (u16, End)
     requires start { (state_of session.old).phase ≡ Start }
-    requires serves { (fixed : FixedSeen) × (history : List EventSeen) × StoreStandsFor fixed store.now history }
-    ensures streams { (fixed : FixedSeen) (history : List EventSeen) (positions : List KnownSeen) → StoreStandsFor fixed store.now history
+    requires serves { (fixed : FixedSeen) × (history : List EventSeen)
+        × StoreStandsFor fixed store.now history }
+    ensures streams { (fixed : FixedSeen) (history : List EventSeen) (positions : List KnownSeen)
+        → StoreStandsFor fixed store.now history
         → state_of session.old ≡ begin (requested_in positions)
-        → Streams (C.may_give clock.now) exp fixed history session.old.asker positions (K.taken to.old) (K.taken to.new) (K.faults to.old) (K.faults to.new) result.0 result.1 }
+        → Streams (C.may_give clock.now) exp fixed history session.old.asker positions
+        (K.taken to.old) (K.taken to.new) (K.faults to.old) (K.faults to.new) result.0 result.1 }
     ensures faults { K.faults to.old ≤ K.faults to.new }
     ensures number { K.number to.new ≡ K.number to.old }
 {
@@ -271,9 +299,12 @@ pub fn answer_stream<K: Sink, C: Clock>(
     clock: &C,
     exp: u64,
 ) -> (u16, End)
-    requires { (fixed : FixedSeen) × (history : List EventSeen) × StoreStandsFor fixed store.now history }
-    ensures streams { (fixed : FixedSeen) (history : List EventSeen) → StoreStandsFor fixed store.now history
-        → Streams (C.may_give clock.now) exp fixed history request.asker request.positions (K.taken to.old) (K.taken to.new) (K.faults to.old) (K.faults to.new) result.0 result.1 }
+    requires { (fixed : FixedSeen) × (history : List EventSeen)
+        × StoreStandsFor fixed store.now history }
+    ensures streams { (fixed : FixedSeen) (history : List EventSeen)
+        → StoreStandsFor fixed store.now history
+        → Streams (C.may_give clock.now) exp fixed history request.asker request.positions
+        (K.taken to.old) (K.taken to.new) (K.faults to.old) (K.faults to.new) result.0 result.1 }
     ensures faults { K.faults to.old ≤ K.faults to.new }
     ensures number { K.number to.new ≡ K.number to.old }
 {

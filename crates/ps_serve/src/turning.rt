@@ -129,8 +129,11 @@ fn turn_named<N: Named, R: Wait>(
     requires lock { N.lock ≡ Some desk.now.lock.now }
     requires entries { N.entries ≡ own reader }
     requires at_end { IsAtEnd desk.now.lock.now reader }
-    requires way { (at : ℕ) × IsUnderWay (course_of (fixed_of desk.now.lock.now).rules (seen reader) session.old.asker) (length (seen reader)) at (state_of session.old) }
-    ensures turns { HasTurnedAt desk.now.lock.now reader result.0 session.old.asker (state_of session.old) (state_of session.new) result.1 }
+    requires way { (at : ℕ) × IsUnderWay
+        (course_of (fixed_of desk.now.lock.now).rules (seen reader) session.old.asker)
+        (length (seen reader)) at (state_of session.old) }
+    ensures turns { HasTurnedAt desk.now.lock.now reader result.0 session.old.asker
+        (state_of session.old) (state_of session.new) result.1 }
     ensures writable { IfOk result.1 IsWritableOutcome }
     ensures asker { session.new.asker ≡ session.old.asker }
 {
@@ -156,8 +159,11 @@ pub fn turn_through<R: Wait>(
     session: &mut Session,
 ) -> (Reader, Result<TurnOutcome, TakeFault>)
     requires at_end { IsAtEnd desk.now.lock.now reader }
-    requires way { (at : ℕ) × IsUnderWay (course_of (fixed_of desk.now.lock.now).rules (seen reader) session.old.asker) (length (seen reader)) at (state_of session.old) }
-    ensures turns { HasTurnedAt desk.now.lock.now reader result.0 session.old.asker (state_of session.old) (state_of session.new) result.1 }
+    requires way { (at : ℕ) × IsUnderWay
+        (course_of (fixed_of desk.now.lock.now).rules (seen reader) session.old.asker)
+        (length (seen reader)) at (state_of session.old) }
+    ensures turns { HasTurnedAt desk.now.lock.now reader result.0 session.old.asker
+        (state_of session.old) (state_of session.new) result.1 }
     ensures writable { IfOk result.1 IsWritableOutcome }
     ensures asker { session.new.asker ≡ session.old.asker }
 {

@@ -25,7 +25,8 @@ pub fn head(alloc: Global, status: u16, length: Option<u64>) -> Result<Vec<u8>, 
 // Writes the head of a refusal. Where there is no memory for it, nothing is written.
 fn tell<K: Sink>(alloc: Global, status: u16, to: &mut K) -> (u16, End)
     requires { IsTrue (is_status status) }
-    ensures refused { IsRefused status (K.taken to.old) (K.taken to.new) (K.faults to.old) (K.faults to.new) result.0 result.1 }
+    ensures refused { IsRefused status (K.taken to.old) (K.taken to.new) (K.faults to.old)
+        (K.faults to.new) result.0 result.1 }
     ensures faults { K.faults to.old ≤ K.faults to.new }
     ensures number { K.number to.new ≡ K.number to.old }
 {
@@ -40,7 +41,8 @@ fn tell<K: Sink>(alloc: Global, status: u16, to: &mut K) -> (u16, End)
 
 // Tells out of memory, where there is enough for that.
 fn want<K: Sink>(alloc: Global, to: &mut K) -> (u16, End)
-    ensures written { IsWritten ends.Memory 503 (refusal_text 503) (K.taken to.old) (K.taken to.new) (K.faults to.old) (K.faults to.new) result.0 result.1 }
+    ensures written { IsWritten ends.Memory 503 (refusal_text 503) (K.taken to.old)
+        (K.taken to.new) (K.faults to.old) (K.faults to.new) result.0 result.1 }
     ensures faults { K.faults to.old ≤ K.faults to.new }
     ensures number { K.number to.new ≡ K.number to.old }
 {
@@ -55,7 +57,8 @@ fn want<K: Sink>(alloc: Global, to: &mut K) -> (u16, End)
 
 /// Answers a refusal, where there is somebody to answer.
 pub fn refuse<K: Sink>(alloc: Global, refusal: Refusal, to: &mut K) -> (u16, End)
-    ensures refuses { Refuses refusal (K.taken to.old) (K.taken to.new) (K.faults to.old) (K.faults to.new) result.0 result.1 }
+    ensures refuses { Refuses refusal (K.taken to.old) (K.taken to.new) (K.faults to.old)
+        (K.faults to.new) result.0 result.1 }
     ensures faults { K.faults to.old ≤ K.faults to.new }
     ensures number { K.number to.new ≡ K.number to.old }
 {
@@ -84,7 +87,8 @@ fn with_head(alloc: Global, body: &[u8]) -> Result<Vec<u8>, Memory>
 
 /// Answers with a body.
 pub fn answer_with<K: Sink>(alloc: Global, body: &[u8], to: &mut K) -> (u16, End)
-    ensures written { IsWritten ends.Answered 200 (body_answer body.now) (K.taken to.old) (K.taken to.new) (K.faults to.old) (K.faults to.new) result.0 result.1 }
+    ensures written { IsWritten ends.Answered 200 (body_answer body.now) (K.taken to.old)
+        (K.taken to.new) (K.faults to.old) (K.faults to.new) result.0 result.1 }
     ensures faults { K.faults to.old ≤ K.faults to.new }
     ensures number { K.number to.new ≡ K.number to.old }
 {

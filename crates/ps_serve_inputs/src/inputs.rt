@@ -36,7 +36,8 @@ fn load_next_if<'a, F: Files>(
     files: &mut F,
     name: &'a Option<Text>,
 ) -> Result<Option<Rules>, Fault<'a>>
-    ensures loads { LoadsNext (F.held files.old) name.now (F.faults files.old) (F.faults files.new) result }
+    ensures loads { LoadsNext (F.held files.old) name.now (F.faults files.old)
+        (F.faults files.new) result }
     ensures missed { MissesNamed (F.missed files.old) (F.missed files.new) result }
     ensures held { F.held files.new ≡ F.held files.old }
     ensures faults { F.faults files.old ≤ F.faults files.new }
@@ -57,8 +58,10 @@ pub fn load_inputs<'a, F: Files>(
     files: &mut F,
     words: &'a ServeWords,
 ) -> Result<Inputs, Fault<'a>>
-    ensures loads { LoadsInputs (F.held files.old) words.now (F.faults files.old) (F.faults files.new) result }
-    ensures low { IfOk result (λ inputs. All (λ (t : TransactionSeen). t.position.0 ≤ greatest) inputs.transactions.items) }
+    ensures loads { LoadsInputs (F.held files.old) words.now (F.faults files.old)
+        (F.faults files.new) result }
+    ensures low { IfOk result (λ inputs.
+        All (λ (t : TransactionSeen). t.position.0 ≤ greatest) inputs.transactions.items) }
     ensures missed { MissesNamed (F.missed files.old) (F.missed files.new) result }
     ensures held { F.held files.new ≡ F.held files.old }
     ensures faults { F.faults files.old ≤ F.faults files.new }

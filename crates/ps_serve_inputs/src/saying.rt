@@ -10,7 +10,8 @@ use ps_io::Sink;
 
 // Says that connections cannot be had.
 fn say_connection<E: Sink>(err: &mut E)
-    ensures { Tells (E.taken err.old) (E.taken err.new) (E.faults err.old) (E.faults err.new) (codes "powersync: connection failed\n") }
+    ensures { Tells (E.taken err.old) (E.taken err.new) (E.faults err.old) (E.faults err.new)
+        (codes "powersync: connection failed\n") }
 {
     match err.write(b"powersync: connection failed\n") {
         Ok(()) => (),
@@ -20,7 +21,9 @@ fn say_connection<E: Sink>(err: &mut E)
 
 /// Says a fault of `serve` on standard error, and answers its status: docs/FORMATS.md, "Fault texts". Takes no memory.
 pub fn say_serve<E: Sink>(err: &mut E, fault: &ServeFault<'_>) -> u8
-    ensures { SaysServeFault (record { old = E.taken err.old; new = E.taken err.new; before = E.faults err.old; now = E.faults err.new }) fault.now result }
+    ensures { SaysServeFault
+        (record { old = E.taken err.old; new = E.taken err.new; before = E.faults err.old; now
+        = E.faults err.new }) fault.now result }
 {
     match fault {
         ServeFault::Plain { fault } => say(err, fault),

@@ -37,7 +37,8 @@ fn some_text_under(
 
 // The number under a name, if there is one.
 fn number_under(matches: &ArgMatches<'_>, name: &str) -> Result<Option<u32>, Memory>
-    ensures number { IfOk result (λ number. number_at name.now (rows_of (found_of matches.now)) ≡ number) }
+    ensures number { IfOk result (λ number.
+        number_at name.now (rows_of (found_of matches.now)) ≡ number) }
     ensures range { IfOk result (λ number. IfSome number IsInMillion) }
 {
     if let None = matches.get_str(name) {
@@ -52,7 +53,8 @@ fn number_under(matches: &ArgMatches<'_>, name: &str) -> Result<Option<u32>, Mem
 
 // The number under a name that has one, given or not.
 fn sure_number_under(matches: &ArgMatches<'_>, name: &str) -> Result<u32, Memory>
-    ensures number { IfOk result (λ number. number_at name.now (rows_of (found_of matches.now)) ≡ Some number) }
+    ensures number { IfOk result (λ number.
+        number_at name.now (rows_of (found_of matches.now)) ≡ Some number) }
     ensures range { IfOk result IsInMillion }
 {
     match number_under(matches, name)? {
@@ -64,7 +66,8 @@ fn sure_number_under(matches: &ArgMatches<'_>, name: &str) -> Result<u32, Memory
 
 // The number of transactions under a name that has one, given or not.
 fn count_under(matches: &ArgMatches<'_>, name: &str) -> Result<u64, Memory>
-    ensures number { IfOk result (λ number. number_at name.now (rows_of (found_of matches.now)) ≡ Some number) }
+    ensures number { IfOk result (λ number.
+        number_at name.now (rows_of (found_of matches.now)) ≡ Some number) }
     ensures range { IfOk result IsCount }
 {
     match matches.get_one::<u64>(name) {

@@ -53,7 +53,8 @@ pub(crate) fn finish<R: Threads, T, P: Promise<T>, F: FnOnce() -> T>(
 ) -> T
     requires { IfErr begun (λ refused. F.pre refused.value) }
     ensures { (promise : P) → IfOk begun (λ child. child.promise ≡ promise)
-        → IfErr begun (λ refused. (done : T) → F.post refused.value done → P.kept_by promise done) → P.kept_by promise result }
+        → IfErr begun (λ refused. (done : T) → F.post refused.value done → P.kept_by promise done)
+        → P.kept_by promise result }
 {
     match begun {
         Ok(child) => child.join(rt),

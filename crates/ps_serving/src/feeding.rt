@@ -104,7 +104,8 @@ pub(crate) fn open_fed<R: Wait>(
     closed: bool,
 ) -> Result<(StoreLock<SharedStore>, Seat<SharedStore>), Memory>
     requires { All (λ (t : TransactionSeen). t.position.0 ≤ greatest) transactions.items }
-    ensures terms { IfOk result (λ opened. terms_of opened.0 ≡ record { fixed = usual rules; next = next.now }) }
+    ensures terms { IfOk result (λ opened.
+        terms_of opened.0 ≡ record { fixed = usual rules; next = next.now }) }
     ensures lock { IfOk result (λ opened. IsSeatOf opened.0 opened.1) }
     ensures seen { IfOk result (λ opened. seen_by opened.1 ≡ opening closed transactions.items) }
 {

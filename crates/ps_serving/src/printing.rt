@@ -37,7 +37,8 @@ fn totals_text(alloc: Global, totals: Totals) -> Result<Vec<u8>, Memory>
 // Prints a line, where there was memory for it.
 fn print<'a, K: Sink>(text: Result<Vec<u8>, Memory>, out: &mut K) -> Result<(), Fault<'a>>
     ensures prints { (line : List ℕ) → IfOk text (λ made. made.items ≡ line)
-        → PrintsLine line (K.taken out.old) (K.taken out.new) (K.faults out.old) (K.faults out.new) result }
+        → PrintsLine line (K.taken out.old) (K.taken out.new) (K.faults out.old)
+        (K.faults out.new) result }
     ensures faults { K.faults out.old ≤ K.faults out.new }
 {
     let text = text?;
@@ -53,7 +54,8 @@ pub(crate) fn print_listening<'a, K: Sink>(
     address: &Text,
     out: &mut K,
 ) -> Result<(), Fault<'a>>
-    ensures prints { PrintsLine (listening_line address.now) (K.taken out.old) (K.taken out.new) (K.faults out.old) (K.faults out.new) result }
+    ensures prints { PrintsLine (listening_line address.now) (K.taken out.old) (K.taken out.new)
+        (K.faults out.old) (K.faults out.new) result }
     ensures faults { K.faults out.old ≤ K.faults out.new }
 {
     print(listening_text(alloc, address), out)
@@ -65,7 +67,8 @@ pub(crate) fn print_totals<'a, K: Sink>(
     totals: Totals,
     out: &mut K,
 ) -> Result<(), Fault<'a>>
-    ensures prints { PrintsLine (totals_line totals) (K.taken out.old) (K.taken out.new) (K.faults out.old) (K.faults out.new) result }
+    ensures prints { PrintsLine (totals_line totals) (K.taken out.old) (K.taken out.new)
+        (K.faults out.old) (K.faults out.new) result }
     ensures faults { K.faults out.old ≤ K.faults out.new }
 {
     print(totals_text(alloc, totals), out)

@@ -124,9 +124,11 @@ fn take<
     ensures lock { IsSeatOf service.now.lock.now result.0 }
     ensures saw { IsPrefix (seen_by seat) (seen_by result.0) }
     ensures place { D.place result.1 ≡ D.place doors }
-    ensures taken { HasTaken most (D.opened doors) (D.opened result.1) (D.coming doors) (D.coming result.1)
+    ensures taken { HasTaken most (D.opened doors) (D.opened result.1)
+        (D.coming doors) (D.coming result.1)
         (D.faults doors) (D.faults result.1) result.2.stop result.2.connections }
-    ensures served { ServesUpTo (fixed_of service.now.lock.now) service.now.site.now (C.may_give service.now.clock.now) (seen_by seat) (seen_by result.0)
+    ensures served { ServesUpTo (fixed_of service.now.lock.now) service.now.site.now
+        (C.may_give service.now.clock.now) (seen_by seat) (seen_by result.0)
         (D.opened doors) (D.closed doors) (D.closed result.1) result.2 }
 {
     let (seat, doors, ended) = serve_connections(service, seat, doors, most);
@@ -176,10 +178,13 @@ fn take_beside<
     ensures connections { IsSeatOf service.now.lock.now result.1.0 }
     ensures saw { IsPrefix (seen_by seats.0) (seen_by result.1.0) }
     ensures place { D.place result.1.1 ≡ D.place doors }
-    ensures taken { HasTaken pace.most (D.opened doors) (D.opened result.1.1) (D.coming doors) (D.coming result.1.1)
+    ensures taken { HasTaken pace.most (D.opened doors) (D.opened result.1.1)
+        (D.coming doors) (D.coming result.1.1)
         (D.faults doors) (D.faults result.1.1) result.1.2.stop result.1.2.connections }
-    ensures served { ServesUpTo (fixed_of service.now.lock.now) service.now.site.now (C.may_give service.now.clock.now)
-        (seen_by seats.0) (seen_by result.1.0) (D.opened doors) (D.closed doors) (D.closed result.1.1) result.1.2 }
+    ensures served { ServesUpTo (fixed_of service.now.lock.now) service.now.site.now
+        (C.may_give service.now.clock.now)
+        (seen_by seats.0) (seen_by result.1.0) (D.opened doors) (D.closed doors)
+        (D.closed result.1.1) result.1.2 }
 {
     let (connections, compactor) = seats;
     let rt = service.rt;
@@ -226,10 +231,13 @@ fn take_if_written<
     ensures saw { IsPrefix (seen_by seats.0) (seen_by result.1.0) }
     ensures place { D.place result.1.1 ≡ D.place doors }
     ensures none { has_writer ≡ false → D.opened result.1.1 ≡ D.opened doors }
-    ensures taken { HasTaken pace.most (D.opened doors) (D.opened result.1.1) (D.coming doors) (D.coming result.1.1)
+    ensures taken { HasTaken pace.most (D.opened doors) (D.opened result.1.1)
+        (D.coming doors) (D.coming result.1.1)
         (D.faults doors) (D.faults result.1.1) result.1.2.stop result.1.2.connections }
-    ensures served { ServesUpTo (fixed_of service.now.lock.now) service.now.site.now (C.may_give service.now.clock.now)
-        (seen_by seats.0) (seen_by result.1.0) (D.opened doors) (D.closed doors) (D.closed result.1.1) result.1.2 }
+    ensures served { ServesUpTo (fixed_of service.now.lock.now) service.now.site.now
+        (C.may_give service.now.clock.now)
+        (seen_by seats.0) (seen_by result.1.0) (D.opened doors) (D.closed doors)
+        (D.closed result.1.1) result.1.2 }
 {
     if has_writer {
         return take_beside(scope, service, rings, seats, doors, pace);
@@ -267,16 +275,20 @@ fn run_beside<
     requires batch { IsInMillion pace.batch }
     requires next { AreNext (terms_of service.now.lock.now) starts.next }
     ensures writer { IsSeatOf service.now.lock.now result.1.0 }
-    ensures wrote { WroteTo (fixed_of service.now.lock.now) starts.next (seen_by starts.writer) (seen_by result.1.0) result.1.1 }
+    ensures wrote { WroteTo (fixed_of service.now.lock.now) starts.next (seen_by starts.writer)
+        (seen_by result.1.0) result.1.1 }
     ensures compactor { IsSeatOf service.now.lock.now result.2.0.0 }
     ensures connections { IsSeatOf service.now.lock.now result.2.1.0 }
     ensures saw { IsPrefix (seen_by starts.connections) (seen_by result.2.1.0) }
     ensures place { D.place result.2.1.1 ≡ D.place doors }
     ensures none { result.0 ≡ false → D.opened result.2.1.1 ≡ D.opened doors }
-    ensures taken { HasTaken pace.most (D.opened doors) (D.opened result.2.1.1) (D.coming doors) (D.coming result.2.1.1)
+    ensures taken { HasTaken pace.most (D.opened doors) (D.opened result.2.1.1)
+        (D.coming doors) (D.coming result.2.1.1)
         (D.faults doors) (D.faults result.2.1.1) result.2.1.2.stop result.2.1.2.connections }
-    ensures served { ServesUpTo (fixed_of service.now.lock.now) service.now.site.now (C.may_give service.now.clock.now)
-        (seen_by starts.connections) (seen_by result.2.1.0) (D.opened doors) (D.closed doors) (D.closed result.2.1.1) result.2.1.2 }
+    ensures served { ServesUpTo (fixed_of service.now.lock.now) service.now.site.now
+        (C.may_give service.now.clock.now)
+        (seen_by starts.connections) (seen_by result.2.1.0) (D.opened doors) (D.closed doors)
+        (D.closed result.2.1.1) result.2.1.2 }
 {
     let Starts {
         connections,
@@ -298,7 +310,8 @@ fn run_beside<
         requires batch { IsInMillion batch }
         requires next { AreNext (terms_of lock.now) next }
         ensures lock { IsSeatOf lock.entry.now result.0 }
-        ensures wrote { WroteTo (fixed_of lock.entry.now) next (seen_by writer) (seen_by result.0) result.1 }
+        ensures wrote { WroteTo (fixed_of lock.entry.now) next (seen_by writer)
+            (seen_by result.0) result.1 }
     { write(rt, alloc, lock, rings, writer, batch, next) };
     let begun = Stack::new()
         .stack_size(service.stack)
@@ -333,16 +346,20 @@ fn run_threads<
     requires batch { IsInMillion pace.batch }
     requires next { AreNext (terms_of service.now.lock.now) starts.next }
     ensures writer { IsSeatOf service.now.lock.now result.1.0 }
-    ensures wrote { WroteTo (fixed_of service.now.lock.now) starts.next (seen_by starts.writer) (seen_by result.1.0) result.1.1 }
+    ensures wrote { WroteTo (fixed_of service.now.lock.now) starts.next (seen_by starts.writer)
+        (seen_by result.1.0) result.1.1 }
     ensures compactor { IsSeatOf service.now.lock.now result.2.0.0 }
     ensures connections { IsSeatOf service.now.lock.now result.2.1.0 }
     ensures saw { IsPrefix (seen_by starts.connections) (seen_by result.2.1.0) }
     ensures place { D.place result.2.1.1 ≡ D.place doors }
     ensures none { result.0 ≡ false → D.opened result.2.1.1 ≡ D.opened doors }
-    ensures taken { HasTaken pace.most (D.opened doors) (D.opened result.2.1.1) (D.coming doors) (D.coming result.2.1.1)
+    ensures taken { HasTaken pace.most (D.opened doors) (D.opened result.2.1.1)
+        (D.coming doors) (D.coming result.2.1.1)
         (D.faults doors) (D.faults result.2.1.1) result.2.1.2.stop result.2.1.2.connections }
-    ensures served { ServesUpTo (fixed_of service.now.lock.now) service.now.site.now (C.may_give service.now.clock.now)
-        (seen_by starts.connections) (seen_by result.2.1.0) (D.opened doors) (D.closed doors) (D.closed result.2.1.1) result.2.1.2 }
+    ensures served { ServesUpTo (fixed_of service.now.lock.now) service.now.site.now
+        (C.may_give service.now.clock.now)
+        (seen_by starts.connections) (seen_by result.2.1.0) (D.opened doors) (D.closed doors)
+        (D.closed result.2.1.1) result.2.1.2 }
 {
     thread::scope(
         thread::scope_env(),
@@ -358,16 +375,21 @@ fn run_threads<
             requires batch { IsInMillion pace.batch }
             requires next { AreNext (terms_of service.now.lock.now) starts.next }
             ensures writer { IsSeatOf service.entry.now.lock.now result.1.0 }
-            ensures wrote { WroteTo (fixed_of service.entry.now.lock.now) starts.next (seen_by starts.writer) (seen_by result.1.0) result.1.1 }
+            ensures wrote { WroteTo (fixed_of service.entry.now.lock.now) starts.next
+                (seen_by starts.writer) (seen_by result.1.0) result.1.1 }
             ensures compactor { IsSeatOf service.entry.now.lock.now result.2.0.0 }
             ensures connections { IsSeatOf service.entry.now.lock.now result.2.1.0 }
             ensures saw { IsPrefix (seen_by starts.connections) (seen_by result.2.1.0) }
             ensures place { D.place result.2.1.1 ≡ D.place doors }
             ensures none { result.0 ≡ false → D.opened result.2.1.1 ≡ D.opened doors }
-            ensures taken { HasTaken pace.most (D.opened doors) (D.opened result.2.1.1) (D.coming doors) (D.coming result.2.1.1)
-                (D.faults doors) (D.faults result.2.1.1) result.2.1.2.stop result.2.1.2.connections }
-            ensures served { ServesUpTo (fixed_of service.entry.now.lock.now) service.entry.now.site.now (C.may_give service.entry.now.clock.now)
-                (seen_by starts.connections) (seen_by result.2.1.0) (D.opened doors) (D.closed doors) (D.closed result.2.1.1) result.2.1.2 }
+            ensures taken { HasTaken pace.most (D.opened doors) (D.opened result.2.1.1)
+                (D.coming doors) (D.coming result.2.1.1)
+                (D.faults doors) (D.faults result.2.1.1) result.2.1.2.stop
+                result.2.1.2.connections }
+            ensures served { ServesUpTo (fixed_of service.entry.now.lock.now)
+                service.entry.now.site.now (C.may_give service.entry.now.clock.now)
+                (seen_by starts.connections) (seen_by result.2.1.0) (D.opened doors)
+                (D.closed doors) (D.closed result.2.1.1) result.2.1.2 }
         { run_beside(scope, service, rings, starts, doors, pace) },
     )
 }
@@ -392,14 +414,19 @@ pub(crate) fn run_all<
     requires batch { IsInMillion pace.batch }
     requires next { AreNext (terms_of service.now.lock.now) starts.next }
     ensures lock { IsSeatOf service.now.lock.now result.0 }
-    ensures wrote { WroteTo (fixed_of service.now.lock.now) starts.next (seen_by starts.writer) (seen_by result.0) result.2.writer }
+    ensures wrote { WroteTo (fixed_of service.now.lock.now) starts.next (seen_by starts.writer)
+        (seen_by result.0) result.2.writer }
     ensures saw { IsPrefix (seen_by starts.connections) (seen_by result.0) }
     ensures place { D.place result.1 ≡ D.place doors }
     ensures none { result.2.has_writer ≡ false → D.opened result.1 ≡ D.opened doors }
-    ensures taken { HasTaken pace.most (D.opened doors) (D.opened result.1) (D.coming doors) (D.coming result.1)
-        (D.faults doors) (D.faults result.1) result.2.connections.stop result.2.connections.connections }
-    ensures served { ServesUpTo (fixed_of service.now.lock.now) service.now.site.now (C.may_give service.now.clock.now)
-        (seen_by starts.connections) (seen_by result.0) (D.opened doors) (D.closed doors) (D.closed result.1) result.2.connections }
+    ensures taken { HasTaken pace.most (D.opened doors) (D.opened result.1)
+        (D.coming doors) (D.coming result.1)
+        (D.faults doors) (D.faults result.1) result.2.connections.stop
+        result.2.connections.connections }
+    ensures served { ServesUpTo (fixed_of service.now.lock.now) service.now.site.now
+        (C.may_give service.now.clock.now)
+        (seen_by starts.connections) (seen_by result.0) (D.opened doors) (D.closed doors)
+        (D.closed result.1) result.2.connections }
 {
     let (has_writer, (written, writer), ((compacted, compactor), (mut seat, doors, connections))) =
         run_threads(service, rings, starts, doors, pace);

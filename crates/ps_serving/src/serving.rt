@@ -70,7 +70,9 @@ fn listen<'a, D: Doors, O: Sink>(
     doors: &mut D,
     out: &mut O,
 ) -> Result<(), ServeFault<'a>>
-    ensures listens { Listens address.now (record { taken = O.taken out.old; faults = O.faults out.old }) (record { taken = O.taken out.new; faults = O.faults out.new })
+    ensures listens { Listens address.now
+        (record { taken = O.taken out.old; faults = O.faults out.old })
+        (record { taken = O.taken out.new; faults = O.faults out.new })
         (D.faults doors.old) (D.faults doors.new) result }
     ensures faults { O.faults out.old ≤ O.faults out.new }
     ensures door_faults { D.faults doors.old ≤ D.faults doors.new }
@@ -118,10 +120,14 @@ fn serve_fed<
     requires fed { fed ≡ length (fed_in (seen_by seat)) }
     requires batch { IsInMillion pace.batch }
     requires next { AreNext (terms_of ground.now.lock.now) next }
-    ensures { ServesFed (terms_of ground.now.lock.now) next ground.now.site.now (C.may_give ground.now.tools.now.clock.now) (seen_by seat) pace.most
-        (record { opened = D.opened doors.old; coming = D.coming doors.old; closed = D.closed doors.old; faults = D.faults doors.old })
-        (record { opened = D.opened doors.new; coming = D.coming doors.new; closed = D.closed doors.new; faults = D.faults doors.new })
-        (record { taken = O.taken out.old; faults = O.faults out.old }) (record { taken = O.taken out.new; faults = O.faults out.new }) result }
+    ensures { ServesFed (terms_of ground.now.lock.now) next ground.now.site.now
+        (C.may_give ground.now.tools.now.clock.now) (seen_by seat) pace.most
+        (record { opened = D.opened doors.old; coming = D.coming doors.old; closed = D.closed
+        doors.old; faults = D.faults doors.old })
+        (record { opened = D.opened doors.new; coming = D.coming doors.new; closed = D.closed
+        doors.new; faults = D.faults doors.new })
+        (record { taken = O.taken out.old; faults = O.faults out.old })
+        (record { taken = O.taken out.new; faults = O.faults out.new }) result }
 {
     ledgers_tell_events();
     let (seat, ends) = run(ground, seat, next, pace, doors)?;
@@ -150,10 +156,14 @@ fn serve<
 ) -> Result<(), ServeFault<'a>>
     requires { AreInRange words.now }
     ensures serves { ServesSo (C.may_give tools.now.clock.now) words.now
-        (record { held = F.held files.old; faults = F.faults files.old }) (record { held = F.held files.new; faults = F.faults files.new })
-        (record { opened = D.opened doors.old; coming = D.coming doors.old; closed = D.closed doors.old; faults = D.faults doors.old })
-        (record { opened = D.opened doors.new; coming = D.coming doors.new; closed = D.closed doors.new; faults = D.faults doors.new })
-        (record { taken = O.taken out.old; faults = O.faults out.old }) (record { taken = O.taken out.new; faults = O.faults out.new }) result }
+        (record { held = F.held files.old; faults = F.faults files.old })
+        (record { held = F.held files.new; faults = F.faults files.new })
+        (record { opened = D.opened doors.old; coming = D.coming doors.old; closed = D.closed
+        doors.old; faults = D.faults doors.old })
+        (record { opened = D.opened doors.new; coming = D.coming doors.new; closed = D.closed
+        doors.new; faults = D.faults doors.new })
+        (record { taken = O.taken out.old; faults = O.faults out.old })
+        (record { taken = O.taken out.new; faults = O.faults out.new }) result }
     ensures missed { MissesServe (F.missed files.old) (F.missed files.new) result }
 {
     ledgers_tell_events();
@@ -241,19 +251,28 @@ pub fn run_serve<
     // With next rules: 0 comes where these came once they were due; and in drained mode, and where no connection was handed out, 5 comes only where a row of the change
     // file has too many entries by one of the two, or ids did not suffice.
     ensures answers { AnswersServe (C.may_give clock.now) words.now
-        (record { held = F.held files.old; faults = F.faults files.old }) (record { held = F.held files.new; faults = F.faults files.new })
-        (record { opened = D.opened doors.old; coming = D.coming doors.old; closed = D.closed doors.old; faults = D.faults doors.old })
-        (record { opened = D.opened doors.new; coming = D.coming doors.new; closed = D.closed doors.new; faults = D.faults doors.new })
-        (record { taken = O.taken out.old; faults = O.faults out.old }) (record { taken = O.taken out.new; faults = O.faults out.new }) result }
+        (record { held = F.held files.old; faults = F.faults files.old })
+        (record { held = F.held files.new; faults = F.faults files.new })
+        (record { opened = D.opened doors.old; coming = D.coming doors.old; closed = D.closed
+        doors.old; faults = D.faults doors.old })
+        (record { opened = D.opened doors.new; coming = D.coming doors.new; closed = D.closed
+        doors.new; faults = D.faults doors.new })
+        (record { taken = O.taken out.old; faults = O.faults out.old })
+        (record { taken = O.taken out.new; faults = O.faults out.new }) result }
 
     // What is said is the line of a fault that has its cause and that status, and nothing with status 0.
     ensures said { result ≢ 0 → SaysWhy (C.may_give clock.now) words.now
-        (record { held = F.held files.old; faults = F.faults files.old }) (record { held = F.held files.new; faults = F.faults files.new })
-        (record { opened = D.opened doors.old; coming = D.coming doors.old; closed = D.closed doors.old; faults = D.faults doors.old })
-        (record { opened = D.opened doors.new; coming = D.coming doors.new; closed = D.closed doors.new; faults = D.faults doors.new })
-        (record { taken = O.taken out.old; faults = O.faults out.old }) (record { taken = O.taken out.new; faults = O.faults out.new })
+        (record { held = F.held files.old; faults = F.faults files.old })
+        (record { held = F.held files.new; faults = F.faults files.new })
+        (record { opened = D.opened doors.old; coming = D.coming doors.old; closed = D.closed
+        doors.old; faults = D.faults doors.old })
+        (record { opened = D.opened doors.new; coming = D.coming doors.new; closed = D.closed
+        doors.new; faults = D.faults doors.new })
+        (record { taken = O.taken out.old; faults = O.faults out.old })
+        (record { taken = O.taken out.new; faults = O.faults out.new })
         (F.missed files.old) (F.missed files.new)
-        (record { old = E.taken err.old; new = E.taken err.new; before = E.faults err.old; now = E.faults err.new }) result }
+        (record { old = E.taken err.old; new = E.taken err.new; before = E.faults err.old; now
+        = E.faults err.new }) result }
     ensures quiet { result ≡ 0 → E.taken err.new ≡ E.taken err.old }
 {
     let said = match read_serve_words(alloc, words) {

@@ -30,8 +30,10 @@ fn split(
     next: Option<NextRules>,
 ) -> Result<Starts, Memory>
     requires { IsSeatOf lock.now seat }
-    ensures connections { IfOk result (λ starts. IsSeatOf lock.now starts.connections × (seen_by starts.connections ≡ seen_by seat)) }
-    ensures writer { IfOk result (λ starts. IsSeatOf lock.now starts.writer × (seen_by starts.writer ≡ seen_by seat)) }
+    ensures connections { IfOk result (λ starts.
+        IsSeatOf lock.now starts.connections × (seen_by starts.connections ≡ seen_by seat)) }
+    ensures writer { IfOk result (λ starts.
+        IsSeatOf lock.now starts.writer × (seen_by starts.writer ≡ seen_by seat)) }
     ensures next { IfOk result (λ starts. starts.next ≡ next) }
     ensures compactor { IfOk result (λ starts. IsSeatOf lock.now starts.compactor) }
 {
@@ -60,13 +62,18 @@ fn run_lent<
     requires batch { IsInMillion pace.batch }
     requires next { AreNext (terms_of ground.now.lock.now) starts.next }
     ensures lock { IsSeatOf ground.now.lock.now result.0 }
-    ensures wrote { WroteTo (fixed_of ground.now.lock.now) starts.next (seen_by starts.writer) (seen_by result.0) result.1.writer }
+    ensures wrote { WroteTo (fixed_of ground.now.lock.now) starts.next (seen_by starts.writer)
+        (seen_by result.0) result.1.writer }
     ensures saw { IsPrefix (seen_by starts.connections) (seen_by result.0) }
     ensures none { result.1.has_writer ≡ false → D.opened doors.new ≡ D.opened doors.old }
-    ensures taken { HasTaken pace.most (D.opened doors.old) (D.opened doors.new) (D.coming doors.old) (D.coming doors.new)
-        (D.faults doors.old) (D.faults doors.new) result.1.connections.stop result.1.connections.connections }
-    ensures served { ServesUpTo (fixed_of ground.now.lock.now) ground.now.site.now (C.may_give ground.now.tools.now.clock.now)
-        (seen_by starts.connections) (seen_by result.0) (D.opened doors.old) (D.closed doors.old) (D.closed doors.new) result.1.connections }
+    ensures taken { HasTaken pace.most (D.opened doors.old) (D.opened doors.new)
+        (D.coming doors.old) (D.coming doors.new)
+        (D.faults doors.old) (D.faults doors.new) result.1.connections.stop
+        result.1.connections.connections }
+    ensures served { ServesUpTo (fixed_of ground.now.lock.now) ground.now.site.now
+        (C.may_give ground.now.tools.now.clock.now)
+        (seen_by starts.connections) (seen_by result.0) (D.opened doors.old) (D.closed doors.old)
+        (D.closed doors.new) result.1.connections }
 {
     let rings = Rings::new();
     let bell = RungBell::new(ground.tools.rt, &rings);
@@ -104,13 +111,19 @@ pub(crate) fn run<
     requires batch { IsInMillion pace.batch }
     requires next { AreNext (terms_of ground.now.lock.now) next }
     ensures lock { IfOk result (λ ran. IsSeatOf ground.now.lock.now ran.0) }
-    ensures wrote { IfOk result (λ ran. WroteTo (fixed_of ground.now.lock.now) next (seen_by seat) (seen_by ran.0) ran.1.writer) }
+    ensures wrote { IfOk result (λ ran.
+        WroteTo (fixed_of ground.now.lock.now) next (seen_by seat) (seen_by ran.0) ran.1.writer) }
     ensures saw { IfOk result (λ ran. IsPrefix (seen_by seat) (seen_by ran.0)) }
-    ensures none { IfOk result (λ ran. ran.1.has_writer ≡ false → D.opened doors.new ≡ D.opened doors.old) }
-    ensures taken { IfOk result (λ ran. HasTaken pace.most (D.opened doors.old) (D.opened doors.new) (D.coming doors.old) (D.coming doors.new)
-        (D.faults doors.old) (D.faults doors.new) ran.1.connections.stop ran.1.connections.connections) }
-    ensures served { IfOk result (λ ran. ServesUpTo (fixed_of ground.now.lock.now) ground.now.site.now (C.may_give ground.now.tools.now.clock.now)
-        (seen_by seat) (seen_by ran.0) (D.opened doors.old) (D.closed doors.old) (D.closed doors.new) ran.1.connections) }
+    ensures none { IfOk result (λ ran.
+        ran.1.has_writer ≡ false → D.opened doors.new ≡ D.opened doors.old) }
+    ensures taken { IfOk result (λ ran. HasTaken pace.most (D.opened doors.old)
+        (D.opened doors.new) (D.coming doors.old) (D.coming doors.new)
+        (D.faults doors.old) (D.faults doors.new) ran.1.connections.stop
+        ran.1.connections.connections) }
+    ensures served { IfOk result (λ ran. ServesUpTo (fixed_of ground.now.lock.now)
+        ground.now.site.now (C.may_give ground.now.tools.now.clock.now)
+        (seen_by seat) (seen_by ran.0) (D.opened doors.old) (D.closed doors.old)
+        (D.closed doors.new) ran.1.connections) }
 {
     let starts = split(ground.lock, seat, next)?;
     Ok(run_lent(ground, starts, pace, doors))

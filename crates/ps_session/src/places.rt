@@ -17,7 +17,9 @@ use std::collections::BTreeMap;
 
 // The ids up to which buckets are known, by name.
 fn known_by_name(alloc: Global, known: &[Known]) -> Result<BTreeMap<Text, OpId>, Memory>
-    ensures { IfOk result (λ map. (name : List ℕ) → option_map (λ (id : OpIdSeen). id.0) (get (slice_cmp nat_cmp) map name) ≡ known_in known.now name) }
+    ensures { IfOk result (λ map. (name : List ℕ)
+        → option_map (λ (id : OpIdSeen). id.0) (get (slice_cmp nat_cmp) map name)
+        ≡ known_in known.now name) }
 {
     let mut map = BTreeMap::new(alloc);
     'known: for one in known {

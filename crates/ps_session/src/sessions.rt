@@ -158,7 +158,8 @@ impl Session {
     fn follow(&mut self, taken: Taken, places: Vec<OpId>)
         requires rise { NamesRise taken.buckets }
         requires beside { length places.items ≡ length taken.buckets }
-        ensures { self.new ≡ record self.old { phase = phases.Download; last = taken; places = places.items } }
+        ensures { self.new ≡ record self.old { phase = phases.Download; last
+            = taken; places = places.items } }
     {
         self.cursor = first_behind(taken.buckets.as_slice(), places.as_slice(), 0);
         self.last = taken;
@@ -169,8 +170,10 @@ impl Session {
     // The first checkpoint begins.
     fn take_first(&mut self, alloc: Global, taken: Taken) -> Result<Option<Line>, Memory>
         requires { NamesRise taken.buckets }
-        ensures state { OnOk result (state_of self.new ≡ (with_checkpoint (state_of self.old) taken).session) }
-        ensures line { IfOk result (λ line. line ≡ (with_checkpoint (state_of self.old) taken).line) }
+        ensures state { OnOk result (state_of self.new
+            ≡ (with_checkpoint (state_of self.old) taken).session) }
+        ensures line { IfOk result (λ line.
+            line ≡ (with_checkpoint (state_of self.old) taken).line) }
         ensures err { OnErr result (self.new ≡ self.old) }
         ensures asker { self.new.asker ≡ self.old.asker }
     {
@@ -183,7 +186,8 @@ impl Session {
     // Another checkpoint begins, told as what differs from the last.
     fn take_other(&mut self, alloc: Global, taken: Taken) -> Result<Option<Line>, Memory>
         requires { NamesRise taken.buckets }
-        ensures state { OnOk result (state_of self.new ≡ (with_diff (state_of self.old) taken).session) }
+        ensures state { OnOk result (state_of self.new
+            ≡ (with_diff (state_of self.old) taken).session) }
         ensures line { IfOk result (λ line. line ≡ (with_diff (state_of self.old) taken).line) }
         ensures err { OnErr result (self.new ≡ self.old) }
         ensures asker { self.new.asker ≡ self.old.asker }
@@ -282,7 +286,8 @@ impl Session {
     // The first bucket that is behind is sent up to here.
     fn advance(&mut self, place: OpId, phase: Phase)
         requires { done_front self.old.last.buckets self.old.places < length self.old.last.buckets }
-        ensures { self.new ≡ record self.old { phase = phase; places = slice_set self.old.places (done_front self.old.last.buckets self.old.places) place } }
+        ensures { self.new ≡ record self.old { phase = phase; places = slice_set self.old.places
+            (done_front self.old.last.buckets self.old.places) place } }
     {
         self.places[self.cursor] = place;
         self.cursor = first_behind(

@@ -63,11 +63,14 @@ impl Filling {
         requires { IsFilling self.old }
         ensures stays { IsFilling self.new }
         // What failed answers the same.
-        ensures again { (failure : FailureSeen) → HasFailed self.old failure → HasFailed self.new failure × AnswersAgain failure result }
+        ensures again { (failure : FailureSeen) → HasFailed self.old failure
+            → HasFailed self.new failure × AnswersAgain failure result }
         // Else the line is taken, or why it is not.
-        ensures taken { (fixed : Fixed) (lines : List LineSeen) → Fills fixed self.old lines → Takes fixed lines line.now self.old self.new result }
+        ensures taken { (fixed : Fixed) (lines : List LineSeen) → Fills fixed self.old lines
+            → Takes fixed lines line.now self.old self.new result }
         // From the end on the store has exactly the rows that stood before the first line, changed by all change lines.
-        ensures whole { (fixed : Fixed) (lines : List LineSeen) (before : Source) → Fills fixed self.new lines
+        ensures whole { (fixed : Fixed) (lines : List LineSeen) (before : Source)
+            → Fills fixed self.new lines
             → AreAsTheyStood before nothing lines → IsWhole before (copy_of lines) }
     {
         first_copies_are_whole();
@@ -86,7 +89,8 @@ impl Filling {
         requires { IsFilling self }
         ensures again { (failure : FailureSeen) → HasFailed self failure → result ≡ Err self }
         ensures back { IfErr result (λ given. given ≡ self) }
-        ensures given { (fixed : Fixed) (lines : List LineSeen) → Fills fixed self lines → Finishes fixed lines self result }
+        ensures given { (fixed : Fixed) (lines : List LineSeen) → Fills fixed self lines
+            → Finishes fixed lines self result }
     {
         first_copies_are_whole();
         if self.failed.is_some() || !self.progress.ended() {
@@ -102,7 +106,8 @@ impl Filling {
 
     // The line that bytes are, if it may come next.
     fn read(&self, alloc: Global, bytes: &[u8]) -> Result<Line, LineFault>
-        ensures exact { (copy : FirstCopy) → Holds self.now.progress copy → Reads result (next_line copy bytes.now) }
+        ensures exact { (copy : FirstCopy) → Holds self.now.progress copy
+            → Reads result (next_line copy bytes.now) }
         ensures low { IfOk result (λ line. (position_of line).0 ≤ greatest) }
     {
         let line = read_line(alloc, bytes)?;
@@ -112,8 +117,10 @@ impl Filling {
     // Takes a line that may come next.
     fn accept(&mut self, alloc: Global, line: Line) -> Result<Filled, FillFault>
         requires low { (position_of line).0 ≤ greatest }
-        requires next { (fixed : Fixed) × (lines : List LineSeen) × Fills fixed self.old lines × CanCome (copy_of lines) line }
-        ensures { (fixed : Fixed) (lines : List LineSeen) → Fills fixed self.old lines → CanCome (copy_of lines) line
+        requires next { (fixed : Fixed) × (lines : List LineSeen) × Fills fixed self.old lines
+            × CanCome (copy_of lines) line }
+        ensures { (fixed : Fixed) (lines : List LineSeen) → Fills fixed self.old lines
+            → CanCome (copy_of lines) line
             → Accepts fixed (lines ++ line ∷ []) self.new result }
     {
         match self.take(alloc, line) {
@@ -172,8 +179,10 @@ impl Filling {
     // Feeds and writes what a line that may come next says.
     fn take(&mut self, alloc: Global, line: Line) -> Result<(), Failure>
         requires low { (position_of line).0 ≤ greatest }
-        requires next { (fixed : Fixed) × (lines : List LineSeen) × Fills fixed self.old lines × CanCome (copy_of lines) line }
-        ensures { (fixed : Fixed) (lines : List LineSeen) → Fills fixed self.old lines → CanCome (copy_of lines) line
+        requires next { (fixed : Fixed) × (lines : List LineSeen) × Fills fixed self.old lines
+            × CanCome (copy_of lines) line }
+        ensures { (fixed : Fixed) (lines : List LineSeen) → Fills fixed self.old lines
+            → CanCome (copy_of lines) line
             → Advances fixed (lines ++ line ∷ []) self.new result }
     {
         match line {

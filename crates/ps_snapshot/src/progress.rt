@@ -121,7 +121,8 @@ impl Progress {
 
     // Gives a line back, unless it is the end and a table is not covered.
     fn expect_covered(&self, alloc: Global, line: Line) -> Result<Line, LineFault>
-        ensures exact { (copy : FirstCopy) → Holds self.now copy → Reads result (covered copy line) }
+        ensures exact { (copy : FirstCopy) → Holds self.now copy
+            → Reads result (covered copy line) }
         ensures same { IfOk result (λ given. given ≡ line) }
     {
         if let Line::End { position: _ } = &line {
@@ -150,7 +151,8 @@ impl Progress {
         position: Position,
         tables: Items<Text>,
     ) -> Result<(), Memory>
-        ensures { OnOk result ((copy : FirstCopy) → Holds self.old copy → Holds self.new (after_line copy (BeginSeen position tables))) }
+        ensures { OnOk result ((copy : FirstCopy) → Holds self.old copy
+            → Holds self.new (after_line copy (BeginSeen position tables))) }
     {
         self.listed = list_tables(alloc, tables.as_slice())?;
         self.begun = true;
@@ -187,7 +189,8 @@ impl Progress {
         from: Position,
         rows: Items<CopiedRow>,
     ) -> Result<Items<Change>, Memory>
-        ensures { IfOk result (λ made. made ≡ map (put_of table.now) (filter (stands_by self.now table.now from.0) rows)) }
+        ensures { IfOk result (λ made.
+            made ≡ map (put_of table.now) (filter (stands_by self.now table.now from.0) rows)) }
     {
         let mut changes = Items::new(alloc);
         'rows: for row in rows.into_vec() {
@@ -205,7 +208,9 @@ impl Progress {
         row: CopiedRow,
         changes: &mut Items<Change>,
     ) -> Result<(), Memory>
-        ensures { OnOk result (changes.new ≡ changes.old ++ map (put_of table.now) (filter (stands_by self.now table.now from.0) (row ∷ []))) }
+        ensures { OnOk result (changes.new
+            ≡ changes.old
+            ++ map (put_of table.now) (filter (stands_by self.now table.now from.0) (row ∷ []))) }
     {
         let CopiedRow { id, row } = row;
         let key = (table.copy(alloc)?, id);
@@ -219,7 +224,8 @@ impl Progress {
 
     /// The first copy ends at a position.
     pub fn end(&mut self, alloc: Global, position: Position)
-        ensures { (copy : FirstCopy) → Holds self.old copy → Holds self.new (after_line copy (EndSeen position)) }
+        ensures { (copy : FirstCopy) → Holds self.old copy
+            → Holds self.new (after_line copy (EndSeen position)) }
     {
         self.changed = BTreeMap::new(alloc);
         self.last = position;
@@ -228,7 +234,8 @@ impl Progress {
 
     /// The source changed by a transaction.
     pub fn changes(&mut self, alloc: Global, transaction: &Transaction) -> Result<(), Memory>
-        ensures { OnOk result ((copy : FirstCopy) → Holds self.old copy → Holds self.new (after_line copy (ChangesSeen transaction.now))) }
+        ensures { OnOk result ((copy : FirstCopy) → Holds self.old copy
+            → Holds self.new (after_line copy (ChangesSeen transaction.now))) }
     {
         if !self.ended {
             note_changes(alloc, &mut self.changed, transaction)?;
@@ -292,7 +299,8 @@ fn is_within(upto: &Option<Text>, id: &Text) -> bool
 
 // The tables, to be looked up.
 fn list_tables(alloc: Global, tables: &[Text]) -> Result<BTreeSet<Text>, Memory>
-    ensures { IfOk result (λ listed. (table : List ℕ) → contains (slice_cmp nat_cmp) listed table ≡ is_listed tables.now table) }
+    ensures { IfOk result (λ listed.
+        (table : List ℕ) → contains (slice_cmp nat_cmp) listed table ≡ is_listed tables.now table) }
 {
     let mut listed = BTreeSet::new(alloc);
     'tables: for table in tables {
@@ -317,7 +325,8 @@ fn note_changes(
     changed: &mut BTreeMap<(Text, Text), Position>,
     transaction: &Transaction,
 ) -> Result<(), Memory>
-    ensures { OnOk result ((key : Key) → changed_in changed.new key ≡ changed_by transaction.now (changed_in changed.old) key) }
+    ensures { OnOk result ((key : Key)
+        → changed_in changed.new key ≡ changed_by transaction.now (changed_in changed.old) key) }
 {
     'changes: for change in transaction.changes.as_slice() {
         let key = (change.table.copy(alloc)?, change.id.copy(alloc)?);

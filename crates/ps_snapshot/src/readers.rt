@@ -173,7 +173,8 @@ fn read_row(alloc: Global, json: &Json, name: &str) -> Result<Row, LineFault>
 
 // Whatever is wrong within a chunk, it is a bad chunk.
 fn within_chunk(read: Result<Row, ChangeFault>) -> Result<Row, LineFault>
-    ensures { (meant : Result (List ColumnSeen) ChangeFaultSeen) → ReadsChange read meant → Reads result (of_chunk meant) }
+    ensures { (meant : Result (List ColumnSeen) ChangeFaultSeen) → ReadsChange read meant
+        → Reads result (of_chunk meant) }
 {
     match read {
         Ok(row) => Ok(row),

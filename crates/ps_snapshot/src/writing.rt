@@ -23,8 +23,10 @@ pub(crate) fn write(
     transaction: Transaction,
 ) -> Result<(), Failure>
     requires position { transaction.position.0 ≤ greatest }
-    requires written { (fixed : Fixed) × (fed : List TransactionSeen) × IsPending fixed fed 0 store.old × (head_of fed < transaction.position.0) }
-    ensures { (fixed : Fixed) (fed : List TransactionSeen) → IsPending fixed fed 0 store.old → head_of fed < transaction.position.0
+    requires written { (fixed : Fixed) × (fed : List TransactionSeen)
+        × IsPending fixed fed 0 store.old × (head_of fed < transaction.position.0) }
+    ensures { (fixed : Fixed) (fed : List TransactionSeen) → IsPending fixed fed 0 store.old
+        → head_of fed < transaction.position.0
         → Writes fixed (fed ++ transaction ∷ []) store.new result }
 {
     let changes = transaction.changes.len();
@@ -35,8 +37,10 @@ pub(crate) fn write(
 // Feeds a transaction whose position is past the head.
 fn feed(alloc: Global, store: &mut Store, transaction: Transaction) -> Result<(), Memory>
     requires position { transaction.position.0 ≤ greatest }
-    requires written { (fixed : Fixed) × (fed : List TransactionSeen) × IsPending fixed fed 0 store.old × (head_of fed < transaction.position.0) }
-    ensures { OnOk result ((fixed : Fixed) (fed : List TransactionSeen) → IsPending fixed fed 0 store.old → head_of fed < transaction.position.0
+    requires written { (fixed : Fixed) × (fed : List TransactionSeen)
+        × IsPending fixed fed 0 store.old × (head_of fed < transaction.position.0) }
+    ensures { OnOk result ((fixed : Fixed) (fed : List TransactionSeen)
+        → IsPending fixed fed 0 store.old → head_of fed < transaction.position.0
         → IsPending fixed (fed ++ transaction ∷ []) (length transaction.changes) store.new) }
 {
     match store.feed(alloc, transaction) {
@@ -50,8 +54,10 @@ fn feed(alloc: Global, store: &mut Store, transaction: Transaction) -> Result<()
 
 // Writes all changes that are fed and not written.
 fn write_fed(alloc: Global, store: &mut Store, changes: usize) -> Result<(), Failure>
-    requires { (fixed : Fixed) × (fed : List TransactionSeen) × IsPending fixed fed changes store.old }
-    ensures { (fixed : Fixed) (fed : List TransactionSeen) → IsPending fixed fed changes store.old → Writes fixed fed store.new result }
+    requires { (fixed : Fixed) × (fed : List TransactionSeen)
+        × IsPending fixed fed changes store.old }
+    ensures { (fixed : Fixed) (fed : List TransactionSeen) → IsPending fixed fed changes store.old
+        → Writes fixed fed store.new result }
 {
     let mut left = changes;
     'batches: while 0 < left {
@@ -63,8 +69,11 @@ fn write_fed(alloc: Global, store: &mut Store, changes: usize) -> Result<(), Fai
 
 // Writes the next of these changes, as many as a batch has, and answers how many these are.
 fn write_some(alloc: Global, store: &mut Store) -> Result<u32, Failure>
-    requires { (fixed : Fixed) × (fed : List TransactionSeen) × (left : ℕ) × IsPending fixed fed left store.old × (0 < left) }
-    ensures { (fixed : Fixed) (fed : List TransactionSeen) (left : ℕ) → IsPending fixed fed left store.old → 0 < left → WritesSome fixed fed left store.new result }
+    requires { (fixed : Fixed) × (fed : List TransactionSeen) × (left : ℕ)
+        × IsPending fixed fed left store.old × (0 < left) }
+    ensures { (fixed : Fixed) (fed : List TransactionSeen) (left : ℕ)
+        → IsPending fixed fed left store.old → 0 < left
+        → WritesSome fixed fed left store.new result }
 {
     match store.write_batch(alloc, BATCH) {
         Ok(wrote) => Ok(wrote.changes),

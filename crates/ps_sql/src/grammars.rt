@@ -51,7 +51,8 @@ fn conjunction(
     depth: usize,
     cursor: &mut Cursor<'_>,
 ) -> Result<Expr, SqlFault>
-    ensures { ReadsOn result cursor.new (ands context.now limit (expr context.now limit depth) cursor.old) }
+    ensures { ReadsOn result cursor.new
+        (ands context.now limit (expr context.now limit depth) cursor.old) }
 {
     let first = negatable(alloc, context, limit, depth, cursor)?;
     operators(alloc, context, limit, depth, Level::And, first, cursor)
@@ -68,7 +69,8 @@ fn negatable(
     depth: usize,
     cursor: &mut Cursor<'_>,
 ) -> Result<Expr, SqlFault>
-    ensures { ReadsOn result cursor.new (negation limit (sames context.now limit (expr context.now limit depth)) cursor.old) }
+    ensures { ReadsOn result cursor.new
+        (negation limit (sames context.now limit (expr context.now limit depth)) cursor.old) }
 {
     if limit == 0 || cursor.is_keyword(0, Keyword::Not) {
         return negation(alloc, context, limit, depth, limit, cursor);
@@ -87,7 +89,8 @@ fn equality(
     depth: usize,
     cursor: &mut Cursor<'_>,
 ) -> Result<Expr, SqlFault>
-    ensures { ReadsOn result cursor.new (sames context.now limit (expr context.now limit depth) cursor.old) }
+    ensures { ReadsOn result cursor.new
+        (sames context.now limit (expr context.now limit depth) cursor.old) }
 {
     let first = ordering(alloc, context, limit, depth, cursor)?;
     operators(alloc, context, limit, depth, Level::Same, first, cursor)
@@ -104,7 +107,8 @@ fn ordering(
     depth: usize,
     cursor: &mut Cursor<'_>,
 ) -> Result<Expr, SqlFault>
-    ensures { ReadsOn result cursor.new (orders context.now limit (expr context.now limit depth) cursor.old) }
+    ensures { ReadsOn result cursor.new
+        (orders context.now limit (expr context.now limit depth) cursor.old) }
 {
     let first = joining(alloc, context, limit, depth, cursor)?;
     operators(alloc, context, limit, depth, Level::Order, first, cursor)
@@ -121,7 +125,8 @@ fn joining(
     depth: usize,
     cursor: &mut Cursor<'_>,
 ) -> Result<Expr, SqlFault>
-    ensures { ReadsOn result cursor.new (joins context.now limit (expr context.now limit depth) cursor.old) }
+    ensures { ReadsOn result cursor.new
+        (joins context.now limit (expr context.now limit depth) cursor.old) }
 {
     let first = prime(alloc, context, limit, depth, cursor)?;
     operators(alloc, context, limit, depth, Level::Joining, first, cursor)
@@ -140,7 +145,9 @@ fn operators(
     first: Expr,
     cursor: &mut Cursor<'_>,
 ) -> Result<Expr, SqlFault>
-    ensures { ReadsOn result cursor.new (more level limit (operand_at level context.now limit (expr context.now limit depth)) first cursor.old) }
+    ensures { ReadsOn result cursor.new
+        (more level limit
+        (operand_at level context.now limit (expr context.now limit depth)) first cursor.old) }
 {
     let mut left = first;
     'operators: for _turn in 0..limit {
@@ -164,7 +171,9 @@ fn step(
     left: Expr,
     cursor: &mut Cursor<'_>,
 ) -> Result<Step, SqlFault>
-    ensures { ReadsOn result cursor.new (step level (operand_at level context.now limit (expr context.now limit depth)) left cursor.old) }
+    ensures { ReadsOn result cursor.new
+        (step level (operand_at level context.now limit (expr context.now limit depth)) left
+        cursor.old) }
 {
     if matches!(level, Level::Same) && cursor.is_keyword(0, Keyword::Is) {
         cursor.skip(1);
@@ -197,7 +206,8 @@ fn operand(
     level: Level,
     cursor: &mut Cursor<'_>,
 ) -> Result<Expr, SqlFault>
-    ensures { ReadsOn result cursor.new (operand_at level context.now limit (expr context.now limit depth) cursor.old) }
+    ensures { ReadsOn result cursor.new
+        (operand_at level context.now limit (expr context.now limit depth) cursor.old) }
 {
     match level {
         Level::Or => conjunction(alloc, context, limit, depth, cursor),
@@ -220,7 +230,8 @@ fn negation(
     turns: usize,
     cursor: &mut Cursor<'_>,
 ) -> Result<Expr, SqlFault>
-    ensures { ReadsOn result cursor.new (negation turns (sames context.now limit (expr context.now limit depth)) cursor.old) }
+    ensures { ReadsOn result cursor.new
+        (negation turns (sames context.now limit (expr context.now limit depth)) cursor.old) }
 {
     if turns == 0 {
         return Err(cursor.refusal());
@@ -249,7 +260,8 @@ fn prime(
     depth: usize,
     cursor: &mut Cursor<'_>,
 ) -> Result<Expr, SqlFault>
-    ensures { ReadsOn result cursor.new (prime context.now limit (expr context.now limit depth) cursor.old) }
+    ensures { ReadsOn result cursor.new
+        (prime context.now limit (expr context.now limit depth) cursor.old) }
 {
     match cursor.next() {
         None => Err(cursor.refusal()),
@@ -294,7 +306,8 @@ fn plain_name(
     name: Text,
     cursor: &mut Cursor<'_>,
 ) -> Result<Expr, SqlFault>
-    ensures { ReadsOn result cursor.new (plain_name context.now limit (expr context.now limit depth) name cursor.old) }
+    ensures { ReadsOn result cursor.new
+        (plain_name context.now limit (expr context.now limit depth) name cursor.old) }
 {
     if cursor.is_mark(1, Mark::Open) {
         return call(alloc, context, limit, depth, function(&name), cursor);
@@ -314,7 +327,8 @@ fn keyword_value(
     keyword: Keyword,
     cursor: &mut Cursor<'_>,
 ) -> Result<Expr, SqlFault>
-    ensures { ReadsOn result cursor.new (keyword_value (expr context.now limit depth) keyword cursor.old) }
+    ensures { ReadsOn result cursor.new
+        (keyword_value (expr context.now limit depth) keyword cursor.old) }
 {
     match keyword {
         Keyword::Null => {
@@ -359,7 +373,8 @@ fn mark_value(
     mark: Mark,
     cursor: &mut Cursor<'_>,
 ) -> Result<Expr, SqlFault>
-    ensures { ReadsOn result cursor.new (mark_value (expr context.now limit depth) mark cursor.old) }
+    ensures { ReadsOn result cursor.new
+        (mark_value (expr context.now limit depth) mark cursor.old) }
 {
     if mark.number() == Mark::Open.number() {
         cursor.skip(1);
@@ -384,7 +399,8 @@ fn call(
     function: Option<Function>,
     cursor: &mut Cursor<'_>,
 ) -> Result<Expr, SqlFault>
-    ensures { ReadsOn result cursor.new (call_by limit (expr context.now limit depth) cursor.old function) }
+    ensures { ReadsOn result cursor.new
+        (call_by limit (expr context.now limit depth) cursor.old function) }
 {
     let Some(function) = function else {
         return Err(cursor.unsupported());
@@ -415,7 +431,8 @@ fn arguments(
     depth: usize,
     cursor: &mut Cursor<'_>,
 ) -> Result<Items<Expr>, SqlFault>
-    ensures { ReadsOn result cursor.new (arguments limit (expr context.now limit depth) cursor.old) }
+    ensures { ReadsOn result cursor.new
+        (arguments limit (expr context.now limit depth) cursor.old) }
 {
     let first = expr(alloc, context, limit, depth, cursor)?;
     let mut read = Items::new(alloc);

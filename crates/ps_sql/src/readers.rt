@@ -271,7 +271,8 @@ fn outputs_ahead(
     limit: usize,
     cursor: &mut Cursor<'_>,
 ) -> Result<Listed, SqlFault>
-    ensures { ReadsOn result cursor.new (outputs (record { is_data = is_data; scope = Scope.Any }) limit cursor.old) }
+    ensures { ReadsOn result cursor.new
+        (outputs (record { is_data = is_data; scope = Scope.Any }) limit cursor.old) }
 {
     let any = Context {
         is_data,
@@ -333,7 +334,8 @@ fn parameter_body(
     again: &mut Cursor<'_>,
     cursor: &mut Cursor<'_>,
 ) -> Result<Body, SqlFault>
-    ensures { ReadsOn result cursor.new (body (parameters_of (scope_of table.now)) limit again.old cursor.old) }
+    ensures { ReadsOn result cursor.new
+        (body (parameters_of (scope_of table.now)) limit again.old cursor.old) }
 {
     let context = parameter_context(alloc, table)?;
     body(alloc, &context, limit, again, cursor)
@@ -378,7 +380,8 @@ fn data_body(
     again: &mut Cursor<'_>,
     cursor: &mut Cursor<'_>,
 ) -> Result<Body, SqlFault>
-    ensures { ReadsOn result cursor.new (body (data_of (Scope.Of kind.now)) limit again.old cursor.old) }
+    ensures { ReadsOn result cursor.new
+        (body (data_of (Scope.Of kind.now)) limit again.old cursor.old) }
 {
     let context = data_context(alloc, kind)?;
     body(alloc, &context, limit, again, cursor)
@@ -452,7 +455,8 @@ pub fn read_parameter_query(alloc: Global, text: &Text) -> Result<ParameterQuery
     requires { length text.now < 4294967295 }
     // What is read is spelled so.
     ensures found { IfOk result
-        (λ query. (lexemes : List Lexeme) × AreLexemes 0 text.now lexemes × IsParameterQuery lexemes query) }
+        (λ query.
+        (lexemes : List Lexeme) × AreLexemes 0 text.now lexemes × IsParameterQuery lexemes query) }
     // What is spelled so is read, unless memory runs out.
     ensures only { (lexemes : List Lexeme) (query : ParameterQuery) → AreLexemes 0 text.now lexemes
         → IsParameterQuery lexemes query → Reads result (Ok query) }
@@ -479,7 +483,8 @@ pub fn read_data_query(alloc: Global, text: &Text) -> Result<DataQuery, SqlFault
     requires { length text.now < 4294967295 }
     // What is read is spelled so.
     ensures found { IfOk result
-        (λ query. (lexemes : List Lexeme) × AreLexemes 0 text.now lexemes × IsDataQuery lexemes query) }
+        (λ query.
+        (lexemes : List Lexeme) × AreLexemes 0 text.now lexemes × IsDataQuery lexemes query) }
     // What is spelled so is read, unless memory runs out.
     ensures only { (lexemes : List Lexeme) (query : DataQuery) → AreLexemes 0 text.now lexemes
         → IsDataQuery lexemes query → Reads result (Ok query) }

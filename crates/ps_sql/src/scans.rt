@@ -238,7 +238,8 @@ fn is_number_end(after: &[u8]) -> bool
 
 /// The number that digits write, if it is not too large.
 fn decimal_value(digits: &[u8]) -> Option<u64>
-    ensures { result ≡ (if nat_le (decimal_after 0 digits.now) greatest then Some (decimal_after 0 digits.now) else None) }
+    ensures { result ≡ (if nat_le (decimal_after 0 digits.now) greatest then Some
+        (decimal_after 0 digits.now) else None) }
 {
     let mut value: u64 = 0;
     'value: for b in digits {

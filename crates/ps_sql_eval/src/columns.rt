@@ -12,7 +12,8 @@ use std::alloc::Global;
 /// The value of a column, by its name among sorted ones; None where there is none of that name.
 fn find<'a>(columns: &'a [Column], name: &Text) -> Option<&'a Value>
     requires { is_row columns.now ≡ true }
-    ensures { unwrap_or (option_map (λ value. value.now) result) values.Null ≡ value_in columns.now name.now }
+    ensures { unwrap_or (option_map (λ value. value.now) result) values.Null
+        ≡ value_in columns.now name.now }
 {
     match columns.binary_search_by(|column| column.name.cmp(name)) {
         Ok(at) => Some(&columns[at].value),

@@ -58,7 +58,8 @@ pub fn eval_without_bucket(
     id: &Text,
     row: &Row,
 ) -> Result<Value, Memory>
-    ensures { IfOk result (λ value. value ≡ value_of (without_bucket asker.now id.now row.now) expr.now) }
+    ensures { IfOk result (λ value.
+        value ≡ value_of (without_bucket asker.now id.now row.now) expr.now) }
 {
     eval(alloc, expr, asker, id, row)
 }
@@ -66,7 +67,8 @@ pub fn eval_without_bucket(
 /// The value of an expression, with Null for each parameter of a bucket.
 #[cycle(evaluating)]
 fn eval(alloc: Global, expr: &Expr, asker: &Asker, id: &Text, row: &Row) -> Result<Value, Memory>
-    ensures { IfOk result (λ value. value ≡ value_of (without_bucket asker.now id.now row.now) expr.now) }
+    ensures { IfOk result (λ value.
+        value ≡ value_of (without_bucket asker.now id.now row.now) expr.now) }
 {
     match expr {
         Expr::Null => Ok(Value::Null),
@@ -113,7 +115,8 @@ fn call(
     row: &Row,
 ) -> Result<Value, Memory>
     ensures { IfOk result (λ value. value
-        ≡ call_value function (map (value_of (without_bucket asker.now id.now row.now)) arguments.now)) }
+        ≡ call_value function
+        (map (value_of (without_bucket asker.now id.now row.now)) arguments.now)) }
 {
     match arguments {
         [a] => {

@@ -59,7 +59,8 @@ pub(crate) fn json_of(alloc: Global, value: &Value) -> Result<Option<Json>, Memo
 /// `x IN` the elements of an array.
 fn within_items(alloc: Global, x: &Value, items: &Vec<Json>) -> Result<Value, Memory>
     requires { items_have_float (items_view items.now.items) ≡ false }
-    ensures { IfOk result (λ value. value ≡ within_items_of x.now (Some (items_view items.now.items))) }
+    ensures { IfOk result (λ value.
+        value ≡ within_items_of x.now (Some (items_view items.now.items))) }
 {
     if x.is_null() {
         return Ok(Value::Null);

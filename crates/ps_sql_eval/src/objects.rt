@@ -23,7 +23,8 @@ pub fn object_id(
     id: &Text,
     row: &Row,
 ) -> Result<Option<Text>, Memory>
-    ensures { IfOk result (λ object. object ≡ object_id_of (without_bucket asker.now id.now row.now) query.now) }
+    ensures { IfOk result (λ object.
+        object ≡ object_id_of (without_bucket asker.now id.now row.now) query.now) }
 {
     let value = id_value(alloc, query, asker, id, row)?;
     text_of(alloc, value)
@@ -37,7 +38,8 @@ fn id_value(
     id: &Text,
     row: &Row,
 ) -> Result<Value, Memory>
-    ensures { IfOk result (λ value. value ≡ id_value_of (without_bucket asker.now id.now row.now) query.now) }
+    ensures { IfOk result (λ value.
+        value ≡ id_value_of (without_bucket asker.now id.now row.now) query.now) }
 {
     'outputs: for output in query.outputs.as_slice() {
         if output.name.as_str() == "id" {
@@ -62,7 +64,8 @@ pub fn content(
     id: &Text,
     row: &Row,
 ) -> Result<Text, Memory>
-    ensures { IfOk result (λ content. content ≡ content_of (without_bucket asker.now id.now row.now) query.now object.now) }
+    ensures { IfOk result (λ content.
+        content ≡ content_of (without_bucket asker.now id.now row.now) query.now object.now) }
 {
     if query.star && query.outputs.is_empty() {
         return document(alloc, object, row.columns());
@@ -80,7 +83,8 @@ fn shown_columns(
     id: &Text,
     row: &Row,
 ) -> Result<Items<Column>, Memory>
-    ensures { IfOk result (λ columns. columns ≡ columns_shown (without_bucket asker.now id.now row.now) query.now) }
+    ensures { IfOk result (λ columns.
+        columns ≡ columns_shown (without_bucket asker.now id.now row.now) query.now) }
 {
     let starred = starred_columns(alloc, query.star, row)?;
     with_outputs(alloc, starred, query.outputs.as_slice(), asker, id, row)
@@ -105,7 +109,8 @@ fn with_outputs(
     id: &Text,
     row: &Row,
 ) -> Result<Items<Column>, Memory>
-    ensures { IfOk result (λ all. all ≡ columns ++ map (output_column (without_bucket asker.now id.now row.now)) outputs.now) }
+    ensures { IfOk result (λ all. all
+        ≡ columns ++ map (output_column (without_bucket asker.now id.now row.now)) outputs.now) }
 {
     'outputs: for output in outputs {
         let name = output.name.copy(alloc)?;

@@ -55,7 +55,8 @@ pub(crate) fn join(alloc: Global, a: Value, b: Value) -> Result<Value, Memory>
 
 /// `upper(of)`: ASCII letters in capitals.
 pub(crate) fn upper(alloc: Global, of: Value) -> Result<Value, Memory>
-    ensures { IfOk result (λ value. value ≡ text_value (option_map (map to_ascii_uppercase) (text_in of))) }
+    ensures { IfOk result (λ value.
+        value ≡ text_value (option_map (map to_ascii_uppercase) (text_in of))) }
 {
     match text_of(alloc, of)? {
         None => Ok(Value::Null),
@@ -65,7 +66,8 @@ pub(crate) fn upper(alloc: Global, of: Value) -> Result<Value, Memory>
 
 /// `lower(of)`: ASCII letters in small.
 pub(crate) fn lower(alloc: Global, of: Value) -> Result<Value, Memory>
-    ensures { IfOk result (λ value. value ≡ text_value (option_map (map to_ascii_lowercase) (text_in of))) }
+    ensures { IfOk result (λ value.
+        value ≡ text_value (option_map (map to_ascii_lowercase) (text_in of))) }
 {
     match text_of(alloc, of)? {
         None => Ok(Value::Null),

@@ -61,7 +61,8 @@ pub(crate) fn bool_value(holds: bool) -> Value
 
 /// The order of two values, None where either is Null.
 fn order(a: &Value, b: &Value) -> Option<Ordering>
-    ensures { result ≡ (if is_null a.now || is_null b.now then None else Some (compare_values a.now b.now)) }
+    ensures { result ≡ (if is_null a.now || is_null b.now then None else Some
+        (compare_values a.now b.now)) }
 {
     if a.is_null() || b.is_null() {
         None

@@ -24,7 +24,8 @@ pub fn holds(
     id: &Text,
     row: &Row,
 ) -> Result<bool, Memory>
-    ensures { IfOk result (λ held. held ≡ holds_for (without_bucket asker.now id.now row.now) (Some condition.now)) }
+    ensures { IfOk result (λ held.
+        held ≡ holds_for (without_bucket asker.now id.now row.now) (Some condition.now)) }
 {
     let value = eval_without_bucket(alloc, condition, asker, id, row)?;
     Ok(truth_of(&value) == Truth::True)
@@ -40,7 +41,8 @@ pub fn vector_on(
     id: &Text,
     row: &Row,
 ) -> Result<Option<Items<Value>>, Memory>
-    ensures { IfOk result (λ vector. option_to_list vector ≡ vectors_on names.now asker.now query.now (at_row id.now row.now)) }
+    ensures { IfOk result (λ vector.
+        option_to_list vector ≡ vectors_on names.now asker.now query.now (at_row id.now row.now)) }
 {
     if !lets_through(alloc, query, asker, id, row)? {
         return Ok(None);
@@ -60,7 +62,8 @@ fn lets_through(
     id: &Text,
     row: &Row,
 ) -> Result<bool, Memory>
-    ensures { IfOk result (λ held. held ≡ holds_for (without_bucket asker.now id.now row.now) query.now.condition) }
+    ensures { IfOk result (λ held.
+        held ≡ holds_for (without_bucket asker.now id.now row.now) query.now.condition) }
 {
     match &query.condition {
         Some(condition) => holds(alloc, condition, asker, id, row),
@@ -77,7 +80,8 @@ fn output_values(
     id: &Text,
     row: &Row,
 ) -> Result<Items<Value>, Memory>
-    ensures { IfOk result (λ values. values ≡ map (value_of_output (without_bucket asker.now id.now row.now) outputs.now) names.now) }
+    ensures { IfOk result (λ values. values
+        ≡ map (value_of_output (without_bucket asker.now id.now row.now) outputs.now) names.now) }
 {
     let mut values = Items::new(alloc);
     'names: for name in names {
@@ -95,7 +99,8 @@ fn output_value(
     id: &Text,
     row: &Row,
 ) -> Result<Value, Memory>
-    ensures { IfOk result (λ value. value ≡ value_of_output (without_bucket asker.now id.now row.now) outputs.now name.now) }
+    ensures { IfOk result (λ value.
+        value ≡ value_of_output (without_bucket asker.now id.now row.now) outputs.now name.now) }
 {
     'outputs: for output in outputs {
         if output.name.equals(name) {

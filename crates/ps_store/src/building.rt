@@ -92,13 +92,15 @@ impl Building {
         ensures number { IfOk result (λ building. building.number ≡ number) }
         ensures mark { IfOk result (λ building. building.mark ≡ mark_of number) }
         ensures by { IfOk result (λ building. building.by ≡ by) }
-        ensures logs { IfOk result (λ building. (bucket : List ℕ) → log_at building.logs bucket ≡ []) }
+        ensures logs { IfOk result (λ building.
+            (bucket : List ℕ) → log_at building.logs bucket ≡ []) }
         ensures rows { IfOk result (λ building. (key : KeySeen) → row_at building.rows key ≡ None) }
         ensures index_rules { IfOk result (λ building. building.index.rules ≡ by.rules) }
         ensures index_notes { IfOk result (λ building. building.index.notes ≡ []) }
         ensures index_last { IfOk result (λ building. building.index.last ≡ 0) }
         ensures index_forgotten { IfOk result (λ building. building.index.forgotten ≡ 0) }
-        ensures queue { IfOk result (λ building. (source : SourceSeen) → IsRowsOf rows.now source → HaveOwnMoments source → building.queue.items ≡ queue_of source) }
+        ensures queue { IfOk result (λ building. (source : SourceSeen) → IsRowsOf rows.now source
+            → HaveOwnMoments source → building.queue.items ≡ queue_of source) }
     {
         Ok(Building {
             number,
@@ -155,12 +157,14 @@ impl Building {
     // where memory runs out.
     fn grow(&mut self, alloc: Global, plan: &mut Plan) -> Result<(), Memory>
         ensures same { SameBuilding self.old self.new }
-        ensures marked { OnOk result (plan.new.entered.items ≡ marked self.old.mark plan.old.entered.items) }
+        ensures marked { OnOk result (plan.new.entered.items
+            ≡ marked self.old.mark plan.old.entered.items) }
         ensures made { plan.new.made ≡ plan.old.made }
         ensures last { plan.new.last ≡ plan.old.last }
         ensures room { OnOk result (HasRoom self.new.logs plan.new.entered.items) }
         ensures notes { OnOk result (length plan.new.made.items ≤ self.new.index.spare) }
-        ensures places { OnOk result (HasPlaces self.new.rows (take (length plan.new.made.items) self.old.queue.items)) }
+        ensures places { OnOk result (HasPlaces self.new.rows
+            (take (length plan.new.made.items) self.old.queue.items)) }
     {
         let entered = mem::replace(&mut plan.entered, Vec::new(alloc));
         plan.entered = mark_buckets(alloc, &self.mark, entered)?;
@@ -176,8 +180,10 @@ impl Building {
         requires newer { Continue (log_at self.old.logs) plan.entered.items }
         requires rising { AreRising (log_at self.old.logs) }
         requires count { length plan.made.items ≤ length self.old.queue.items }
-        requires places { HasPlaces self.old.rows (take (length plan.made.items) self.old.queue.items) }
-        requires rows_are { AreRowsOf self.old.index.rules.definitions plan.made.items self.old.queue.items }
+        requires places { HasPlaces self.old.rows
+            (take (length plan.made.items) self.old.queue.items) }
+        requires rows_are { AreRowsOf self.old.index.rules.definitions
+            plan.made.items self.old.queue.items }
         requires notes { length plan.made.items ≤ self.old.index.spare }
         requires rise { NotFalling self.old.index.last self.old.queue.items }
         ensures built { IsTaken self.old plan self.new }
@@ -240,7 +246,8 @@ impl Building {
         requires limit { limit ≤ 1000000 }
         requires stands { (coming : Coming) × (l : Ledger) × IsBuilt self.old coming l last.0 }
         ensures by { self.new.by ≡ self.old.by }
-        ensures grows { (coming : Coming) (l : Ledger) → IsBuilt self.old coming l last.0 → Grows coming l limit self.new result }
+        ensures grows { (coming : Coming) (l : Ledger) → IsBuilt self.old coming l last.0
+            → Grows coming l limit self.new result }
     {
         if self.queue.is_empty() {
             return Err(BuildFault::NothingToBuild);

@@ -23,8 +23,10 @@ impl Store {
     /// `Building`, and `GenerationFull` where the last number that was ever begun is the limit. Room for all that `switch` and
     /// `abandon` keep is made here. Refused rules are dropped.
     pub fn deploy(&mut self, alloc: Global, rules: Rules) -> Result<u32, DeployFault>
-        requires { (fixed : FixedSeen) × (history : List EventSeen) × StoreStandsFor fixed self.old history }
-        ensures { (fixed : FixedSeen) (history : List EventSeen) → StoreStandsFor fixed self.old history → Deploys fixed history rules self.new result }
+        requires { (fixed : FixedSeen) × (history : List EventSeen)
+            × StoreStandsFor fixed self.old history }
+        ensures { (fixed : FixedSeen) (history : List EventSeen)
+            → StoreStandsFor fixed self.old history → Deploys fixed history rules self.new result }
     {
         if let Some(building) = &self.generations.building {
             return Err(DeployFault::Building {
@@ -58,8 +60,10 @@ impl Store {
     pub fn build_batch(&mut self, alloc: Global, limit: u32) -> Result<Built, BuildFault>
         requires some { 1 ≤ limit }
         requires limit { limit ≤ 1000000 }
-        requires stands { (fixed : FixedSeen) × (history : List EventSeen) × StoreStandsFor fixed self.old history }
-        ensures { (fixed : FixedSeen) (history : List EventSeen) → StoreStandsFor fixed self.old history → Builds fixed history limit self.new result }
+        requires stands { (fixed : FixedSeen) × (history : List EventSeen)
+            × StoreStandsFor fixed self.old history }
+        ensures { (fixed : FixedSeen) (history : List EventSeen)
+            → StoreStandsFor fixed self.old history → Builds fixed history limit self.new result }
     {
         let Some(building) = &mut self.generations.building else {
             return Err(BuildFault::NothingBuilding);
@@ -82,8 +86,10 @@ impl Store {
     /// `NothingBuilding`; `NotBuilt` where its queue is not empty; `HalfWritten` where changes past what is reached are written;
     /// and `OpsFull` where no id is left. Takes no memory.
     pub fn switch(&mut self) -> Result<Checkpoint, SwitchFault>
-        requires { (fixed : FixedSeen) × (history : List EventSeen) × StoreStandsFor fixed self.old history }
-        ensures { (fixed : FixedSeen) (history : List EventSeen) → StoreStandsFor fixed self.old history → Switches fixed history self.new result }
+        requires { (fixed : FixedSeen) × (history : List EventSeen)
+            × StoreStandsFor fixed self.old history }
+        ensures { (fixed : FixedSeen) (history : List EventSeen)
+            → StoreStandsFor fixed self.old history → Switches fixed history self.new result }
     {
         let Some(building) = &self.generations.building else {
             return Err(SwitchFault::NothingBuilding);
@@ -119,8 +125,10 @@ impl Store {
     /// Drops the generation that is being built, and gives its number. `NothingBuilding` exactly where none is. What it held is
     /// given back. Takes no memory.
     pub fn abandon(&mut self) -> Result<u32, NothingBuilding>
-        requires { (fixed : FixedSeen) × (history : List EventSeen) × StoreStandsFor fixed self.old history }
-        ensures { (fixed : FixedSeen) (history : List EventSeen) → StoreStandsFor fixed self.old history → Abandons fixed history self.new result }
+        requires { (fixed : FixedSeen) × (history : List EventSeen)
+            × StoreStandsFor fixed self.old history }
+        ensures { (fixed : FixedSeen) (history : List EventSeen)
+            → StoreStandsFor fixed self.old history → Abandons fixed history self.new result }
     {
         match self.generations.abandon() {
             Some(number) => Ok(number),
@@ -130,7 +138,9 @@ impl Store {
 
     /// The number of the generation that is being built, if one is.
     pub fn building(&self) -> Option<u32>
-        ensures { (fixed : FixedSeen) (history : List EventSeen) → StoreStandsFor fixed self.now history → result ≡ building_of (ledger_of fixed.rules history) }
+        ensures { (fixed : FixedSeen) (history : List EventSeen)
+            → StoreStandsFor fixed self.now history
+            → result ≡ building_of (ledger_of fixed.rules history) }
     {
         match &self.generations.building {
             Some(building) => Some(building.number),
@@ -140,7 +150,9 @@ impl Store {
 
     /// How many of the fed transactions are at positions up to the checkpoint's.
     pub fn committed(&self) -> u64
-        ensures { (fixed : FixedSeen) (history : List EventSeen) → StoreStandsFor fixed self.now history → result ≡ committed_of (ledger_of fixed.rules history) }
+        ensures { (fixed : FixedSeen) (history : List EventSeen)
+            → StoreStandsFor fixed self.now history
+            → result ≡ committed_of (ledger_of fixed.rules history) }
     {
         self.committed
     }

@@ -58,7 +58,8 @@ impl Generations {
         ensures by { IfOk result (λ generations. generations.by ≡ None) }
         ensures building { IfOk result (λ generations. generations.building ≡ None) }
         ensures begun { IfOk result (λ generations. generations.begun ≡ 1) }
-        ensures endings { IfOk result (λ generations. (bucket : List ℕ) → ending_at generations bucket ≡ None) }
+        ensures endings { IfOk result (λ generations.
+            (bucket : List ℕ) → ending_at generations bucket ≡ None) }
     {
         Ok(Generations {
             number: 1,
@@ -72,7 +73,8 @@ impl Generations {
 
     /// How the generation of a bucket ended, none where it did not. Where none ever ended, it takes no memory.
     pub(crate) fn ending(&self, alloc: Global, bucket: &Text) -> Result<Option<Ending>, Memory>
-        ensures { IfOk result (λ ending. option_map ending_from ending ≡ ending_at self.now bucket.now) }
+        ensures { IfOk result (λ ending.
+            option_map ending_from ending ≡ ending_at self.now bucket.now) }
     {
         if self.endings.len() == 0 {
             return Ok(None);
@@ -144,7 +146,8 @@ impl Generations {
         count: usize,
     ) -> Result<Vec<Waiting>, Memory>
         ensures alike { IsAlike self.old self.new }
-        ensures copies { IfOk result (λ copies. IsCopyOf self.new.building (take count changes.now.items) copies.items) }
+        ensures copies { IfOk result (λ copies.
+            IsCopyOf self.new.building (take count changes.now.items) copies.items) }
         ensures room { IfOk result (λ copies. FitsQueue self.new.building copies.items) }
     {
         match &mut self.building {

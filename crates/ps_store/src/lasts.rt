@@ -10,7 +10,8 @@ use ps_data::OpId;
 /// After a change that came before the first new operation, the last id of a write is the one before all of them, and not the
 /// last id that was given to anything. Takes no memory.
 pub(crate) fn keep_writes(made: &mut Vec<Made>, last: OpId, wrote: OpId)
-    ensures ids { ids made.new.items ≡ map (λ id. if id == last.0 then wrote.0 else id) (ids made.old.items) }
+    ensures ids { ids made.new.items ≡ map (λ id.
+        if id == last.0 then wrote.0 else id) (ids made.old.items) }
     ensures rows { rows_made made.new.items ≡ rows_made made.old.items }
 {
     if last.0 == wrote.0 {

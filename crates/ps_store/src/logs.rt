@@ -58,7 +58,8 @@ impl Logs {
 
     // What a bucket's log has up to an id. It is looked for three times.
     fn bucket<L: Ledger>(&self, name: Text, upto: OpId, steps: &mut Steps<L>) -> TakenBucket
-        ensures cost { (n d : ℕ) → IsDepth n d → length (log_at self.now name) ≤ n → steps.new ≤ steps.old + 3 * (2 * d + 4) }
+        ensures cost { (n d : ℕ) → IsDepth n d → length (log_at self.now name) ≤ n
+            → steps.new ≤ steps.old + 3 * (2 * d + 4) }
         ensures value { result ≡ bucket_upto upto.0 name (log_at self.now name) }
     {
         match self.logs.get(&name) {
@@ -85,8 +86,10 @@ impl Logs {
         upto: OpId,
         steps: &mut Steps<L>,
     ) -> Result<Items<TakenBucket>, Memory>
-        ensures cost { (n d : ℕ) → IsDepth n d → AreNoLonger (log_at self.now) n names → steps.new ≤ steps.old + length names * (3 * (2 * d + 4)) }
-        ensures value { IfOk result (λ buckets. buckets ≡ map (λ (name : List ℕ). bucket_upto upto.0 name (log_at self.now name)) names) }
+        ensures cost { (n d : ℕ) → IsDepth n d → AreNoLonger (log_at self.now) n names
+            → steps.new ≤ steps.old + length names * (3 * (2 * d + 4)) }
+        ensures value { IfOk result (λ buckets. buckets
+            ≡ map (λ (name : List ℕ). bucket_upto upto.0 name (log_at self.now name)) names) }
     {
         let mut buckets = Items::new(alloc);
         'names: for name in names.into_vec() {
@@ -104,8 +107,10 @@ impl Logs {
         upto: OpId,
         steps: &mut Steps<L>,
     ) -> Result<Batch, Memory>
-        ensures cost { (d : ℕ) → IsDepth (length (log_at self.now name.now)) d → IfOk result (λ batch. steps.new ≤ steps.old + length batch.ops + 2 * d + 4) }
-        ensures value { IfOk result (λ batch. batch ≡ batch_of after.0 upto.0 (log_at self.now name.now)) }
+        ensures cost { (d : ℕ) → IsDepth (length (log_at self.now name.now)) d
+            → IfOk result (λ batch. steps.new ≤ steps.old + length batch.ops + 2 * d + 4) }
+        ensures value { IfOk result (λ batch.
+            batch ≡ batch_of after.0 upto.0 (log_at self.now name.now)) }
     {
         match self.logs.get(name) {
             Some(log) => log.read(alloc, after, upto, steps),
@@ -140,7 +145,8 @@ impl Logs {
         rooms: &BTreeMap<Text, usize>,
     ) -> Result<(), Memory>
         ensures logs { (other : List ℕ) → log_at self.new other ≡ log_at self.old other }
-        ensures rooms { OnOk result ((name : List ℕ) → wanted rooms.now name ≤ room_at self.new name) }
+        ensures rooms { OnOk result ((name : List ℕ)
+            → wanted rooms.now name ≤ room_at self.new name) }
     {
         'rooms: for (name, count) in rooms.iter() {
             self.reserve(alloc, name, *count)?;
@@ -151,7 +157,9 @@ impl Logs {
     /// The names of the buckets that have operations with ids up to one, in byte order.
     pub(crate) fn names(&self, alloc: Global, upto: OpId) -> Result<Items<Text>, Memory>
         ensures in_order { IfOk result (λ names. IsStrictlySortedBy (slice_cmp nat_cmp) names) }
-        ensures names { IfOk result (λ names. (bucket : List ℕ) → list_any (is_at (slice_cmp nat_cmp bucket)) names ≡ has_ops (up_to upto.0 (log_at self.now bucket))) }
+        ensures names { IfOk result (λ names. (bucket : List ℕ)
+            → list_any (is_at (slice_cmp nat_cmp bucket)) names
+            ≡ has_ops (up_to upto.0 (log_at self.now bucket))) }
     {
         let _count = self.logs.len();
         let mut names = Items::new(alloc);
@@ -168,8 +176,13 @@ impl Logs {
         requires newer { newest (log_at self.old name.now) < id_of op }
         requires no_clear { is_clear op ≡ false }
         ensures first { result ≡ not (has_ops (up_to (id_of op) (log_at self.old name.now))) }
-        ensures logs { (other : List ℕ) → log_at self.new other ≡ (if bytes_eq other name.now then log_at self.old other ++ op ∷ [] else log_at self.old other) }
-        ensures rooms { (other : List ℕ) → room_at self.old other ≤ room_at self.new other + (if bytes_eq other name.now then 1 else 0) }
+        ensures logs { (other : List ℕ)
+            → log_at self.new other
+            ≡ (if bytes_eq other name.now then log_at self.old other
+            ++ op ∷ [] else log_at self.old other) }
+        ensures rooms { (other : List ℕ)
+            → room_at self.old other
+            ≤ room_at self.new other + (if bytes_eq other name.now then 1 else 0) }
     {
         if let Some(log) = self.logs.get_mut(name) {
             let first = count_upto(log, op.id()) == 0;
@@ -186,9 +199,12 @@ impl Logs {
         name: &Text,
         level: OpId,
     ) -> Result<Report, Memory>
-        ensures report { IfOk result (λ report. report ≡ report_of level.0 (log_at self.old name.now)) }
-        ensures ok { OnOk result ((other : List ℕ) → log_at self.new other ≡ compacted_in name.now level.0 (log_at self.old) other) }
-        ensures err { OnErr result ((other : List ℕ) → log_at self.new other ≡ log_at self.old other) }
+        ensures report { IfOk result (λ report.
+            report ≡ report_of level.0 (log_at self.old name.now)) }
+        ensures ok { OnOk result ((other : List ℕ)
+            → log_at self.new other ≡ compacted_in name.now level.0 (log_at self.old) other) }
+        ensures err { OnErr result
+            ((other : List ℕ) → log_at self.new other ≡ log_at self.old other) }
     {
         if let Some(log) = self.logs.get_mut(name) {
             return compact(alloc, log, level);
@@ -208,7 +224,8 @@ impl Logs {
         requires newer { Continue (log_at self.old) entered.items }
         requires rising { AreRising (log_at self.old) }
         ensures first { result ≡ first_ops (log_at self.old) entered.items }
-        ensures logs { (bucket : List ℕ) → log_at self.new bucket ≡ log_at self.old bucket ++ in_bucket bucket entered.items }
+        ensures logs { (bucket : List ℕ)
+            → log_at self.new bucket ≡ log_at self.old bucket ++ in_bucket bucket entered.items }
     {
         let _count = entered.len();
         let mut first = 0;
@@ -228,7 +245,8 @@ fn add_name(
     log: &StoredLog,
     upto: OpId,
 ) -> Result<(), Memory>
-    ensures { OnOk result (names.new ≡ (if has_ops (up_to upto.0 log.now.ops) then names.old ++ name.now ∷ [] else names.old)) }
+    ensures { OnOk result (names.new
+        ≡ (if has_ops (up_to upto.0 log.now.ops) then names.old ++ name.now ∷ [] else names.old)) }
 {
     if count_upto(log, upto) == 0 {
         return Ok(());

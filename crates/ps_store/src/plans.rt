@@ -94,7 +94,8 @@ fn leaving_many(alloc: Global, before: &[Place], after: &[Placed]) -> Result<Ite
 // Adds the REMOVEs of places, and gives the last id.
 fn remove_all(entered: &mut Vec<Entered>, last: OpId, places: Items<Place>) -> Result<OpId, Memory>
     requires { last.0 + length places < 2 ^ 64 }
-    ensures { IfOk result (λ next. (next.0 ≡ last.0 + length places) × (entered.new.items ≡ entered.old.items ++ removed_all (last.0 + 1) places)) }
+    ensures { IfOk result (λ next. (next.0 ≡ last.0 + length places)
+        × (entered.new.items ≡ entered.old.items ++ removed_all (last.0 + 1) places)) }
 {
     let mut id = last.0;
     'places: for place in places.into_vec() {
@@ -119,7 +120,8 @@ fn remove_all(entered: &mut Vec<Entered>, last: OpId, places: Items<Place>) -> R
 // Adds the PUTs of entries, and gives the last id.
 fn put_all(entered: &mut Vec<Entered>, last: OpId, entries: Items<Placed>) -> Result<OpId, Memory>
     requires { last.0 + length entries < 2 ^ 64 }
-    ensures { IfOk result (λ next. (next.0 ≡ last.0 + length entries) × (entered.new.items ≡ entered.old.items ++ numbered put (last.0 + 1) entries)) }
+    ensures { IfOk result (λ next. (next.0 ≡ last.0 + length entries)
+        × (entered.new.items ≡ entered.old.items ++ numbered put (last.0 + 1) entries)) }
 {
     let mut id = last.0;
     'entries: for entry in entries.into_vec() {
@@ -166,7 +168,8 @@ impl Plan {
         ensures last { result.last ≡ last }
         ensures entered { result.entered.items ≡ [] }
         ensures made { result.made.items ≡ [] }
-        ensures seen { (rows : RowsSeen) (changes : List Timed) (key : KeySeen) → row_seen result rows changes key ≡ columns_of (row_at rows key) }
+        ensures seen { (rows : RowsSeen) (changes : List Timed) (key : KeySeen)
+            → row_seen result rows changes key ≡ columns_of (row_at rows key) }
     {
         Plan {
             seen: BTreeMap::new(alloc),
@@ -222,8 +225,11 @@ impl Plan {
         ensures last { self.new.last ≡ self.old.last }
         ensures entered { self.new.entered ≡ self.old.entered }
         ensures made { self.new.made ≡ self.old.made }
-        ensures seen { OnOk result ((rows : RowsSeen) (changes : List Timed) (other : KeySeen) → row_seen self.new rows changes other
-            ≡ (if eq_by_cmp key_cmp other key then row_left (slice_get changes (length self.old.made.items)) else row_seen self.old rows changes other)) }
+        ensures seen { OnOk result ((rows : RowsSeen) (changes : List Timed) (other : KeySeen)
+            → row_seen self.new rows changes other
+            ≡ (if eq_by_cmp key_cmp other key then row_left
+            (slice_get changes (length self.old.made.items)) else row_seen
+            self.old rows changes other)) }
     {
         let place = self.made.len();
         self.seen.insert(key, place)?;
@@ -236,9 +242,11 @@ impl Plan {
         ensures seen { self.new.seen ≡ self.old.seen }
         ensures same { self.new.last ≡ self.old.last }
         ensures made { self.new.made ≡ self.old.made }
-        ensures last { IfOk result (λ last. last.0 ≡ self.old.last.0 + (length gone + length after)) }
+        ensures last { IfOk result (λ last.
+            last.0 ≡ self.old.last.0 + (length gone + length after)) }
         ensures entered { OnOk result (self.new.entered.items ≡ self.old.entered.items
-            ++ (removed_all (self.old.last.0 + 1) gone ++ numbered put (self.old.last.0 + 1 + length gone) after)) }
+            ++ (removed_all (self.old.last.0 + 1) gone
+            ++ numbered put (self.old.last.0 + 1 + length gone) after)) }
     {
         let middle = remove_all(&mut self.entered, self.last, gone)?;
         put_all(&mut self.entered, middle, after)
@@ -253,12 +261,18 @@ impl Plan {
         row: Option<Row>,
     ) -> Result<(), Memory>
         requires { self.old.last.0 + (length gone + length after) < 2 ^ 64 }
-        ensures seen { OnOk result ((rows : RowsSeen) (changes : List Timed) (other : KeySeen) → row_seen self.new rows changes other
-            ≡ (if eq_by_cmp key_cmp other key then row_left (slice_get changes (length self.old.made.items)) else row_seen self.old rows changes other)) }
-        ensures last { OnOk result (self.new.last.0 ≡ self.old.last.0 + (length gone + length after)) }
+        ensures seen { OnOk result ((rows : RowsSeen) (changes : List Timed) (other : KeySeen)
+            → row_seen self.new rows changes other
+            ≡ (if eq_by_cmp key_cmp other key then row_left
+            (slice_get changes (length self.old.made.items)) else row_seen
+            self.old rows changes other)) }
+        ensures last { OnOk result (self.new.last.0
+            ≡ self.old.last.0 + (length gone + length after)) }
         ensures entered { OnOk result (self.new.entered.items ≡ self.old.entered.items
-            ++ (removed_all (self.old.last.0 + 1) gone ++ numbered put (self.old.last.0 + 1 + length gone) after)) }
-        ensures made { OnOk result (self.new.made.items ≡ self.old.made.items ++ record { last = self.new.last; row = row } ∷ []) }
+            ++ (removed_all (self.old.last.0 + 1) gone
+            ++ numbered put (self.old.last.0 + 1 + length gone) after)) }
+        ensures made { OnOk result (self.new.made.items
+            ≡ self.old.made.items ++ record { last = self.new.last; row = row } ∷ []) }
     {
         let last = self.enter(gone, after)?;
         self.see(key)?;
@@ -278,12 +292,14 @@ impl Plan {
     ) -> Result<Option<Refusal>, Memory>
         requires limits { AreWithin fixed.now.limits }
         requires key { key ≡ key_of waiting.now }
-        ensures { IfOk result (λ refusal. (rows : RowsSeen) (changes : List Timed) (base : Ledger) (ts : List Timed)
+        ensures { IfOk result (λ refusal.
+            (rows : RowsSeen) (changes : List Timed) (base : Ledger) (ts : List Timed)
             → PlanStands fixed.now.rules rows changes self.old base ts
             → slice_get changes (length ts) ≡ Some waiting.now
             → IsMade fixed.now.limits (fold write_next base ts) waiting.now entries
             → (refusal ≡ refusal_of fixed.now.limits (fold write_next base ts) waiting.now)
-            × PlanStands fixed.now.rules rows changes self.new base (with_change refusal ts waiting.now)) }
+            × PlanStands fixed.now.rules rows changes self.new base
+            (with_change refusal ts waiting.now)) }
     {
         let ChangeEntries { before, after } = entries;
         let places = into_places(alloc, before)?;
@@ -311,7 +327,8 @@ impl Plan {
             → PlanStands fixed.now.rules rows.now changes.now.items self.old base ts
             → length ts ≡ place → slice_get changes.now.items place ≡ Some t
             → (refusal ≡ refusal_of fixed.now.limits (fold write_next base ts) t)
-            × PlanStands fixed.now.rules rows.now changes.now.items self.new base (with_change refusal ts t)) }
+            × PlanStands fixed.now.rules rows.now changes.now.items self.new base
+            (with_change refusal ts t)) }
     {
         let waiting = &changes[place];
         let key = waiting.key(alloc)?;
@@ -364,7 +381,9 @@ pub(crate) fn plan_run(
 ) -> Result<Planned, Memory>
     requires { AreWithin fixed.now.limits }
     ensures { IfOk result (λ planned. (base : Ledger) → IsStart fixed.now.rules rows.now last.0 base
-        → IsRun fixed.now.rules rows.now changes.now.items base planned (take limit changes.now.items) (run_from fixed.now.limits base 0 (take limit changes.now.items))) }
+        → IsRun fixed.now.rules rows.now changes.now.items base planned
+        (take limit changes.now.items)
+        (run_from fixed.now.limits base 0 (take limit changes.now.items))) }
 {
     let mut plan = Plan::new(alloc, last);
     let count = limit.min(changes.len());

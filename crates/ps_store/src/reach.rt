@@ -68,7 +68,8 @@ impl Reach {
     fn pass(&mut self, last: OpId) -> bool
         ensures same { settled last.0 (reached self.new) ≡ settled last.0 (reached self.old) }
         ensures done { result ≡ false → settled last.0 (reached self.old) ≡ reached self.new }
-        ensures fewer { result ≡ true → length self.new.ends.items + 1 ≡ length self.old.ends.items }
+        ensures fewer { result ≡ true
+            → length self.new.ends.items + 1 ≡ length self.old.ends.items }
         ensures room { end_room self.old ≤ end_room self.new }
     {
         let (changes, position) = match self.ends.front() {
@@ -111,7 +112,8 @@ impl Reach {
     /// One more change is written, and this is the last id by now. Takes no memory.
     pub(crate) fn wrote_one(&mut self, last: OpId)
         requires { AwaitsOne (reached self.old).over (reached self.old).left }
-        ensures { reached self.new ≡ settled last.0 (record (reached self.old) { over = (reached self.old).over + 1 }) }
+        ensures { reached self.new
+            ≡ settled last.0 (record (reached self.old) { over = (reached self.old).over + 1 }) }
     {
         self.over = self.next_over();
         self.settle(last);
@@ -129,7 +131,9 @@ impl Reach {
     /// One more transaction is fed, in room that is there. Takes no memory.
     pub(crate) fn feed(&mut self, end: End, last: OpId)
         requires { 1 ≤ end_room self.old }
-        ensures { reached self.new ≡ settled last.0 (record (reached self.old) { left = (reached self.old).left ++ end ∷ [] }) }
+        ensures { reached self.new
+            ≡ settled last.0
+            (record (reached self.old) { left = (reached self.old).left ++ end ∷ [] }) }
     {
         self.ends.push_back_reserved(end);
         self.settle(last);

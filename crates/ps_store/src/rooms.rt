@@ -18,7 +18,9 @@ fn is_greatest(room: usize) -> bool
 
 // Gives one more place to a name.
 fn give(rooms: &mut BTreeMap<Text, usize>, alloc: Global, name: &Text) -> Result<(), Memory>
-    ensures { OnOk result ((other : List ℕ) → wanted rooms.new other ≡ wanted rooms.old other + (if bytes_eq other name.now then 1 else 0)) }
+    ensures { OnOk result ((other : List ℕ)
+        → wanted rooms.new other
+        ≡ wanted rooms.old other + (if bytes_eq other name.now then 1 else 0)) }
 {
     if let Some(room) = rooms.get_mut(name) {
         if is_greatest(*room) {
@@ -33,7 +35,8 @@ fn give(rooms: &mut BTreeMap<Text, usize>, alloc: Global, name: &Text) -> Result
 
 /// How many operations each bucket will get.
 pub(crate) fn rooms_for(alloc: Global, entered: &[Entered]) -> Result<BTreeMap<Text, usize>, Memory>
-    ensures { IfOk result (λ rooms. (name : List ℕ) → wanted rooms name ≡ length (in_bucket name entered.now)) }
+    ensures { IfOk result (λ rooms.
+        (name : List ℕ) → wanted rooms name ≡ length (in_bucket name entered.now)) }
 {
     let mut rooms = BTreeMap::new(alloc);
     'entered: for e in entered {

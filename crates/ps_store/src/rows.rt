@@ -106,7 +106,8 @@ impl Rows {
 
     // Equal changes to those that left the rows, in the order of the rows.
     fn changes_by_row(&self, alloc: Global) -> Result<Vec<Waiting>, Memory>
-        ensures { IfOk result (λ changes. changes.items ≡ map last_change_of (live_in self.now.places.entries)) }
+        ensures { IfOk result (λ changes.
+            changes.items ≡ map last_change_of (live_in self.now.places.entries)) }
     {
         let mut changes = Vec::new(alloc);
         'places: for (key, place) in self.places.iter() {
@@ -119,7 +120,8 @@ impl Rows {
 
     /// Equal changes to those that left the rows, in the order in which they came.
     pub(crate) fn last_changes(&self, alloc: Global) -> Result<VecDeque<Waiting>, Memory>
-        ensures { IfOk result (λ queue. (source : Source) → IsRowsOf self.now source → HaveOwnMoments source → queue.items ≡ queue_of source) }
+        ensures { IfOk result (λ queue. (source : Source) → IsRowsOf self.now source
+            → HaveOwnMoments source → queue.items ≡ queue_of source) }
     {
         let _count = self.places.len();
         let mut changes = self.changes_by_row(alloc)?;
@@ -133,7 +135,8 @@ impl Rows {
     /// Makes a place for a row. No row changes, also where it is out of memory.
     pub(crate) fn make_place(&mut self, key: RowKey) -> Result<(), Memory>
         ensures rows { (other : Key) → row_at self.new other ≡ row_at self.old other }
-        ensures places { (other : Key) → has_place self.old other ≡ true → has_place self.new other ≡ true }
+        ensures places { (other : Key) → has_place self.old other ≡ true
+            → has_place self.new other ≡ true }
         ensures ok { OnOk result (has_place self.new key ≡ true) }
     {
         if self.places.contains_key(&key) {
@@ -146,7 +149,9 @@ impl Rows {
     /// Puts a row into its place, or takes it out. Takes no memory.
     pub(crate) fn set(&mut self, key: &RowKey, row: Option<Live>)
         requires { has_place self.old key.now ≡ true }
-        ensures rows { (other : Key) → row_at self.new other ≡ (if eq_by_cmp key_cmp other key.now then row else row_at self.old other) }
+        ensures rows { (other : Key)
+            → row_at self.new other
+            ≡ (if eq_by_cmp key_cmp other key.now then row else row_at self.old other) }
         ensures places { (other : Key) → has_place self.new other ≡ has_place self.old other }
     {
         if let Some(place) = self.places.get_mut(key) {

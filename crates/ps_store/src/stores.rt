@@ -116,7 +116,8 @@ impl Store {
     /// A store for rules, under limits that are at most the usual ones. Nothing is fed, and the checkpoint is (0, 0).
     pub fn new(alloc: Global, rules: Rules, limits: Limits) -> Result<Store, Memory>
         requires { AreWithin limits }
-        ensures { IfOk result (λ store. StoreStandsFor (record { rules = rules; limits = limits }) store []) }
+        ensures { IfOk result (λ store.
+            StoreStandsFor (record { rules = rules; limits = limits }) store []) }
     {
         have_numbers(&rules);
         let index = ParameterIndex::new(alloc, &rules)?;
@@ -146,8 +147,11 @@ impl Store {
     /// `NotRising` where its position is not past that of the last fed one. A refused transaction is dropped.
     pub fn feed(&mut self, _alloc: Global, transaction: Transaction) -> Result<(), FeedFault>
         requires position { transaction.position.0 ≤ greatest }
-        requires stands { (fixed : FixedSeen) × (history : List EventSeen) × StoreStandsFor fixed self.old history }
-        ensures { (fixed : FixedSeen) (history : List EventSeen) → StoreStandsFor fixed self.old history → Feeds fixed history transaction self.new result }
+        requires stands { (fixed : FixedSeen) × (history : List EventSeen)
+            × StoreStandsFor fixed self.old history }
+        ensures { (fixed : FixedSeen) (history : List EventSeen)
+            → StoreStandsFor fixed self.old history
+            → Feeds fixed history transaction self.new result }
     {
         if self.closed {
             return Err(FeedFault::FeedClosed);
@@ -169,8 +173,11 @@ impl Store {
     /// `PositionFull` where the head is at the limit of positions or past it. No table is empty. Refused changes are dropped.
     pub fn upload(&mut self, alloc: Global, changes: Items<Change>) -> Result<Position, FeedFault>
         requires tables { All (λ (change : ChangeSeen). 0 < length change.table) changes }
-        requires stands { (fixed : FixedSeen) × (history : List EventSeen) × StoreStandsFor fixed self.old history }
-        ensures { (fixed : FixedSeen) (history : List EventSeen) → StoreStandsFor fixed self.old history → Uploads fixed history changes self.new result }
+        requires stands { (fixed : FixedSeen) × (history : List EventSeen)
+            × StoreStandsFor fixed self.old history }
+        ensures { (fixed : FixedSeen) (history : List EventSeen)
+            → StoreStandsFor fixed self.old history
+            → Uploads fixed history changes self.new result }
     {
         if self.closed {
             return Err(FeedFault::FeedClosed);
@@ -185,7 +192,9 @@ impl Store {
 
     /// Nothing more is fed from now on. Takes no memory.
     pub fn close_feed(&mut self)
-        ensures { (fixed : FixedSeen) (history : List EventSeen) → StoreStandsFor fixed self.old history → StoreStandsFor fixed self.new (history ++ Close ∷ []) }
+        ensures { (fixed : FixedSeen) (history : List EventSeen)
+            → StoreStandsFor fixed self.old history
+            → StoreStandsFor fixed self.new (history ++ Close ∷ []) }
     {
         self.closed = true;
     }
@@ -202,7 +211,8 @@ impl Store {
 
     // How many of the fed transactions are reached.
     pub(crate) fn reached_count(&self) -> u64
-        ensures { result ≡ self.now.totals.transactions - length (reached self.now.tail.reach).left }
+        ensures { result ≡ self.now.totals.transactions - length
+            (reached self.now.tail.reach).left }
     {
         self.totals
             .transactions
@@ -213,12 +223,16 @@ impl Store {
     // the mark of the generation in force. Nothing that is held changes, also where it is out of memory.
     fn grow(&mut self, alloc: Global, plan: &mut Plan) -> Result<Vec<Waiting>, Memory>
         ensures same { IsSame self.old self.new }
-        ensures plan { OnOk result (IsMarked self.old.generations.mark self.old.last.0 self.old.wrote.0 plan.old plan.new) }
+        ensures plan { OnOk result (IsMarked self.old.generations.mark self.old.last.0
+            self.old.wrote.0 plan.old plan.new) }
         ensures room { OnOk result (HasRoom self.new.logs plan.new.entered.items) }
         ensures notes { OnOk result (length plan.new.made.items ≤ self.new.index.spare) }
-        ensures places { OnOk result (HasPlaces self.new.rows (take (length plan.new.made.items) self.old.tail.changes.items)) }
-        ensures copies { IfOk result (λ copies. IsCopyOf self.new.generations.building (take (length plan.new.made.items) self.old.tail.changes.items) copies.items) }
-        ensures queue { IfOk result (λ copies. FitsQueue self.new.generations.building copies.items) }
+        ensures places { OnOk result (HasPlaces self.new.rows
+            (take (length plan.new.made.items) self.old.tail.changes.items)) }
+        ensures copies { IfOk result (λ copies. IsCopyOf self.new.generations.building
+            (take (length plan.new.made.items) self.old.tail.changes.items) copies.items) }
+        ensures queue { IfOk result (λ copies.
+            FitsQueue self.new.generations.building copies.items) }
     {
         let entered = mem::replace(&mut plan.entered, Vec::new(alloc));
         plan.entered = mark_buckets(alloc, &self.generations.mark, entered)?;
@@ -244,12 +258,15 @@ impl Store {
         requires newer { Continue (log_at self.old.logs) plan.entered.items }
         requires tied { Tied self.old.tail.changes.items (reached self.old.tail.reach) }
         requires count { length plan.made.items ≤ length self.old.tail.changes.items }
-        requires places { HasPlaces self.old.rows (take (length plan.made.items) self.old.tail.changes.items) }
-        requires rows_are { AreRowsOf self.old.index.rules.definitions plan.made.items self.old.tail.changes.items }
+        requires places { HasPlaces self.old.rows
+            (take (length plan.made.items) self.old.tail.changes.items) }
+        requires rows_are { AreRowsOf self.old.index.rules.definitions plan.made.items
+            self.old.tail.changes.items }
         requires notes { length plan.made.items ≤ self.old.index.spare }
         requires rise { NotFalling self.old.index.last self.old.tail.changes.items }
         requires rising { AreRising (log_at self.old.logs) }
-        requires counts { HaveRoom self.old.totals (length plan.made.items) (length plan.entered.items) }
+        requires counts { HaveRoom self.old.totals (length plan.made.items)
+            (length plan.entered.items) }
         requires queue { FitsQueue self.old.generations.building copies.items }
         ensures { IsFilled self.old plan copies.items self.new }
     {
@@ -304,8 +321,10 @@ impl Store {
     pub fn write_batch(&mut self, alloc: Global, limit: u32) -> Result<Wrote, WriteFault>
         requires some { 1 ≤ limit }
         requires limit { limit ≤ 1000000 }
-        requires stands { (fixed : FixedSeen) × (history : List EventSeen) × StoreStandsFor fixed self.old history }
-        ensures { (fixed : FixedSeen) (history : List EventSeen) → StoreStandsFor fixed self.old history → Writes fixed history limit self.new result }
+        requires stands { (fixed : FixedSeen) × (history : List EventSeen)
+            × StoreStandsFor fixed self.old history }
+        ensures { (fixed : FixedSeen) (history : List EventSeen)
+            → StoreStandsFor fixed self.old history → Writes fixed history limit self.new result }
     {
         if self.tail.changes.is_empty() {
             return Err(WriteFault::NothingToWrite);
@@ -344,7 +363,8 @@ impl Store {
     /// Makes what is reached the checkpoint: the position of the last transaction of which, and of all before which, every
     /// change is written. `NothingToCommit` exactly where it is the checkpoint's already. Takes no memory.
     pub fn commit(&mut self) -> Result<Checkpoint, NothingToCommit>
-        ensures { (fixed : FixedSeen) (history : List EventSeen) → StoreStandsFor fixed self.old history → Commits fixed history self.new result }
+        ensures { (fixed : FixedSeen) (history : List EventSeen)
+            → StoreStandsFor fixed self.old history → Commits fixed history self.new result }
     {
         let position = self.tail.reach.position();
         if position.0 == self.checkpoint.position.0 {
@@ -362,7 +382,9 @@ impl Store {
     /// Compacts the log of a bucket at the checkpoint's op. `NoBucket` exactly where it is no bucket of the generation in force
     /// that ever had an operation, before any memory is taken. After an error the store stands for the same history.
     pub fn compact(&mut self, alloc: Global, bucket: &Text) -> Result<Report, CompactFault>
-        ensures { (fixed : FixedSeen) (history : List EventSeen) → StoreStandsFor fixed self.old history → Compacts fixed history bucket.now self.new result }
+        ensures { (fixed : FixedSeen) (history : List EventSeen)
+            → StoreStandsFor fixed self.old history
+            → Compacts fixed history bucket.now self.new result }
     {
         if self.logs.count_upto(bucket, self.last) == 0 {
             return Err(CompactFault::NoBucket);
@@ -376,7 +398,9 @@ impl Store {
 
     // The greatest number of a write checkpoint of the asker's client that the checkpoint covers.
     fn covered(&self, asker: &Asker) -> Option<u64>
-        ensures { (fixed : FixedSeen) (history : List EventSeen) → StoreStandsFor fixed self.now history → result ≡ covered_of (ledger_of fixed.rules history) asker.now }
+        ensures { (fixed : FixedSeen) (history : List EventSeen)
+            → StoreStandsFor fixed self.now history
+            → result ≡ covered_of (ledger_of fixed.rules history) asker.now }
     {
         match &asker.client {
             Some(client) => {
@@ -398,9 +422,12 @@ impl Store {
         asker: &Asker,
         steps: &mut Steps<L>,
     ) -> Result<Taken, TakeFault>
-        requires { (fixed : FixedSeen) × (history : List EventSeen) × StoreStandsFor fixed self.now history }
-        ensures takes { (fixed : FixedSeen) (history : List EventSeen) → StoreStandsFor fixed self.now history → Takes fixed history asker.now result }
-        ensures cost { (fixed : FixedSeen) (history : List EventSeen) → StoreStandsFor fixed self.now history
+        requires { (fixed : FixedSeen) × (history : List EventSeen)
+            × StoreStandsFor fixed self.now history }
+        ensures takes { (fixed : FixedSeen) (history : List EventSeen)
+            → StoreStandsFor fixed self.now history → Takes fixed history asker.now result }
+        ensures cost { (fixed : FixedSeen) (history : List EventSeen)
+            → StoreStandsFor fixed self.now history
             → TakesFew (ledger_of fixed.rules history) asker.now steps.old steps.new }
     {
         notes_of_changes_are_the_source();
@@ -438,9 +465,12 @@ impl Store {
         upto: OpId,
         steps: &mut Steps<L>,
     ) -> Result<Batch, Memory>
-        ensures value { (fixed : FixedSeen) (history : List EventSeen) → StoreStandsFor fixed self.now history
-            → IfOk result (λ batch. batch ≡ batch_of (ledger_of fixed.rules history) bucket.now after.0 upto.0) }
-        ensures cost { (fixed : FixedSeen) (history : List EventSeen) → StoreStandsFor fixed self.now history
+        ensures value { (fixed : FixedSeen) (history : List EventSeen)
+            → StoreStandsFor fixed self.now history
+            → IfOk result (λ batch.
+            batch ≡ batch_of (ledger_of fixed.rules history) bucket.now after.0 upto.0) }
+        ensures cost { (fixed : FixedSeen) (history : List EventSeen)
+            → StoreStandsFor fixed self.now history
             → ReadsFew (ledger_of fixed.rules history) bucket.now result steps.old steps.new }
     {
         match self.generations.ending(alloc, bucket)? {
@@ -457,44 +487,59 @@ impl Store {
         user: &Text,
         client: &Text,
     ) -> Result<u64, NumberFault>
-        requires { (fixed : FixedSeen) × (history : List EventSeen) × StoreStandsFor fixed self.old history }
-        ensures { (fixed : FixedSeen) (history : List EventSeen) → StoreStandsFor fixed self.old history → MakesNumber fixed history user.now client.now self.new result }
+        requires { (fixed : FixedSeen) × (history : List EventSeen)
+            × StoreStandsFor fixed self.old history }
+        ensures { (fixed : FixedSeen) (history : List EventSeen)
+            → StoreStandsFor fixed self.old history
+            → MakesNumber fixed history user.now client.now self.new result }
     {
         self.numbers.make(alloc, user, client, self.head)
     }
 
     /// The checkpoint.
     pub fn checkpoint(&self) -> Checkpoint
-        ensures position { (fixed : FixedSeen) (history : List EventSeen) → StoreStandsFor fixed self.now history → result.position.0 ≡ (ledger_of fixed.rules history).position }
-        ensures op { (fixed : FixedSeen) (history : List EventSeen) → StoreStandsFor fixed self.now history → result.op.0 ≡ (ledger_of fixed.rules history).op }
+        ensures position { (fixed : FixedSeen) (history : List EventSeen)
+            → StoreStandsFor fixed self.now history
+            → result.position.0 ≡ (ledger_of fixed.rules history).position }
+        ensures op { (fixed : FixedSeen) (history : List EventSeen)
+            → StoreStandsFor fixed self.now history
+            → result.op.0 ≡ (ledger_of fixed.rules history).op }
     {
         self.checkpoint
     }
 
     /// The position of the last fed transaction, 0 where none.
     pub fn head(&self) -> Position
-        ensures { (fixed : FixedSeen) (history : List EventSeen) → StoreStandsFor fixed self.now history → result.0 ≡ head_of (ledger_of fixed.rules history).fed }
+        ensures { (fixed : FixedSeen) (history : List EventSeen)
+            → StoreStandsFor fixed self.now history
+            → result.0 ≡ head_of (ledger_of fixed.rules history).fed }
     {
         self.head
     }
 
     /// Whether nothing more is fed.
     pub fn closed(&self) -> bool
-        ensures { (fixed : FixedSeen) (history : List EventSeen) → StoreStandsFor fixed self.now history → result ≡ (ledger_of fixed.rules history).closed }
+        ensures { (fixed : FixedSeen) (history : List EventSeen)
+            → StoreStandsFor fixed self.now history
+            → result ≡ (ledger_of fixed.rules history).closed }
     {
         self.closed
     }
 
     /// What was fed and written, and all operations that were ever made. Compaction changes nothing of it.
     pub fn totals(&self) -> Totals
-        ensures { (fixed : FixedSeen) (history : List EventSeen) → StoreStandsFor fixed self.now history → result ≡ totals_of (ledger_of fixed.rules history) }
+        ensures { (fixed : FixedSeen) (history : List EventSeen)
+            → StoreStandsFor fixed self.now history
+            → result ≡ totals_of (ledger_of fixed.rules history) }
     {
         self.totals
     }
 
     /// The names of the buckets of the generation in force that ever had an operation, in byte order.
     pub fn bucket_names(&self, alloc: Global) -> Result<Items<Text>, Memory>
-        ensures { IfOk result (λ names. (fixed : FixedSeen) (history : List EventSeen) → StoreStandsFor fixed self.now history → names ≡ bucket_names_of (ledger_of fixed.rules history)) }
+        ensures { IfOk result (λ names. (fixed : FixedSeen) (history : List EventSeen)
+            → StoreStandsFor fixed self.now history
+            → names ≡ bucket_names_of (ledger_of fixed.rules history)) }
     {
         let names = self.logs.names(alloc, self.last)?;
         Ok(names)
@@ -502,7 +547,9 @@ impl Store {
 
     /// How many operations the log of a bucket has now, 0 where there is none and where the bucket's generation ended.
     pub fn log_length(&self, bucket: &Text) -> u64
-        ensures { (fixed : FixedSeen) (history : List EventSeen) → StoreStandsFor fixed self.now history → result ≡ log_length_of (ledger_of fixed.rules history) bucket.now }
+        ensures { (fixed : FixedSeen) (history : List EventSeen)
+            → StoreStandsFor fixed self.now history
+            → result ≡ log_length_of (ledger_of fixed.rules history) bucket.now }
     {
         self.logs_of(bucket).count_upto(bucket, self.last)
     }
@@ -510,7 +557,8 @@ impl Store {
     // The logs among which a bucket's would be: those of the generation that is being built, where its mark is in front of the
     // name, else those of the one in force.
     fn logs_of(&self, bucket: &Text) -> &Logs
-        ensures { (fixed : FixedSeen) (history : List EventSeen) → StoreStandsFor fixed self.now history
+        ensures { (fixed : FixedSeen) (history : List EventSeen)
+            → StoreStandsFor fixed self.now history
             → log_at result.now bucket.now ≡ log_of (ledger_of fixed.rules history) bucket.now }
     {
         match &self.generations.building {
@@ -528,7 +576,8 @@ impl Store {
 
 // What is read up to an id of a bucket whose generation ended.
 fn ended_batch(alloc: Global, ending: Ending, upto: OpId) -> Batch
-    ensures { (log : List OpSeen) (after : ℕ) → result ≡ batch_in (Some (ending_from ending)) log after upto.0 }
+    ensures { (log : List OpSeen) (after : ℕ)
+        → result ≡ batch_in (Some (ending_from ending)) log after upto.0 }
 {
     match ending {
         Ending::Switched(id) => {

@@ -30,7 +30,8 @@ impl Tail {
     /// Nothing is fed. Takes no memory.
     pub(crate) fn new(alloc: Global) -> Tail
         ensures changes { result.changes.items ≡ [] }
-        ensures reach { reached result.reach ≡ record { position = 0; op = 0; over = 0; left = [] } }
+        ensures reach { reached result.reach
+            ≡ record { position = 0; op = 0; over = 0; left = [] } }
     {
         Tail {
             changes: VecDeque::new(alloc),
@@ -54,7 +55,10 @@ impl Tail {
         requires room { length transaction.changes ≤ feed_room self.old }
         requires end { 1 ≤ end_room self.old.reach }
         ensures changes { self.new.changes.items ≡ self.old.changes.items ++ timed_of transaction }
-        ensures reach { reached self.new.reach ≡ settled last.0 (record (reached self.old.reach) { left = (reached self.old.reach).left ++ end_of transaction ∷ [] }) }
+        ensures reach { reached self.new.reach
+            ≡ settled last.0
+            (record (reached self.old.reach) { left = (reached self.old.reach).left
+            ++ end_of transaction ∷ [] }) }
     {
         let Transaction { position, changes } = transaction;
         let end = End {
@@ -68,7 +72,8 @@ impl Tail {
     // Puts changes behind those that are there, each with its place in its transaction.
     fn push_all(&mut self, position: Position, changes: Items<Change>)
         requires { length changes ≤ feed_room self.old }
-        ensures changes { self.new.changes.items ≡ self.old.changes.items ++ timed_from position.0 0 changes }
+        ensures changes { self.new.changes.items
+            ≡ self.old.changes.items ++ timed_from position.0 0 changes }
         ensures reach { self.new.reach ≡ self.old.reach }
     {
         let _count = changes.len();
@@ -85,7 +90,9 @@ impl Tail {
         requires some { 0 < length self.old.changes.items }
         requires tied { Tied self.old.changes.items (reached self.old.reach) }
         ensures change { self.old.changes.items ≡ result ∷ self.new.changes.items }
-        ensures reach { reached self.new.reach ≡ settled last.0 (record (reached self.old.reach) { over = (reached self.old.reach).over + 1 }) }
+        ensures reach { reached self.new.reach
+            ≡ settled last.0
+            (record (reached self.old.reach) { over = (reached self.old.reach).over + 1 }) }
         ensures tied { Tied self.new.changes.items (reached self.new.reach) }
     {
         self.reach.wrote_one(last);
@@ -98,7 +105,8 @@ impl Tail {
 
 // A row with its moment, if there is one.
 fn live(position: Position, index: u64, row: Option<Row>) -> Option<Live>
-    ensures { result ≡ option_map (λ columns. record { columns = columns; position = position.0; index = index }) row }
+    ensures { result ≡ option_map (λ columns.
+        record { columns = columns; position = position.0; index = index }) row }
 {
     match row {
         Some(row) => Some(Live::new(row, position, index)),
@@ -115,13 +123,17 @@ pub(crate) fn advance(tail: &mut Tail, rows: &mut Rows, index: &mut ParameterInd
     requires room { length made.items ≤ index.old.spare }
     requires rise { NotFalling index.old.last tail.old.changes.items }
     ensures changes { tail.new.changes.items ≡ drop (length made.items) tail.old.changes.items }
-    ensures rows { (key : Key) → row_at rows.new key ≡ rows_after (row_at rows.old) (take (length made.items) tail.old.changes.items) key }
+    ensures rows { (key : Key) → row_at rows.new key
+        ≡ rows_after (row_at rows.old) (take (length made.items) tail.old.changes.items) key }
     ensures reach { reached tail.new.reach ≡ reach_after (reached tail.old.reach) (ids made.items) }
     ensures tied { Tied tail.new.changes.items (reached tail.new.reach) }
     ensures index_rules { index.new.rules ≡ index.old.rules }
     ensures index_forgotten { index.new.forgotten ≡ index.old.forgotten }
-    ensures index_notes { index.new.notes ≡ notes_after index.old.rules.definitions index.old.notes (take (length made.items) tail.old.changes.items) }
-    ensures index_ascend { (head : ℕ) → Ascend index.old.last tail.old.changes.items head → Ascend index.new.last tail.new.changes.items head }
+    ensures index_notes { index.new.notes
+        ≡ notes_after index.old.rules.definitions index.old.notes
+        (take (length made.items) tail.old.changes.items) }
+    ensures index_ascend { (head : ℕ) → Ascend index.old.last tail.old.changes.items head
+        → Ascend index.new.last tail.new.changes.items head }
 {
     'steps: for one in made {
         let Made { last, row } = one;
@@ -154,11 +166,16 @@ pub(crate) fn take_front(
     requires room { length made.items ≤ index.old.spare }
     requires rise { NotFalling index.old.last queue.old.items }
     ensures changes { queue.new.items ≡ drop (length made.items) queue.old.items }
-    ensures rows { (key : Key) → row_at rows.new key ≡ rows_after (row_at rows.old) (take (length made.items) queue.old.items) key }
+    ensures rows { (key : Key) → row_at rows.new key
+        ≡ rows_after (row_at rows.old) (take (length made.items) queue.old.items) key }
     ensures index_rules { index.new.rules ≡ index.old.rules }
     ensures index_forgotten { index.new.forgotten ≡ index.old.forgotten }
-    ensures index_notes { index.new.notes ≡ notes_after index.old.rules.definitions index.old.notes (take (length made.items) queue.old.items) }
-    ensures index_ascend { (rest : List Timed) (head : ℕ) → Ascend index.old.last (queue.old.items ++ rest) head → Ascend index.new.last (queue.new.items ++ rest) head }
+    ensures index_notes { index.new.notes
+        ≡ notes_after index.old.rules.definitions index.old.notes
+        (take (length made.items) queue.old.items) }
+    ensures index_ascend { (rest : List Timed) (head : ℕ)
+        → Ascend index.old.last (queue.old.items ++ rest) head
+        → Ascend index.new.last (queue.new.items ++ rest) head }
 {
     'steps: for one in made {
         let Made { last: _, row } = one;
@@ -183,7 +200,8 @@ pub(crate) fn advance_one(
     ensures index_rules { index.new.rules ≡ index.old.rules }
     ensures index_last { index.new.last ≡ waiting.position }
     ensures index_forgotten { index.new.forgotten ≡ index.old.forgotten }
-    ensures index_notes { index.new.notes ≡ with_note index.old.rules.definitions index.old.notes (noted waiting) }
+    ensures index_notes { index.new.notes
+        ≡ with_note index.old.rules.definitions index.old.notes (noted waiting) }
     ensures index_room { index.old.spare ≤ index.new.spare + 1 }
 {
     let position = waiting.position();

@@ -26,8 +26,10 @@ impl Store {
         requires name { blank.name ≡ L.name }
         requires parts { blank.parts ≡ L.parts }
         requires some { 0 < blank.parts }
-        requires stands { (fixed : FixedSeen) × (history : List EventSeen) × StoreStandsFor fixed self.now history }
-        ensures { (fixed : FixedSeen) (history : List EventSeen) → StoreStandsFor fixed self.now history → Takes fixed history asker.now result }
+        requires stands { (fixed : FixedSeen) × (history : List EventSeen)
+            × StoreStandsFor fixed self.now history }
+        ensures { (fixed : FixedSeen) (history : List EventSeen)
+            → StoreStandsFor fixed self.now history → Takes fixed history asker.now result }
     {
         let mut steps = Steps::<L>::new(blank);
         self.take(alloc, asker, &mut steps)
@@ -44,8 +46,10 @@ impl Store {
         requires name { blank.name ≡ L.name }
         requires parts { blank.parts ≡ L.parts }
         requires some { 0 < blank.parts }
-        ensures { (fixed : FixedSeen) (history : List EventSeen) → StoreStandsFor fixed self.now history
-            → IfOk result (λ batch. batch ≡ batch_of (ledger_of fixed.rules history) bucket.now after.0 upto.0) }
+        ensures { (fixed : FixedSeen) (history : List EventSeen)
+            → StoreStandsFor fixed self.now history
+            → IfOk result (λ batch.
+            batch ≡ batch_of (ledger_of fixed.rules history) bucket.now after.0 upto.0) }
     {
         let mut steps = Steps::<L>::new(blank);
         self.read_batch(alloc, bucket, after, upto, &mut steps)
@@ -53,8 +57,10 @@ impl Store {
 
     /// `Store::take`, with steps that nobody counts.
     pub fn take_uncounted(&self, alloc: Global, asker: &Asker) -> Result<Taken, TakeFault>
-        requires { (fixed : FixedSeen) × (history : List EventSeen) × StoreStandsFor fixed self.now history }
-        ensures { (fixed : FixedSeen) (history : List EventSeen) → StoreStandsFor fixed self.now history → Takes fixed history asker.now result }
+        requires { (fixed : FixedSeen) × (history : List EventSeen)
+            × StoreStandsFor fixed self.now history }
+        ensures { (fixed : FixedSeen) (history : List EventSeen)
+            → StoreStandsFor fixed self.now history → Takes fixed history asker.now result }
     {
         self.take_in::<Brand>(alloc, asker, Blank::new(1))
     }
@@ -67,8 +73,10 @@ impl Store {
         after: OpId,
         upto: OpId,
     ) -> Result<Batch, Memory>
-        ensures { (fixed : FixedSeen) (history : List EventSeen) → StoreStandsFor fixed self.now history
-            → IfOk result (λ batch. batch ≡ batch_of (ledger_of fixed.rules history) bucket.now after.0 upto.0) }
+        ensures { (fixed : FixedSeen) (history : List EventSeen)
+            → StoreStandsFor fixed self.now history
+            → IfOk result (λ batch.
+            batch ≡ batch_of (ledger_of fixed.rules history) bucket.now after.0 upto.0) }
     {
         self.read_in::<Brand>(alloc, bucket, after, upto, Blank::new(1))
     }

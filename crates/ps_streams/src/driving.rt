@@ -26,11 +26,16 @@ fn take<R: Readings>(
     session: &mut Session,
 ) -> Result<TurnOutcome, TakeFault>
     requires action { IsTaking (next_action (state_of session.old)) }
-    requires here { (fixed : FixedSeen) × (history : List EventSeen) × (at : ℕ) × R.stands readings.old fixed history
-        × IsUnderWay (course_of fixed.rules history session.old.asker) (length history) at (state_of session.old) }
-    ensures turns { (fixed : FixedSeen) (history : List EventSeen) (at : ℕ) → R.stands readings.old fixed history
-        → IsUnderWay (course_of fixed.rules history session.old.asker) (length history) at (state_of session.old)
-        → HasTurned (R.may_come readings.old) (R.stands readings.new fixed) fixed history session.old.asker at (state_of session.old) (state_of session.new) result }
+    requires here { (fixed : FixedSeen) × (history : List EventSeen) × (at : ℕ)
+        × R.stands readings.old fixed history
+        × IsUnderWay (course_of fixed.rules history session.old.asker) (length history) at
+        (state_of session.old) }
+    ensures turns { (fixed : FixedSeen) (history : List EventSeen) (at : ℕ)
+        → R.stands readings.old fixed history
+        → IsUnderWay (course_of fixed.rules history session.old.asker) (length history)
+        at (state_of session.old)
+        → HasTurned (R.may_come readings.old) (R.stands readings.new fixed) fixed history
+        session.old.asker at (state_of session.old) (state_of session.new) result }
     ensures writable { IfOk result IsWritableOutcome }
     ensures asker { session.new.asker ≡ session.old.asker }
 {
@@ -52,11 +57,16 @@ fn read<R: Readings>(
     upto: OpId,
 ) -> Result<TurnOutcome, TakeFault>
     requires action { next_action (state_of session.old) ≡ actions.Read place after upto }
-    requires here { (fixed : FixedSeen) × (history : List EventSeen) × (at : ℕ) × R.stands readings.old fixed history
-        × IsUnderWay (course_of fixed.rules history session.old.asker) (length history) at (state_of session.old) }
-    ensures turns { (fixed : FixedSeen) (history : List EventSeen) (at : ℕ) → R.stands readings.old fixed history
-        → IsUnderWay (course_of fixed.rules history session.old.asker) (length history) at (state_of session.old)
-        → HasTurned (R.may_come readings.old) (R.stands readings.new fixed) fixed history session.old.asker at (state_of session.old) (state_of session.new) result }
+    requires here { (fixed : FixedSeen) × (history : List EventSeen) × (at : ℕ)
+        × R.stands readings.old fixed history
+        × IsUnderWay (course_of fixed.rules history session.old.asker) (length history) at
+        (state_of session.old) }
+    ensures turns { (fixed : FixedSeen) (history : List EventSeen) (at : ℕ)
+        → R.stands readings.old fixed history
+        → IsUnderWay (course_of fixed.rules history session.old.asker) (length history)
+        at (state_of session.old)
+        → HasTurned (R.may_come readings.old) (R.stands readings.new fixed) fixed history
+        session.old.asker at (state_of session.old) (state_of session.new) result }
     ensures writable { IfOk result IsWritableOutcome }
     ensures asker { session.new.asker ≡ session.old.asker }
 {
@@ -72,11 +82,15 @@ fn read<R: Readings>(
 // Tells that all of the checkpoint is sent.
 fn finish(session: &mut Session) -> TurnOutcome
     requires action { next_action (state_of session.old) ≡ actions.Complete }
-    requires here { (fixed : FixedSeen) × (history : List EventSeen) × (at : ℕ) × IsValid fixed history
-        × IsUnderWay (course_of fixed.rules history session.old.asker) (length history) at (state_of session.old) }
+    requires here { (fixed : FixedSeen) × (history : List EventSeen)
+        × (at : ℕ) × IsValid fixed history
+        × IsUnderWay (course_of fixed.rules history session.old.asker) (length history) at
+        (state_of session.old) }
     ensures turns { (fixed : FixedSeen) (history : List EventSeen) (at : ℕ) → IsValid fixed history
-        → IsUnderWay (course_of fixed.rules history session.old.asker) (length history) at (state_of session.old)
-        → IsTurn fixed history session.old.asker at (state_of session.old) (state_of session.new) result }
+        → IsUnderWay (course_of fixed.rules history session.old.asker) (length history)
+        at (state_of session.old)
+        → IsTurn fixed history session.old.asker at (state_of session.old)
+        (state_of session.new) result }
     ensures writable { IsWritableOutcome result }
     ensures asker { session.new.asker ≡ session.old.asker }
 {
@@ -94,11 +108,16 @@ pub fn take_turn<R: Readings>(
     readings: &mut R,
     session: &mut Session,
 ) -> Result<TurnOutcome, TakeFault>
-    requires { (fixed : FixedSeen) × (history : List EventSeen) × (at : ℕ) × R.stands readings.old fixed history
-        × IsUnderWay (course_of fixed.rules history session.old.asker) (length history) at (state_of session.old) }
-    ensures turns { (fixed : FixedSeen) (history : List EventSeen) (at : ℕ) → R.stands readings.old fixed history
-        → IsUnderWay (course_of fixed.rules history session.old.asker) (length history) at (state_of session.old)
-        → HasTurned (R.may_come readings.old) (R.stands readings.new fixed) fixed history session.old.asker at (state_of session.old) (state_of session.new) result }
+    requires { (fixed : FixedSeen) × (history : List EventSeen) × (at : ℕ)
+        × R.stands readings.old fixed history
+        × IsUnderWay (course_of fixed.rules history session.old.asker) (length history) at
+        (state_of session.old) }
+    ensures turns { (fixed : FixedSeen) (history : List EventSeen) (at : ℕ)
+        → R.stands readings.old fixed history
+        → IsUnderWay (course_of fixed.rules history session.old.asker) (length history)
+        at (state_of session.old)
+        → HasTurned (R.may_come readings.old) (R.stands readings.new fixed) fixed history
+        session.old.asker at (state_of session.old) (state_of session.new) result }
     ensures writable { IfOk result IsWritableOutcome }
     ensures asker { session.new.asker ≡ session.old.asker }
 {
@@ -115,11 +134,16 @@ pub fn take_turn_of(
     store: &Store,
     session: &mut Session,
 ) -> Result<TurnOutcome, TakeFault>
-    requires { (fixed : FixedSeen) × (history : List EventSeen) × (at : ℕ) × StoreStandsFor fixed store.now history
-        × IsUnderWay (course_of fixed.rules history session.old.asker) (length history) at (state_of session.old) }
-    ensures turns { (fixed : FixedSeen) (history : List EventSeen) (at : ℕ) → StoreStandsFor fixed store.now history
-        → IsUnderWay (course_of fixed.rules history session.old.asker) (length history) at (state_of session.old)
-        → TurnsSo fixed history session.old.asker at (state_of session.old) (state_of session.new) result }
+    requires { (fixed : FixedSeen) × (history : List EventSeen) × (at : ℕ)
+        × StoreStandsFor fixed store.now history
+        × IsUnderWay (course_of fixed.rules history session.old.asker) (length history) at
+        (state_of session.old) }
+    ensures turns { (fixed : FixedSeen) (history : List EventSeen) (at : ℕ)
+        → StoreStandsFor fixed store.now history
+        → IsUnderWay (course_of fixed.rules history session.old.asker) (length history)
+        at (state_of session.old)
+        → TurnsSo fixed history session.old.asker at (state_of session.old)
+        (state_of session.new) result }
     ensures writable { IfOk result IsWritableOutcome }
     ensures asker { session.new.asker ≡ session.old.asker }
 {

@@ -25,9 +25,12 @@ pub trait Readings {
     /// The checkpoint as it is for an asker. `TooManyBuckets` exactly where the asker has more buckets than the limit; else it may be
     /// out of memory.
     fn take(&mut self, alloc: Global, asker: &Asker) -> Result<Taken, TakeFault>
-        requires { (fixed : FixedSeen) × (history : List EventSeen) × stands self.old fixed history }
+        requires { (fixed : FixedSeen) × (history : List EventSeen)
+            × stands self.old fixed history }
         ensures { (fixed : FixedSeen) (history : List EventSeen) → stands self.old fixed history
-            → (more : List EventSeen) × may_come self.old more × stands self.new fixed (history ++ more) × Takes fixed (history ++ more) asker.now result };
+            → (more : List EventSeen) × may_come self.old more
+            × stands self.new fixed (history ++ more)
+            × Takes fixed (history ++ more) asker.now result };
 
     /// The next operations of a bucket with ids past `after` and up to `upto`, as many as one batch may have; an empty batch
     /// for a bucket that is not there.
@@ -38,10 +41,13 @@ pub trait Readings {
         after: OpId,
         upto: OpId,
     ) -> Result<Batch, Memory>
-        requires { (fixed : FixedSeen) × (history : List EventSeen) × stands self.old fixed history }
+        requires { (fixed : FixedSeen) × (history : List EventSeen)
+            × stands self.old fixed history }
         ensures { (fixed : FixedSeen) (history : List EventSeen) → stands self.old fixed history
-            → (more : List EventSeen) × may_come self.old more × stands self.new fixed (history ++ more)
-            × IfOk result (λ batch. batch ≡ batch_of (ledger_of fixed.rules (history ++ more)) bucket.now after.0 upto.0) };
+            → (more : List EventSeen) × may_come self.old more
+            × stands self.new fixed (history ++ more)
+            × IfOk result (λ batch.
+            batch ≡ batch_of (ledger_of fixed.rules (history ++ more)) bucket.now after.0 upto.0) };
 
     /// Its rules are valid, and its history is legal.
     ghost valid: { (readings : Self) (fixed : FixedSeen) (history : List EventSeen) → stands readings fixed history → IsValid fixed history };

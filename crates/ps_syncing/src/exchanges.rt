@@ -27,7 +27,8 @@ pub(crate) struct Begun {
 
 // Takes the head of an answer, whose status is 200.
 fn take_head<S: Source>(alloc: Global, from: &mut S) -> Result<Begun, SyncFault>
-    ensures begins { (request : List ℕ) → Begins (S.input from.old) (S.input from.new) request result }
+    ensures begins { (request : List ℕ)
+        → Begins (S.input from.old) (S.input from.new) request result }
     ensures told { is_some (S.input from.new) ≡ is_some (S.input from.old) }
     ensures failed { result ≡ Err SyncFault.ConnectionFailed → 0 < S.faults from.new }
 {
@@ -56,9 +57,11 @@ pub(crate) fn begin<S: Source, K: Sink>(
     request: &[u8],
 ) -> Result<Begun, SyncFault>
     ensures begins { Begins (S.input from.old) (S.input from.new) request.now result }
-    ensures took { result ≢ Err SyncFault.ConnectionFailed → Gains (K.taken to.old) (K.taken to.new) request.now }
+    ensures took { result ≢ Err SyncFault.ConnectionFailed
+        → Gains (K.taken to.old) (K.taken to.new) request.now }
     ensures told { is_some (S.input from.new) ≡ is_some (S.input from.old) }
-    ensures failed { result ≡ Err SyncFault.ConnectionFailed → 0 < S.faults from.new + K.faults to.new }
+    ensures failed { result ≡ Err SyncFault.ConnectionFailed
+        → 0 < S.faults from.new + K.faults to.new }
 {
     match to.write(request) {
         Ok(()) => take_head(alloc, from),
@@ -68,7 +71,8 @@ pub(crate) fn begin<S: Source, K: Sink>(
 
 // Takes the body of an answer.
 fn take_body<S: Source>(from: &mut S, begun: Begun) -> Result<Reader, SyncFault>
-    ensures answers { (old : Option Input) (request : List ℕ) → HasBegun old (S.input from.old) begun
+    ensures answers { (old : Option Input) (request : List ℕ)
+        → HasBegun old (S.input from.old) begun
         → Answers (Sees old (S.input from.new) request) result }
     ensures told { is_some (S.input from.new) ≡ is_some (S.input from.old) }
     ensures failed { result ≡ Err SyncFault.ConnectionFailed → 0 < S.faults from.new }
@@ -93,9 +97,11 @@ fn take_answer<S: Source, K: Sink>(
     request: &[u8],
 ) -> Result<Reader, SyncFault>
     ensures answers { Answers (Sees (S.input from.old) (S.input from.new) request.now) result }
-    ensures took { result ≢ Err SyncFault.ConnectionFailed → Gains (K.taken to.old) (K.taken to.new) request.now }
+    ensures took { result ≢ Err SyncFault.ConnectionFailed
+        → Gains (K.taken to.old) (K.taken to.new) request.now }
     ensures told { is_some (S.input from.new) ≡ is_some (S.input from.old) }
-    ensures failed { result ≡ Err SyncFault.ConnectionFailed → 0 < S.faults from.new + K.faults to.new }
+    ensures failed { result ≡ Err SyncFault.ConnectionFailed
+        → 0 < S.faults from.new + K.faults to.new }
 {
     match begin(alloc, from, to, request) {
         Ok(begun) => take_body(from, begun),
@@ -112,9 +118,11 @@ pub fn ask<L: Link>(
     address: &Text,
     request: &[u8],
 ) -> Result<Reader, SyncFault>
-    ensures answers { Answers (ClosesOne (L.closed link.old) (L.closed link.new) request.now) result }
+    ensures answers { Answers (ClosesOne (L.closed link.old) (L.closed link.new) request.now)
+        result }
     ensures out { L.out link.new ≡ L.out link.old }
-    ensures failed { result ≡ Err SyncFault.ConnectionFailed → Rose (L.faults link.old) (L.faults link.new) }
+    ensures failed { result ≡ Err SyncFault.ConnectionFailed
+        → Rose (L.faults link.old) (L.faults link.new) }
     ensures faults { L.faults link.old ≤ L.faults link.new }
 {
     match link.connect(address) {

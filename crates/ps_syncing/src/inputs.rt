@@ -42,7 +42,8 @@ fn read_next(
     number: u64,
     changes: &mut Vec<Change>,
 ) -> Result<(), Refused>
-    ensures { AddsChange changes.old.items changes.new.items (numbered number (lone_change_of line.now)) result }
+    ensures { AddsChange changes.old.items changes.new.items
+        (numbered number (lone_change_of line.now)) result }
 {
     match read_numbered(alloc, line, number) {
         Ok(change) => match changes.push(change) {
@@ -61,7 +62,8 @@ fn read_next(
 pub fn read_uploads(alloc: Global, bytes: &[u8]) -> Result<Items<Change>, Refused>
     requires { length bytes.now < 2 ^ 63 }
     ensures read { ReadsAs result (changes_of bytes.now) }
-    ensures tables { IfOk result (λ changes. All (λ (change : ChangeSeen). change.table ≢ []) changes) }
+    ensures tables { IfOk result (λ changes.
+        All (λ (change : ChangeSeen). change.table ≢ []) changes) }
 {
     let mut changes = Vec::new(alloc);
     let mut number = 0u64;

@@ -39,9 +39,11 @@ fn upload<L: Link>(
     service: &Service,
     body: &[u8],
 ) -> Result<u64, SyncFault>
-    ensures numbers { Numbers (ClosesOne (L.closed link.old) (L.closed link.new) (requests.upload_text service.now.address service.now.token body.now)) position_in result }
+    ensures numbers { Numbers (ClosesOne (L.closed link.old) (L.closed link.new)
+        (requests.upload_text service.now.address service.now.token body.now)) position_in result }
     ensures out { L.out link.new ≡ L.out link.old }
-    ensures failed { result ≡ Err SyncFault.ConnectionFailed → Rose (L.faults link.old) (L.faults link.new) }
+    ensures failed { result ≡ Err SyncFault.ConnectionFailed
+        → Rose (L.faults link.old) (L.faults link.new) }
     ensures faults { L.faults link.old ≤ L.faults link.new }
 {
     let token = service.token.as_slice();
@@ -52,10 +54,12 @@ fn upload<L: Link>(
 
 // Asks for a write checkpoint, and gives the number that it is answered with.
 fn ask_number<L: Link>(alloc: Global, link: &mut L, service: &Service) -> Result<u64, SyncFault>
-    ensures numbers { Numbers (ClosesOne (L.closed link.old) (L.closed link.new) (number_of service.now)) checkpoint_in result }
+    ensures numbers { Numbers (ClosesOne (L.closed link.old) (L.closed link.new)
+        (number_of service.now)) checkpoint_in result }
     ensures within { IfOk result (λ number. number ≤ greatest) }
     ensures out { L.out link.new ≡ L.out link.old }
-    ensures failed { result ≡ Err SyncFault.ConnectionFailed → Rose (L.faults link.old) (L.faults link.new) }
+    ensures failed { result ≡ Err SyncFault.ConnectionFailed
+        → Rose (L.faults link.old) (L.faults link.new) }
     ensures faults { L.faults link.old ≤ L.faults link.new }
 {
     let token = service.token.as_slice();
@@ -71,15 +75,18 @@ fn upload_one<L: Link, P: Keeper>(
     service: &Service,
     client: &mut Client<P>,
 ) -> Result<bool, SyncFault>
-    ensures uploads { IfOk result (λ one. UploadsOne one service.now (state client.old) (state client.new) (L.closed link.old) (L.closed link.new)) }
+    ensures uploads { IfOk result (λ one. UploadsOne one service.now (state client.old)
+        (state client.new) (L.closed link.old) (L.closed link.new)) }
     ensures fails { IfErr result (FailsSo service.now (L.closed link.old) (L.closed link.new)) }
     ensures out { L.out link.new ≡ L.out link.old }
     ensures name { name_of client.new ≡ name_of client.old }
     ensures failed { result ≡ Err SyncFault.ConnectionFailed
-        → Rose (L.faults link.old) (L.faults link.new) ⊎ Rose (P.faults (keeper_of client.old)) (P.faults (keeper_of client.new)) }
+        → Rose (L.faults link.old) (L.faults link.new)
+        ⊎ Rose (P.faults (keeper_of client.old)) (P.faults (keeper_of client.new)) }
     ensures faults { L.faults link.old ≤ L.faults link.new }
     ensures kept { P.faults (keeper_of client.old) ≤ P.faults (keeper_of client.new) }
-    ensures quiet { OnOk result (P.faults (keeper_of client.new) ≡ P.faults (keeper_of client.old)) }
+    ensures quiet { OnOk result (P.faults (keeper_of client.new)
+        ≡ P.faults (keeper_of client.old)) }
 {
     let Some(body) = client.upload_next(alloc)? else {
         return Ok(false);
@@ -98,15 +105,18 @@ pub fn upload_all<L: Link, P: Keeper>(
     service: &Service,
     client: &mut Client<P>,
 ) -> Result<(), SyncFault>
-    ensures uploads { OnOk result (UploadsAll service.now (state client.old) (state client.new) (L.closed link.old) (L.closed link.new)) }
+    ensures uploads { OnOk result (UploadsAll service.now (state client.old) (state client.new)
+        (L.closed link.old) (L.closed link.new)) }
     ensures fails { IfErr result (FailsSo service.now (L.closed link.old) (L.closed link.new)) }
     ensures out { L.out link.new ≡ L.out link.old }
     ensures name { name_of client.new ≡ name_of client.old }
     ensures failed { result ≡ Err SyncFault.ConnectionFailed
-        → Rose (L.faults link.old) (L.faults link.new) ⊎ Rose (P.faults (keeper_of client.old)) (P.faults (keeper_of client.new)) }
+        → Rose (L.faults link.old) (L.faults link.new)
+        ⊎ Rose (P.faults (keeper_of client.old)) (P.faults (keeper_of client.new)) }
     ensures faults { L.faults link.old ≤ L.faults link.new }
     ensures kept { P.faults (keeper_of client.old) ≤ P.faults (keeper_of client.new) }
-    ensures quiet { OnOk result (P.faults (keeper_of client.new) ≡ P.faults (keeper_of client.old)) }
+    ensures quiet { OnOk result (P.faults (keeper_of client.new)
+        ≡ P.faults (keeper_of client.old)) }
 {
     'uploads: loop {
         match upload_one(alloc, link, service, client) {
@@ -125,15 +135,18 @@ pub fn aim<L: Link, P: Keeper>(
     client: &mut Client<P>,
 ) -> Result<(), SyncFault>
     requires { (state client.old).kept.queue ≡ [] }
-    ensures aims { OnOk result (AimsAt service.now (state client.old) (state client.new) (L.closed link.old) (L.closed link.new)) }
+    ensures aims { OnOk result (AimsAt service.now (state client.old) (state client.new)
+        (L.closed link.old) (L.closed link.new)) }
     ensures fails { IfErr result (FailsSo service.now (L.closed link.old) (L.closed link.new)) }
     ensures out { L.out link.new ≡ L.out link.old }
     ensures name { name_of client.new ≡ name_of client.old }
     ensures failed { result ≡ Err SyncFault.ConnectionFailed
-        → Rose (L.faults link.old) (L.faults link.new) ⊎ Rose (P.faults (keeper_of client.old)) (P.faults (keeper_of client.new)) }
+        → Rose (L.faults link.old) (L.faults link.new)
+        ⊎ Rose (P.faults (keeper_of client.old)) (P.faults (keeper_of client.new)) }
     ensures faults { L.faults link.old ≤ L.faults link.new }
     ensures kept { P.faults (keeper_of client.old) ≤ P.faults (keeper_of client.new) }
-    ensures quiet { OnOk result (P.faults (keeper_of client.new) ≡ P.faults (keeper_of client.old)) }
+    ensures quiet { OnOk result (P.faults (keeper_of client.new)
+        ≡ P.faults (keeper_of client.old)) }
 {
     if !client.pending() {
         return Ok(());

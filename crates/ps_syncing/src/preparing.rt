@@ -84,7 +84,8 @@ fn load_token<'a, F: Files>(
     files: &mut F,
     name: &'a Text,
 ) -> Result<Items<u8>, Stop<'a>>
-    ensures loads { LoadsToken (F.held files.old) name.now (F.faults files.old) (F.faults files.new) result }
+    ensures loads { LoadsToken (F.held files.old) name.now (F.faults files.old)
+        (F.faults files.new) result }
     ensures held { F.held files.new ≡ F.held files.old }
     ensures faults { F.faults files.old ≤ F.faults files.new }
 {
@@ -114,7 +115,8 @@ fn load_upload<'a, F: Files>(
     files: &mut F,
     name: &'a Text,
 ) -> Result<Items<Change>, Stop<'a>>
-    ensures loads { LoadsUpload (F.held files.old) name.now (F.faults files.old) (F.faults files.new) result }
+    ensures loads { LoadsUpload (F.held files.old) name.now (F.faults files.old)
+        (F.faults files.new) result }
     ensures tables { IfOk result (All (λ (change : ChangeSeen). change.table ≢ [])) }
     ensures held { F.held files.new ≡ F.held files.old }
     ensures faults { F.faults files.old ≤ F.faults files.new }
@@ -131,7 +133,8 @@ fn load_uploads<'a, F: Files>(
     files: &mut F,
     name: Option<&'a Text>,
 ) -> Result<Items<Change>, Stop<'a>>
-    ensures loads { LoadsUploads (F.held files.old) (option_map (λ text. text.now) name.entry) (F.faults files.old) (F.faults files.new) result }
+    ensures loads { LoadsUploads (F.held files.old) (option_map (λ text.
+        text.now) name.entry) (F.faults files.old) (F.faults files.new) result }
     ensures tables { IfOk result (All (λ (change : ChangeSeen). change.table ≢ [])) }
     ensures held { F.held files.new ≡ F.held files.old }
     ensures faults { F.faults files.old ≤ F.faults files.new }
@@ -163,9 +166,13 @@ pub(crate) fn prepare<'a, F: Files>(
     files: &mut F,
     named: &'a Named,
 ) -> Result<Prepared, Stop<'a>>
-    ensures prepares { IfOk result (λ prepared. Prepares (F.held files.old) named.entry.now prepared.service prepared.changes) }
-    ensures tables { IfOk result (λ prepared. All (λ (change : ChangeSeen). change.table ≢ []) prepared.changes) }
-    ensures refuses { IfErr result (RefusesFiles (F.held files.old) (F.faults files.old) (F.faults files.new) named.entry.now) }
+    ensures prepares { IfOk result (λ prepared.
+        Prepares (F.held files.old) named.entry.now prepared.service prepared.changes) }
+    ensures tables { IfOk result (λ prepared.
+        All (λ (change : ChangeSeen). change.table ≢ []) prepared.changes) }
+    ensures refuses { IfErr result
+        (RefusesFiles (F.held files.old) (F.faults files.old)
+        (F.faults files.new) named.entry.now) }
     ensures held { F.held files.new ≡ F.held files.old }
     ensures faults { F.faults files.old ≤ F.faults files.new }
 {

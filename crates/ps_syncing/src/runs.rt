@@ -36,13 +36,15 @@ fn write_all<P: Keeper>(
     changes: Items<Change>,
 ) -> Result<(), SyncFault>
     requires { All (λ (change : ChangeSeen). change.table ≢ []) changes }
-    ensures written { OnOk result (state client.new ≡ keeping (written_all changes (state client.old).kept) (state client.old)) }
+    ensures written { OnOk result (state client.new
+        ≡ keeping (written_all changes (state client.old).kept) (state client.old)) }
     ensures fault { IfErr result IsOfKeeper }
     ensures name { name_of client.new ≡ name_of client.old }
     ensures failed { result ≡ Err SyncFault.ConnectionFailed
         → Rose (P.faults (keeper_of client.old)) (P.faults (keeper_of client.new)) }
     ensures kept { P.faults (keeper_of client.old) ≤ P.faults (keeper_of client.new) }
-    ensures quiet { OnOk result (P.faults (keeper_of client.new) ≡ P.faults (keeper_of client.old)) }
+    ensures quiet { OnOk result (P.faults (keeper_of client.new)
+        ≡ P.faults (keeper_of client.old)) }
 {
     'changes: for change in changes.into_vec() {
         match client.write_local(alloc, change) {
@@ -63,13 +65,15 @@ fn stream_until_applied<R: Wait, L: Link, P: Keeper, G: Sink>(
     meter: &mut Meter<G>,
 ) -> Result<(), SyncFault>
     requires { name_of client.old ≡ service.now.client }
-    ensures streams { OnOk result (StreamsUntil service.now (state client.old) (state client.new) (L.closed link.old) (L.closed link.new)) }
+    ensures streams { OnOk result (StreamsUntil service.now (state client.old) (state client.new)
+        (L.closed link.old) (L.closed link.new)) }
     ensures fails { IfErr result (FailsSo service.now (L.closed link.old) (L.closed link.new)) }
     ensures out { L.out link.new ≡ L.out link.old }
     ensures heard { Hears meter.old meter.new }
     ensures name { name_of client.new ≡ name_of client.old }
     ensures failed { result ≡ Err SyncFault.ConnectionFailed
-        → Rose (L.faults link.old) (L.faults link.new) ⊎ Rose (P.faults (keeper_of client.old)) (P.faults (keeper_of client.new)) }
+        → Rose (L.faults link.old) (L.faults link.new)
+        ⊎ Rose (P.faults (keeper_of client.old)) (P.faults (keeper_of client.new)) }
     ensures faults { L.faults link.old ≤ L.faults link.new }
     ensures kept { P.faults (keeper_of client.old) ≤ P.faults (keeper_of client.new) }
 {
@@ -106,13 +110,15 @@ pub fn sync_client<R: Wait, L: Link, P: Keeper, G: Sink>(
 ) -> Result<Vec<u8>, SyncFault>
     requires name { name_of client.old ≡ service.now.client }
     requires tables { All (λ (change : ChangeSeen). change.table ≢ []) changes }
-    ensures synced { OnOk result (IsSynced service.now changes (state client.old) (state client.new) (L.closed link.old) (L.closed link.new)) }
+    ensures synced { OnOk result (IsSynced service.now changes (state client.old)
+        (state client.new) (L.closed link.old) (L.closed link.new)) }
     ensures prints { IfOk result (λ text. Prints (state client.new) text.items) }
     ensures fails { IfErr result (FailsSo service.now (L.closed link.old) (L.closed link.new)) }
     ensures out { L.out link.new ≡ L.out link.old }
     ensures heard { Hears meter.old meter.new }
     ensures failed { result ≡ Err SyncFault.ConnectionFailed
-        → Rose (L.faults link.old) (L.faults link.new) ⊎ Rose (P.faults (keeper_of client.old)) (P.faults (keeper_of client.new)) }
+        → Rose (L.faults link.old) (L.faults link.new)
+        ⊎ Rose (P.faults (keeper_of client.old)) (P.faults (keeper_of client.new)) }
     ensures faults { L.faults link.old ≤ L.faults link.new }
     ensures kept { P.faults (keeper_of client.old) ≤ P.faults (keeper_of client.new) }
 {

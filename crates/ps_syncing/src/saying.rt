@@ -11,7 +11,8 @@ use ps_io::Sink;
 
 // Writes a piece of a line to standard error, and says whether it was taken.
 fn tell_piece<E: Sink>(err: &mut E, piece: &str) -> bool
-    ensures { TellsPiece (E.taken err.old) (E.taken err.new) (E.faults err.old) (E.faults err.new) piece.now result }
+    ensures { TellsPiece (E.taken err.old) (E.taken err.new) (E.faults err.old)
+        (E.faults err.new) piece.now result }
 {
     match err.write(piece.as_bytes()) {
         Ok(()) => true,
@@ -21,14 +22,16 @@ fn tell_piece<E: Sink>(err: &mut E, piece: &str) -> bool
 
 // Writes a line that is a constant.
 fn tell_line<E: Sink>(err: &mut E, line: &str)
-    ensures { Tells (E.taken err.old) (E.taken err.new) (E.faults err.old) (E.faults err.new) line.now }
+    ensures { Tells (E.taken err.old) (E.taken err.new) (E.faults err.old)
+        (E.faults err.new) line.now }
 {
     let _told = tell_piece(err, line);
 }
 
 // Writes a line that ends with a number; where that fails, nothing more is done.
 fn tell_number<E: Sink>(err: &mut E, front: &str, number: u16)
-    ensures { Tells (E.taken err.old) (E.taken err.new) (E.faults err.old) (E.faults err.new) (numbered_line front.now number) }
+    ensures { Tells (E.taken err.old) (E.taken err.new) (E.faults err.old) (E.faults err.new)
+        (numbered_line front.now number) }
 {
     let mut digits = Buffer::new();
     let number = digits.format(number);
@@ -43,7 +46,8 @@ fn tell_number<E: Sink>(err: &mut E, front: &str, number: u16)
 
 /// Says a fault on standard error, and answers its status: docs/FORMATS.md, "Fault texts". Takes no memory.
 pub fn say_stop<E: Sink>(err: &mut E, stop: &Stop<'_>) -> u8
-    ensures { SaysStop (record { old = E.taken err.old; new = E.taken err.new; before = E.faults err.old; now = E.faults err.new }) stop.now result }
+    ensures { SaysStop (record { old = E.taken err.old; new = E.taken err.new; before = E.faults
+        err.old; now = E.faults err.new }) stop.now result }
 {
     match stop {
         Stop::Shared { fault } => say(err, fault),
@@ -74,7 +78,8 @@ pub fn say_stop<E: Sink>(err: &mut E, stop: &Stop<'_>) -> u8
 /// texts". Takes no memory.
 pub fn say_bad_store<E: Sink>(err: &mut E, table: u8) -> u8
     ensures status { result ≡ 16 }
-    ensures line { Tells (E.taken err.old) (E.taken err.new) (E.faults err.old) (E.faults err.new) (store_line table) }
+    ensures line { Tells (E.taken err.old) (E.taken err.new) (E.faults err.old)
+        (E.faults err.new) (store_line table) }
 {
     tell_number(err, "powersync: store ", u16::from(table));
     16

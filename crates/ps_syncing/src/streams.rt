@@ -51,7 +51,8 @@ fn take_part<P: Keeper, G: Sink>(
     ensures failed { result ≡ Err SyncFault.ConnectionFailed
         → Rose (P.faults (keeper_of client.old)) (P.faults (keeper_of client.new)) }
     ensures faults { P.faults (keeper_of client.old) ≤ P.faults (keeper_of client.new) }
-    ensures quiet { OnOk result (P.faults (keeper_of client.new) ≡ P.faults (keeper_of client.old)) }
+    ensures quiet { OnOk result (P.faults (keeper_of client.new)
+        ≡ P.faults (keeper_of client.old)) }
 {
     match client.take_line(alloc, line) {
         Ok(Event::Applied { op: _ }) => Ok(Some(Ended::Applied)),
@@ -74,15 +75,19 @@ fn take_next<S: Source, P: Keeper, G: Sink>(
     meter: &mut Meter<G>,
 ) -> Result<Option<Ended>, SyncFault>
     ensures taken { (before : List ℕ) → HasGiven (S.input from.old) (before ++ left_of reader.old)
-        → TakesNext (S.input from.new) before (left_of reader.new) (state client.old) (state client.new) result }
-    ensures ahead { length (left_of reader.old) ≤ line_limit → LeavesFew (left_of reader.new) result }
+        → TakesNext (S.input from.new) before (left_of reader.new) (state client.old)
+        (state client.new) result }
+    ensures ahead { length (left_of reader.old) ≤ line_limit
+        → LeavesFew (left_of reader.new) result }
     ensures told { is_some (S.input from.new) ≡ is_some (S.input from.old) }
     ensures heard { Hears meter.old meter.new }
     ensures name { name_of client.new ≡ name_of client.old }
     ensures failed { result ≡ Err SyncFault.ConnectionFailed
-        → (0 < S.faults from.new) ⊎ Rose (P.faults (keeper_of client.old)) (P.faults (keeper_of client.new)) }
+        → (0 < S.faults from.new)
+        ⊎ Rose (P.faults (keeper_of client.old)) (P.faults (keeper_of client.new)) }
     ensures faults { P.faults (keeper_of client.old) ≤ P.faults (keeper_of client.new) }
-    ensures quiet { OnOk result (P.faults (keeper_of client.new) ≡ P.faults (keeper_of client.old)) }
+    ensures quiet { OnOk result (P.faults (keeper_of client.new)
+        ≡ P.faults (keeper_of client.old)) }
 {
     match reader.next_line(from) {
         Ok(Part::Whole) => take_part(alloc, client, reader.part(), meter),
@@ -102,15 +107,19 @@ fn follow<R: Wait, S: Source, P: Keeper, G: Sink>(
     client: &mut Client<P>,
     meter: &mut Meter<G>,
 ) -> Result<Ended, SyncFault>
-    ensures streams { (old : Option Input) (request : List ℕ) → HasBegun old (S.input from.old) begun
-        → Streams (Sees old (S.input from.new) request) (state client.old) (state client.new) result }
+    ensures streams { (old : Option Input) (request : List ℕ)
+        → HasBegun old (S.input from.old) begun
+        → Streams (Sees old (S.input from.new) request) (state client.old)
+        (state client.new) result }
     ensures told { is_some (S.input from.new) ≡ is_some (S.input from.old) }
     ensures heard { Hears meter.old meter.new }
     ensures name { name_of client.new ≡ name_of client.old }
     ensures failed { result ≡ Err SyncFault.ConnectionFailed
-        → (0 < S.faults from.new) ⊎ Rose (P.faults (keeper_of client.old)) (P.faults (keeper_of client.new)) }
+        → (0 < S.faults from.new)
+        ⊎ Rose (P.faults (keeper_of client.old)) (P.faults (keeper_of client.new)) }
     ensures faults { P.faults (keeper_of client.old) ≤ P.faults (keeper_of client.new) }
-    ensures quiet { OnOk result (P.faults (keeper_of client.new) ≡ P.faults (keeper_of client.old)) }
+    ensures quiet { OnOk result (P.faults (keeper_of client.new)
+        ≡ P.faults (keeper_of client.old)) }
 {
     let Begun {
         mut reader,
@@ -137,15 +146,19 @@ fn watch<R: Wait, S: Source, K: Sink, P: Keeper, G: Sink>(
     client: &mut Client<P>,
     meter: &mut Meter<G>,
 ) -> Result<Ended, SyncFault>
-    ensures streams { Streams (Sees (S.input from.old) (S.input from.new) request.now) (state client.old) (state client.new) result }
-    ensures took { result ≢ Err SyncFault.ConnectionFailed → Gains (K.taken to.old) (K.taken to.new) request.now }
+    ensures streams { Streams (Sees (S.input from.old) (S.input from.new) request.now)
+        (state client.old) (state client.new) result }
+    ensures took { result ≢ Err SyncFault.ConnectionFailed
+        → Gains (K.taken to.old) (K.taken to.new) request.now }
     ensures told { is_some (S.input from.new) ≡ is_some (S.input from.old) }
     ensures heard { Hears meter.old meter.new }
     ensures name { name_of client.new ≡ name_of client.old }
     ensures failed { result ≡ Err SyncFault.ConnectionFailed
-        → (0 < S.faults from.new + K.faults to.new) ⊎ Rose (P.faults (keeper_of client.old)) (P.faults (keeper_of client.new)) }
+        → (0 < S.faults from.new + K.faults to.new)
+        ⊎ Rose (P.faults (keeper_of client.old)) (P.faults (keeper_of client.new)) }
     ensures faults { P.faults (keeper_of client.old) ≤ P.faults (keeper_of client.new) }
-    ensures quiet { OnOk result (P.faults (keeper_of client.new) ≡ P.faults (keeper_of client.old)) }
+    ensures quiet { OnOk result (P.faults (keeper_of client.new)
+        ≡ P.faults (keeper_of client.old)) }
 {
     match begin(alloc, from, to, request) {
         Ok(begun) => follow(rt, alloc, from, begun, client, meter),
@@ -160,7 +173,8 @@ fn request_of<P: Keeper>(
     client: &mut Client<P>,
 ) -> Result<Vec<u8>, Memory>
     requires { name_of client.old ≡ service.now.client }
-    ensures request { IfOk result (λ request. IsStreamRequest service.now (state client.old) request.items) }
+    ensures request { IfOk result (λ request.
+        IsStreamRequest service.now (state client.old) request.items) }
     ensures asked { OnOk result (state client.new ≡ asked (state client.old)) }
     ensures keeper { keeper_of client.new ≡ keeper_of client.old }
     ensures name { name_of client.new ≡ name_of client.old }
@@ -186,15 +200,18 @@ fn watch_once<R: Wait, L: Link, P: Keeper, G: Sink>(
     client: &mut Client<P>,
     meter: &mut Meter<G>,
 ) -> Result<Ended, SyncFault>
-    ensures streams { Streams (ClosesOne (L.closed link.old) (L.closed link.new) request.now) (state client.old) (state client.new) result }
+    ensures streams { Streams (ClosesOne (L.closed link.old) (L.closed link.new) request.now)
+        (state client.old) (state client.new) result }
     ensures out { L.out link.new ≡ L.out link.old }
     ensures heard { Hears meter.old meter.new }
     ensures name { name_of client.new ≡ name_of client.old }
     ensures failed { result ≡ Err SyncFault.ConnectionFailed
-        → Rose (L.faults link.old) (L.faults link.new) ⊎ Rose (P.faults (keeper_of client.old)) (P.faults (keeper_of client.new)) }
+        → Rose (L.faults link.old) (L.faults link.new)
+        ⊎ Rose (P.faults (keeper_of client.old)) (P.faults (keeper_of client.new)) }
     ensures faults { L.faults link.old ≤ L.faults link.new }
     ensures kept { P.faults (keeper_of client.old) ≤ P.faults (keeper_of client.new) }
-    ensures quiet { OnOk result (P.faults (keeper_of client.new) ≡ P.faults (keeper_of client.old)) }
+    ensures quiet { OnOk result (P.faults (keeper_of client.new)
+        ≡ P.faults (keeper_of client.old)) }
 {
     match link.connect(address) {
         Ok((mut from, mut to)) => {
@@ -221,16 +238,19 @@ pub fn stream<R: Wait, L: Link, P: Keeper, G: Sink>(
     meter: &mut Meter<G>,
 ) -> Result<Ended, SyncFault>
     requires { name_of client.old ≡ service.now.client }
-    ensures streams { Streams (ClosesStream service.now (state client.old) (L.closed link.old) (L.closed link.new))
+    ensures streams { Streams (ClosesStream service.now (state client.old)
+        (L.closed link.old) (L.closed link.new))
         (asked (state client.old)) (state client.new) result }
     ensures out { L.out link.new ≡ L.out link.old }
     ensures heard { Hears meter.old meter.new }
     ensures name { name_of client.new ≡ name_of client.old }
     ensures failed { result ≡ Err SyncFault.ConnectionFailed
-        → Rose (L.faults link.old) (L.faults link.new) ⊎ Rose (P.faults (keeper_of client.old)) (P.faults (keeper_of client.new)) }
+        → Rose (L.faults link.old) (L.faults link.new)
+        ⊎ Rose (P.faults (keeper_of client.old)) (P.faults (keeper_of client.new)) }
     ensures faults { L.faults link.old ≤ L.faults link.new }
     ensures kept { P.faults (keeper_of client.old) ≤ P.faults (keeper_of client.new) }
-    ensures quiet { OnOk result (P.faults (keeper_of client.new) ≡ P.faults (keeper_of client.old)) }
+    ensures quiet { OnOk result (P.faults (keeper_of client.new)
+        ≡ P.faults (keeper_of client.old)) }
 {
     match request_of(alloc, service, client) {
         Ok(request) => watch_once(

@@ -47,11 +47,13 @@ fn run<R: Wait, L: Link, P: Keeper, G: Sink>(
     hashing: Hashing,
 ) -> (Result<Vec<u8>, SyncFault>, P)
     requires { All (λ (change : ChangeSeen). change.table ≢ []) prepared.changes }
-    ensures runs { RunsSo prepared.service prepared.changes (P.held keeper) (L.closed link.old) (L.closed link.new) result.0 }
+    ensures runs { RunsSo prepared.service prepared.changes (P.held keeper) (L.closed link.old)
+        (L.closed link.new) result.0 }
     ensures out { L.out link.new ≡ L.out link.old }
     ensures heard { Hears meter.old meter.new }
     ensures failed { result.0 ≡ Err SyncFault.ConnectionFailed
-        → Rose (L.faults link.old) (L.faults link.new) ⊎ Rose (P.faults keeper) (P.faults result.1) }
+        → Rose (L.faults link.old) (L.faults link.new)
+        ⊎ Rose (P.faults keeper) (P.faults result.1) }
 {
     let Prepared { service, changes } = prepared;
     let name = match service.client.copy(alloc) {
@@ -69,7 +71,8 @@ fn run<R: Wait, L: Link, P: Keeper, G: Sink>(
 
 // Prints what was found.
 fn print<'a, K: Sink>(found: Result<Vec<u8>, SyncFault>, out: &mut K) -> Result<(), Stop<'a>>
-    ensures { PrintsSo found (K.taken out.old) (K.taken out.new) (K.faults out.old) (K.faults out.new) result }
+    ensures { PrintsSo found (K.taken out.old) (K.taken out.new) (K.faults out.old)
+        (K.faults out.new) result }
 {
     match found {
         Ok(text) => match out.write(text.as_slice()) {
@@ -116,7 +119,9 @@ pub fn run_sync<R: Wait, F: Files, L: Link, P: Keeper, K: Sink, E: Sink>(
       taken_now = K.taken out.new;
       write_before = K.faults out.old;
       write_now = K.faults out.new;
-    }) words.now (record { old = E.taken err.old; new = E.taken err.new; before = E.faults err.old; now = E.faults err.new }) result.0 }
+    }) words.now
+        (record { old = E.taken err.old; new = E.taken err.new; before = E.faults err.old; now
+        = E.faults err.new }) result.0 }
     // Each connection that was made is closed.
     ensures out { L.out link.new ≡ L.out link.old }
 {
@@ -165,7 +170,9 @@ pub fn run_sync_telling<R: Wait, F: Files, L: Link, P: Keeper, K: Sink, E: Sink,
       taken_now = K.taken out.new;
       write_before = K.faults out.old;
       write_now = K.faults out.new;
-    }) words.now (record { old = E.taken err.old; new = E.taken err.new; before = E.faults err.old; now = E.faults err.new }) result.0 }
+    }) words.now
+        (record { old = E.taken err.old; new = E.taken err.new; before = E.faults err.old; now
+        = E.faults err.new }) result.0 }
     // Each connection that was made is closed.
     ensures out { L.out link.new ≡ L.out link.old }
     // The meter's sink gets what the meter tells of lines, and nothing else.
@@ -189,7 +196,8 @@ pub fn run_sync_telling<R: Wait, F: Files, L: Link, P: Keeper, K: Sink, E: Sink,
 
 // Says a fault that other commands have too.
 fn say_fault<E: Sink>(err: &mut E, fault: Fault<'_>) -> u8
-    ensures { SaysStop (record { old = E.taken err.old; new = E.taken err.new; before = E.faults err.old; now = E.faults err.new }) (Stop.Shared fault.entry) result }
+    ensures { SaysStop (record { old = E.taken err.old; new = E.taken err.new; before = E.faults
+        err.old; now = E.faults err.new }) (Stop.Shared fault.entry) result }
 {
     let stop = Stop::Shared { fault };
     say_stop(err, &stop)

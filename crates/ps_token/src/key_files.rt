@@ -21,7 +21,8 @@ pub fn read_keys(alloc: Global, bytes: &[u8]) -> Result<Keys, KeysFault>
     // What is read is a key file of these keys.
     ensures found { IfOk result (λ read. IsKeyFile bytes.now read) }
     // A key file is read, unless memory runs out.
-    ensures only { (meant : List KeyData) → IsKeyFile bytes.now meant → ReadsKeys result (Ok meant) }
+    ensures only { (meant : List KeyData) → IsKeyFile bytes.now meant
+        → ReadsKeys result (Ok meant) }
     // Which fault is the first.
     ensures exact { ReadsKeys result (keys_of_file bytes.now) }
     // What is no text is refused whatever memory there is.

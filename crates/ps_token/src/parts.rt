@@ -46,7 +46,8 @@ pub(crate) fn decoded(alloc: Global, text: &[u8]) -> Result<Option<Vec<u8>>, Mem
 // What stands before the first dot, and what stands behind it.
 fn cut(text: &[u8]) -> Option<(&[u8], &[u8])>
     ensures value { option_map (λ parts. (parts.0.now, parts.1.now)) result ≡ cut_at_dot text.now }
-    ensures shorter { IfSome result (λ parts. length parts.0.now + 1 + length parts.1.now ≡ length text.now) }
+    ensures shorter { IfSome result (λ parts.
+        length parts.0.now + 1 + length parts.1.now ≡ length text.now) }
 {
     'bytes: for (place, byte) in text.iter().enumerate() {
         if *byte == b'.' {

@@ -23,7 +23,8 @@ pub fn sign(alloc: Global, keys: &Keys, kid: &Text, payload: &Text) -> Result<Te
     // Exactly that token, or the refusal.
     ensures exact { Signs result (token_of keys.now kid.now payload.now) }
     // Under the same keys it is accepted at each second before its expiry, where the payload has one and a subject.
-    ensures accepted { IfOk result (λ token. (claims : ClaimsData) (now : ℕ) → Claimed payload.now claims → now < claims.exp
+    ensures accepted { IfOk result (λ token.
+        (claims : ClaimsData) (now : ℕ) → Claimed payload.now claims → now < claims.exp
         → accepts keys.now token now ≡ Ok claims) }
 {
     let Some(key) = keys.find(kid) else {
@@ -44,7 +45,8 @@ fn header_of(alloc: Global, kid: &Text) -> Result<Json, Memory>
 
 fn header_text(alloc: Global, kid: &Text) -> Result<String, Memory>
     ensures text { IfOk result (λ text. string_bytes text ≡ text_of_header kid.now) }
-    ensures read_again { IfOk result (λ text. json_of (string_bytes text) ≡ Some (header_json kid.now)) }
+    ensures read_again { IfOk result (λ text.
+        json_of (string_bytes text) ≡ Some (header_json kid.now)) }
 {
     let header = header_of(alloc, kid)?;
     let text = header.to_string(alloc)?;
@@ -54,7 +56,8 @@ fn header_text(alloc: Global, kid: &Text) -> Result<String, Memory>
 // A payload with its header, signed with a key.
 fn signed(alloc: Global, key: &Key, kid: &Text, payload: &Text) -> Result<Text, Memory>
     ensures text { IfOk result (λ token. token ≡ signed_token key.now kid.now payload.now) }
-    ensures read_again { IfOk result (λ _. IsReadAgain kid.now payload.now (hmac key.now.bytes (unsigned_token kid.now payload.now))) }
+    ensures read_again { IfOk result (λ _.
+        IsReadAgain kid.now payload.now (hmac key.now.bytes (unsigned_token kid.now payload.now))) }
 {
     let header = header_text(alloc, kid)?;
     let mut token = encoded(alloc, header.as_bytes())?;

@@ -24,7 +24,8 @@ pub fn verify(alloc: Global, keys: &Keys, token: &[u8], now: u64) -> Result<Clai
     // What is accepted is signed with a key of the list, not expired, and has a subject.
     ensures found { IfOk result (λ claims. IsAccepted keys.now token.now now claims) }
     // Such a token is accepted, unless memory runs out.
-    ensures only { (claims : ClaimsData) → IsAccepted keys.now token.now now claims → Verifies result (Ok claims) }
+    ensures only { (claims : ClaimsData) → IsAccepted keys.now token.now now claims
+        → Verifies result (Ok claims) }
     // Which refusal is the first.
     ensures exact { Verifies result (accepts keys.now token.now now) }
     // What is not of three parts is refused whatever memory there is.

@@ -129,8 +129,10 @@ fn first_fault_of_members(members: &Map<String, Json>) -> Option<ValueFault>
 /// The JSON value that a text holds, with null in place of each number, at any depth, that is no whole
 /// number of signed 64 bits. None where the text holds no JSON value.
 pub fn plain_json(alloc: Global, text: &Text) -> Result<Option<Json>, Memory>
-    ensures value { IfOk result (λ plain. option_map view plain ≡ option_map plain_of (json_of text.now)) }
-    ensures floatless { IfOk result (λ plain. IfSome plain (λ json. has_float (view json) ≡ false)) }
+    ensures value { IfOk result (λ plain.
+        option_map view plain ≡ option_map plain_of (json_of text.now)) }
+    ensures floatless { IfOk result (λ plain.
+        IfSome plain (λ json. has_float (view json) ≡ false)) }
 {
     match read_json(alloc, text.bytes())? {
         Some(json) => Ok(Some(plain_value(alloc, &json)?)),
@@ -176,7 +178,8 @@ fn plain_value(alloc: Global, json: &Json) -> Result<Json, Memory>
 
 #[cycle(plain)]
 fn plain_items(alloc: Global, items: &Vec<Json>) -> Result<Vec<Json>, Memory>
-    ensures { IfOk result (λ made. items_view made.items ≡ plain_items_of (items_view items.now.items)) }
+    ensures { IfOk result (λ made.
+        items_view made.items ≡ plain_items_of (items_view items.now.items)) }
 {
     let mut made = Vec::with_capacity(alloc, items.len())?;
     'items: for item in items {

@@ -36,7 +36,8 @@ pub fn read_json(alloc: Global, bytes: &[u8]) -> Result<Option<serde_json::Value
 
 /// The compact JSON text of a value that holds no float.
 pub fn text_of_json(alloc: Global, json: &serde_json::Value) -> Result<Text, Memory>
-    ensures { IfOk result (λ text. has_float (view json.now) ≡ false → text ≡ compact_text (view json.now)) }
+    ensures { IfOk result (λ text.
+        has_float (view json.now) ≡ false → text ≡ compact_text (view json.now)) }
 {
     Ok(Text::from_string(json.to_string(alloc)?))
 }

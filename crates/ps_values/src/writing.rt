@@ -15,7 +15,8 @@ use std::collections::BTreeMap;
 
 /// Writes a value as JSON: null, a number or a string.
 pub fn write_value(writer: &mut Writer, value: &Value) -> Result<(), Memory>
-    ensures written { OnOk result (writer.new.tokens ≡ writer.old.tokens ++ value_tokens (data_of value.now)) }
+    ensures written { OnOk result (writer.new.tokens
+        ≡ writer.old.tokens ++ value_tokens (data_of value.now)) }
     ensures before { writer.new.before ≡ writer.old.before }
 {
     match value {
@@ -92,7 +93,8 @@ pub(crate) fn write_members(
     id: &Text,
     columns: &[Column],
 ) -> Result<(), Memory>
-    ensures written { OnOk result (writer.new.tokens ≡ writer.old.tokens ++ members_tokens (with_id false id.now (members_of columns.now))) }
+    ensures written { OnOk result (writer.new.tokens
+        ≡ writer.old.tokens ++ members_tokens (with_id false id.now (members_of columns.now))) }
     ensures before { writer.new.before ≡ writer.old.before }
 {
     if rise(columns) {
@@ -104,7 +106,8 @@ pub(crate) fn write_members(
 
 // The members of columns that stand in order, and of an id, and the closing bracket.
 fn write_columns(writer: &mut Writer, id: &Text, columns: &[Column]) -> Result<(), Memory>
-    ensures written { OnOk result (writer.new.tokens ≡ writer.old.tokens ++ members_tokens (with_id false id.now (listed columns.now))) }
+    ensures written { OnOk result (writer.new.tokens
+        ≡ writer.old.tokens ++ members_tokens (with_id false id.now (listed columns.now))) }
     ensures before { writer.new.before ≡ writer.old.before }
 {
     let mut told = false;
@@ -116,7 +119,8 @@ fn write_columns(writer: &mut Writer, id: &Text, columns: &[Column]) -> Result<(
 
 // The same of names and values.
 fn write_pairs(writer: &mut Writer, id: &Text, pairs: BTreeMap<&str, &Value>) -> Result<(), Memory>
-    ensures written { OnOk result (writer.new.tokens ≡ writer.old.tokens ++ members_tokens (with_id false id.now (paired pairs.entry.entries))) }
+    ensures written { OnOk result (writer.new.tokens
+        ≡ writer.old.tokens ++ members_tokens (with_id false id.now (paired pairs.entry.entries))) }
     ensures before { writer.new.before ≡ writer.old.before }
 {
     let mut told = false;
@@ -134,8 +138,10 @@ fn write_next(
     name: &str,
     value: &Value,
 ) -> Result<bool, Memory>
-    ensures written { IfOk result (λ now. (rest : Members) → writer.new.tokens ++ members_tokens (with_id now id.now rest)
-        ≡ writer.old.tokens ++ members_tokens (with_id told id.now (member name.now (data_of value.now) rest))) }
+    ensures written { IfOk result (λ now.
+        (rest : Members) → writer.new.tokens ++ members_tokens (with_id now id.now rest)
+        ≡ writer.old.tokens
+        ++ members_tokens (with_id told id.now (member name.now (data_of value.now) rest))) }
     ensures before { writer.new.before ≡ writer.old.before }
 {
     if told {
@@ -161,7 +167,8 @@ fn write_next(
 
 // The id, where it is still due, and the closing bracket.
 fn write_end(writer: &mut Writer, told: bool, id: &Text) -> Result<(), Memory>
-    ensures written { OnOk result (writer.new.tokens ≡ writer.old.tokens ++ members_tokens (with_id told id.now no_members)) }
+    ensures written { OnOk result (writer.new.tokens
+        ≡ writer.old.tokens ++ members_tokens (with_id told id.now no_members)) }
     ensures before { writer.new.before ≡ writer.old.before }
 {
     if !told {
@@ -172,7 +179,8 @@ fn write_end(writer: &mut Writer, told: bool, id: &Text) -> Result<(), Memory>
 }
 
 fn write_member(writer: &mut Writer, name: &str, value: &Value) -> Result<(), Memory>
-    ensures written { OnOk result (writer.new.tokens ≡ writer.old.tokens ++ member_tokens name.now (data_of value.now)) }
+    ensures written { OnOk result (writer.new.tokens
+        ≡ writer.old.tokens ++ member_tokens name.now (data_of value.now)) }
     ensures before { writer.new.before ≡ writer.old.before }
 {
     writer.key(name)?;
@@ -180,7 +188,8 @@ fn write_member(writer: &mut Writer, name: &str, value: &Value) -> Result<(), Me
 }
 
 fn write_text(writer: &mut Writer, name: &str, text: &Text) -> Result<(), Memory>
-    ensures written { OnOk result (writer.new.tokens ≡ writer.old.tokens ++ member_tokens name.now (string text.now)) }
+    ensures written { OnOk result (writer.new.tokens
+        ≡ writer.old.tokens ++ member_tokens name.now (string text.now)) }
     ensures before { writer.new.before ≡ writer.old.before }
 {
     writer.key(name)?;

@@ -25,7 +25,8 @@ pub fn compact_in_turn<R: Wait>(
 ) -> (Seat<SharedStore>, Result<Report, CompactFault>)
     requires { IsSeatOf lock.now seat }
     ensures lock { IsSeatOf lock.now result.0 }
-    ensures turn { (history : List EventSeen) × CompactsIn (terms_of lock.now) history bucket.now seat result.0 result.1 }
+    ensures turn { (history : List EventSeen)
+        × CompactsIn (terms_of lock.now) history bucket.now seat result.0 result.1 }
 {
     let copy = match bucket.copy(alloc) {
         Ok(copy) => copy,

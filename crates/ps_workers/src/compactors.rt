@@ -194,7 +194,9 @@ fn compact_each<R: Wait, G: Gate>(
     requires over { IsOverWith (terms_of place.now.lock.now) names.now (seen_by seat) }
     ensures lock { IsSeatOf place.now.lock.now result.0 }
     ensures worked { HasWorked IsOfCompactor seat result.0 }
-    ensures each { OnOk result.1 (has_deploy (seen_by result.0) ≡ false → HasCompacted (terms_of place.now.lock.now) (seen_by seat) (seen_by result.0) names.now) }
+    ensures each { OnOk result.1
+        (has_deploy (seen_by result.0) ≡ false
+        → HasCompacted (terms_of place.now.lock.now) (seen_by seat) (seen_by result.0) names.now) }
 {
     totals_tell_histories();
     let mut here = seat;
@@ -256,7 +258,8 @@ fn round<R: Wait, G: Gate>(
 ) -> (Seat<SharedStore>, Result<(), WorkEnd>)
     requires { IsSeatOf place.now.lock.now seat }
     ensures lock { IsSeatOf place.now.lock.now result.0 }
-    ensures goes_on { CompactsOn (fixed_of place.now.lock.now) (was_closed ≡ true) seat result.0 result.1 }
+    ensures goes_on { CompactsOn (fixed_of place.now.lock.now) (was_closed ≡ true)
+        seat result.0 result.1 }
 {
     passes.pass();
     let (seat, look, totals) = totals_in_turn(place.rt, place.lock, seat);
@@ -283,7 +286,8 @@ fn compact_on<R: Wait, G: Gate, B: Bell>(
 ) -> (Seat<SharedStore>, WorkEnd)
     requires { IsSeatOf place.now.lock.now seat }
     ensures lock { IsSeatOf place.now.lock.now result.0 }
-    ensures work { CompactsAll (fixed_of place.now.lock.now) (B.closings bell.old < B.closings bell.new) seat result.0 result.1 }
+    ensures work { CompactsAll (fixed_of place.now.lock.now)
+        (B.closings bell.old < B.closings bell.new) seat result.0 result.1 }
 {
     let mut here = seat;
     'rounds: for _ in place.rt.forever() {
@@ -317,7 +321,8 @@ pub fn compact_all<R: Wait, G: Gate, B: Bell>(
 ) -> (Seat<SharedStore>, WorkEnd)
     requires { IsSeatOf lock.now seat }
     ensures lock { IsSeatOf lock.now result.0 }
-    ensures work { CompactsAll (fixed_of lock.now) (B.closings bell.old < B.closings bell.new) seat result.0 result.1 }
+    ensures work { CompactsAll (fixed_of lock.now) (B.closings bell.old < B.closings bell.new)
+        seat result.0 result.1 }
 {
     let place = Workplace { rt, alloc, lock };
     let mut passes = Passes::new(gate);

@@ -37,7 +37,9 @@ pub struct Look {
 impl Look {
     /// Whether the store is drained: nothing more is fed, the checkpoint is at the head, and no generation is being built.
     pub fn is_drained(&self) -> bool
-        ensures { IsTrue result ↔ ((self.now.closed ≡ true) × (self.now.checkpoint.position.0 ≡ self.now.head.0) × (self.now.building ≡ None)) }
+        ensures { IsTrue result
+            ↔ ((self.now.closed ≡ true) × (self.now.checkpoint.position.0 ≡ self.now.head.0)
+            × (self.now.building ≡ None)) }
     {
         self.closed && self.checkpoint.position.0 == self.head.0 && self.building.is_none()
     }
@@ -45,7 +47,8 @@ impl Look {
 
 // What a store tells of itself.
 pub(crate) fn look_at(store: &Store) -> Look
-    ensures { (fixed : FixedSeen) (history : List EventSeen) → StoreStandsFor fixed store.now history → IsLook (ledger_of fixed.rules history) result }
+    ensures { (fixed : FixedSeen) (history : List EventSeen)
+        → StoreStandsFor fixed store.now history → IsLook (ledger_of fixed.rules history) result }
 {
     Look {
         checkpoint: store.checkpoint(),
@@ -64,7 +67,8 @@ pub fn look_in_turn<R: Wait>(
 ) -> (Seat<SharedStore>, Look)
     requires { IsSeatOf lock.now seat }
     ensures lock { IsSeatOf lock.now result.0 }
-    ensures turn { (history : List EventSeen) × LooksIn (terms_of lock.now) history seat result.0 result.1 }
+    ensures turn { (history : List EventSeen)
+        × LooksIn (terms_of lock.now) history seat result.0 result.1 }
 {
     let mut turn = lock.turn(rt, seat);
     let look = look_at(&turn.value().store);
@@ -81,7 +85,8 @@ pub fn take_in_turn<R: Wait>(
 ) -> (Seat<SharedStore>, Look, Result<Taken, TakeFault>)
     requires { IsSeatOf lock.now seat }
     ensures lock { IsSeatOf lock.now result.0 }
-    ensures turn { (history : List EventSeen) × TakesIn (terms_of lock.now) history asker.now seat result.0 result.1 result.2 }
+    ensures turn { (history : List EventSeen)
+        × TakesIn (terms_of lock.now) history asker.now seat result.0 result.1 result.2 }
 {
     let mut turn = lock.turn(rt, seat);
     let look = look_at(&turn.value().store);
@@ -101,7 +106,9 @@ pub fn read_in_turn<R: Wait>(
 ) -> (Seat<SharedStore>, Look, Result<Batch, Memory>)
     requires { IsSeatOf lock.now seat }
     ensures lock { IsSeatOf lock.now result.0 }
-    ensures turn { (history : List EventSeen) × ReadsIn (terms_of lock.now) history bucket.now after upto seat result.0 result.1 result.2 }
+    ensures turn { (history : List EventSeen)
+        × ReadsIn (terms_of lock.now) history bucket.now after upto seat
+        result.0 result.1 result.2 }
 {
     let mut turn = lock.turn(rt, seat);
     let look = look_at(&turn.value().store);
@@ -122,7 +129,8 @@ pub fn names_in_turn<R: Wait>(
 ) -> (Seat<SharedStore>, Look, Result<Items<Text>, Memory>)
     requires { IsSeatOf lock.now seat }
     ensures lock { IsSeatOf lock.now result.0 }
-    ensures turn { (history : List EventSeen) × NamesIn (terms_of lock.now) history seat result.0 result.1 result.2 }
+    ensures turn { (history : List EventSeen)
+        × NamesIn (terms_of lock.now) history seat result.0 result.1 result.2 }
 {
     let mut turn = lock.turn(rt, seat);
     let look = look_at(&turn.value().store);
@@ -133,8 +141,10 @@ pub fn names_in_turn<R: Wait>(
 // How many operations the logs of buckets have, written behind what is there, in room that is there.
 fn lengths_of(store: &Store, buckets: &[Text], lengths: &mut Vec<u64>)
     requires { vec_len lengths.old + length buckets.now ≤ vec_capacity lengths.old }
-    ensures { (fixed : FixedSeen) (history : List EventSeen) → StoreStandsFor fixed store.now history
-        → lengths.new.items ≡ lengths.old.items ++ map (log_length_of (ledger_of fixed.rules history)) buckets.now }
+    ensures { (fixed : FixedSeen) (history : List EventSeen)
+        → StoreStandsFor fixed store.now history
+        → lengths.new.items
+        ≡ lengths.old.items ++ map (log_length_of (ledger_of fixed.rules history)) buckets.now }
 {
     'buckets: for bucket in buckets {
         lengths.push_reserved(store.log_length(bucket));
@@ -152,7 +162,9 @@ pub fn lengths_in_turn<R: Wait>(
 ) -> (Seat<SharedStore>, Result<(Look, Vec<u64>), Memory>)
     requires { IsSeatOf lock.now seat }
     ensures lock { IsSeatOf lock.now result.0 }
-    ensures turn { IfOk result.1 (λ found. (history : List EventSeen) × LengthsIn (terms_of lock.now) history buckets.now seat result.0 found.0 found.1.items) }
+    ensures turn { IfOk result.1
+        (λ found. (history : List EventSeen)
+        × LengthsIn (terms_of lock.now) history buckets.now seat result.0 found.0 found.1.items) }
     ensures none { OnErr result.1 (result.0 ≡ seat) }
 {
     let mut lengths = match Vec::with_capacity(alloc, buckets.len()) {
@@ -173,7 +185,8 @@ pub fn totals_in_turn<R: Wait>(
 ) -> (Seat<SharedStore>, Look, Totals)
     requires { IsSeatOf lock.now seat }
     ensures lock { IsSeatOf lock.now result.0 }
-    ensures turn { (history : List EventSeen) × TotalsIn (terms_of lock.now) history seat result.0 result.1 result.2 }
+    ensures turn { (history : List EventSeen)
+        × TotalsIn (terms_of lock.now) history seat result.0 result.1 result.2 }
 {
     let mut turn = lock.turn(rt, seat);
     let look = look_at(&turn.value().store);

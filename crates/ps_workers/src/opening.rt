@@ -21,7 +21,8 @@ pub fn open_store(
     limits: Limits,
 ) -> Result<(StoreLock<SharedStore>, Seat<SharedStore>), Memory>
     requires { AreWithin limits }
-    ensures terms { IfOk result (λ r. terms_of r.0 ≡ record { fixed = record { rules = rules; limits = limits }; next = next.now }) }
+    ensures terms { IfOk result (λ r. terms_of r.0
+        ≡ record { fixed = record { rules = rules; limits = limits }; next = next.now }) }
     ensures seat { IfOk result (λ r. IsSeatOf r.0 r.1) }
     ensures seen { IfOk result (λ r. seen_by r.1 ≡ []) }
     ensures own { IfOk result (λ r. own_entries_of r.1 ≡ []) }

@@ -26,7 +26,8 @@ pub fn deploy_in_turn<R: Wait>(
     requires seat { IsSeatOf lock.now seat }
     requires next { (terms_of lock.now).next ≡ Some rules }
     ensures lock { IsSeatOf lock.now result.0 }
-    ensures turn { (history : List EventSeen) × DeploysIn (terms_of lock.now) history rules seat result.0 result.1 }
+    ensures turn { (history : List EventSeen)
+        × DeploysIn (terms_of lock.now) history rules seat result.0 result.1 }
 {
     let copy = match rules.copy(alloc) {
         Ok(copy) => copy,
@@ -52,7 +53,8 @@ pub fn build_in_turn<R: Wait>(
     requires some { 1 ≤ limit }
     requires limit { limit ≤ 1000000 }
     ensures lock { IsSeatOf lock.now result.0 }
-    ensures turn { (history : List EventSeen) × BuildsIn (terms_of lock.now) history limit seat result.0 result.1 }
+    ensures turn { (history : List EventSeen)
+        × BuildsIn (terms_of lock.now) history limit seat result.0 result.1 }
 {
     let mut turn = lock.turn(rt, seat);
     match turn.value().store.build_batch(alloc, limit) {
@@ -73,7 +75,8 @@ pub fn switch_in_turn<R: Wait>(
 ) -> (Seat<SharedStore>, Result<Checkpoint, SwitchFault>)
     requires { IsSeatOf lock.now seat }
     ensures lock { IsSeatOf lock.now result.0 }
-    ensures turn { (history : List EventSeen) × SwitchesIn (terms_of lock.now) history seat result.0 result.1 }
+    ensures turn { (history : List EventSeen)
+        × SwitchesIn (terms_of lock.now) history seat result.0 result.1 }
 {
     let mut turn = lock.turn(rt, seat);
     match turn.value().store.switch() {

@@ -65,7 +65,8 @@ fn deploy_next<R: Wait, G: Gate>(
     requires seat { IsSeatOf place.now.lock.now seat }
     requires next { (terms_of place.now.lock.now).next ≡ Some next.rules }
     ensures lock { IsSeatOf place.now.lock.now result.0 }
-    ensures deploys { (batch : ℕ) → DeploysNext (fixed_of place.now.lock.now) next batch seat result.0 result.1 }
+    ensures deploys { (batch : ℕ) → DeploysNext (fixed_of place.now.lock.now) next batch
+        seat result.0 result.1 }
 {
     ledgers_tell_ops();
     passes.pass();
@@ -95,7 +96,8 @@ pub(crate) fn deploy_on<R: Wait, G: Gate>(
     requires next { (terms_of place.now.lock.now).next ≡ Some next.rules }
     ensures lock { IsSeatOf place.now.lock.now result.0 }
     ensures under { (terms : TermsSeen) → IsUnder terms result.1 }
-    ensures goes_on { (batch : ℕ) → GoesOn (fixed_of place.now.lock.now) (Some next) batch seat result.0 result.1 result.2 }
+    ensures goes_on { (batch : ℕ) → GoesOn (fixed_of place.now.lock.now) (Some next) batch seat
+        result.0 result.1 result.2 }
 {
     let (seat, deployed) = deploy_next(place, passes, seat, next);
     let (stage, pace) = after_deploy(deployed);
@@ -113,7 +115,8 @@ fn build_next<R: Wait, G: Gate>(
     requires some { 1 ≤ batch }
     requires limit { batch ≤ 1000000 }
     ensures lock { IsSeatOf place.now.lock.now result.0 }
-    ensures builds { (next : Option NextRulesSeen) → IsSome next → BuildsNext (fixed_of place.now.lock.now) next batch seat result.0 result.1 }
+    ensures builds { (next : Option NextRulesSeen) → IsSome next
+        → BuildsNext (fixed_of place.now.lock.now) next batch seat result.0 result.1 }
 {
     runs_are_the_longest();
     passes.pass();
@@ -153,7 +156,8 @@ fn switch_next<R: Wait, G: Gate, B: Bell>(
 ) -> (Seat<SharedStore>, Result<Checkpoint, SwitchFault>)
     requires { IsSeatOf place.now.lock.now seat }
     ensures lock { IsSeatOf place.now.lock.now result.0 }
-    ensures switches { (next : Option NextRulesSeen) (batch : ℕ) → IsSome next → SwitchesNext (fixed_of place.now.lock.now) next batch seat result.0 result.1 }
+    ensures switches { (next : Option NextRulesSeen) (batch : ℕ) → IsSome next
+        → SwitchesNext (fixed_of place.now.lock.now) next batch seat result.0 result.1 }
 {
     passes.pass();
     let (seat, switched) = switch_in_turn(place.rt, place.lock, seat);
@@ -188,7 +192,8 @@ fn switch_on<R: Wait, G: Gate, B: Bell>(
     requires { IsSeatOf place.now.lock.now seat }
     ensures lock { IsSeatOf place.now.lock.now result.0 }
     ensures under { (terms : TermsSeen) → IsUnder terms result.1 }
-    ensures goes_on { (next : Option NextRulesSeen) (batch : ℕ) → IsAt (fixed_of place.now.lock.now) next (seen_by seat) stages.Building
+    ensures goes_on { (next : Option NextRulesSeen) (batch : ℕ)
+        → IsAt (fixed_of place.now.lock.now) next (seen_by seat) stages.Building
         → GoesOn (fixed_of place.now.lock.now) next batch seat result.0 result.1 result.2 }
 {
     let (seat, switched) = switch_next(place, passes, seat, bell);
@@ -210,7 +215,8 @@ pub(crate) fn build_on<R: Wait, G: Gate, B: Bell>(
     requires limit { batch ≤ 1000000 }
     ensures lock { IsSeatOf place.now.lock.now result.0 }
     ensures under { (terms : TermsSeen) → IsUnder terms result.1 }
-    ensures goes_on { (next : Option NextRulesSeen) → IsAt (fixed_of place.now.lock.now) next (seen_by seat) stages.Building
+    ensures goes_on { (next : Option NextRulesSeen)
+        → IsAt (fixed_of place.now.lock.now) next (seen_by seat) stages.Building
         → GoesOn (fixed_of place.now.lock.now) next batch seat result.0 result.1 result.2 }
 {
     let (seat, built) = build_next(place, passes, seat, batch);

@@ -30,7 +30,8 @@ pub fn upload_in_turn<R: Wait>(
     requires seat { IsSeatOf lock.now seat }
     requires tables { All (λ (change : ChangeSeen). 0 < length change.table) changes }
     ensures lock { IsSeatOf lock.now result.0 }
-    ensures turn { (history : List EventSeen) × UploadsIn (fixed_of lock.now) history changes seat result.0 result.1 }
+    ensures turn { (history : List EventSeen)
+        × UploadsIn (fixed_of lock.now) history changes seat result.0 result.1 }
 {
     let copy = match copy_all(alloc, changes.as_slice()) {
         Ok(copy) => copy,
@@ -73,7 +74,8 @@ pub fn number_in_turn<R: Wait>(
 ) -> (Seat<SharedStore>, Result<u64, NumberFault>)
     requires { IsSeatOf lock.now seat }
     ensures lock { IsSeatOf lock.now result.0 }
-    ensures turn { (history : List EventSeen) × NumbersIn (fixed_of lock.now) history user.now client.now seat result.0 result.1 }
+    ensures turn { (history : List EventSeen)
+        × NumbersIn (fixed_of lock.now) history user.now client.now seat result.0 result.1 }
 {
     let event = match number_event(alloc, user, client) {
         Ok(event) => event,

@@ -28,7 +28,8 @@ pub fn feed_in_turn<R: Wait>(
     requires seat { IsSeatOf lock.now seat }
     requires position { transaction.position.0 ≤ greatest }
     ensures lock { IsSeatOf lock.now result.0 }
-    ensures turn { (history : List EventSeen) × FeedsIn (fixed_of lock.now) history transaction seat result.0 result.1 }
+    ensures turn { (history : List EventSeen)
+        × FeedsIn (fixed_of lock.now) history transaction seat result.0 result.1 }
 {
     let copy = match transaction.copy(alloc) {
         Ok(copy) => copy,
@@ -69,7 +70,8 @@ pub fn write_in_turn<R: Wait>(
     requires some { 1 ≤ limit }
     requires limit { limit ≤ 1000000 }
     ensures lock { IsSeatOf lock.now result.0 }
-    ensures turn { (history : List EventSeen) × WritesIn (fixed_of lock.now) history limit seat result.0 result.1 }
+    ensures turn { (history : List EventSeen)
+        × WritesIn (fixed_of lock.now) history limit seat result.0 result.1 }
 {
     let mut turn = lock.turn(rt, seat);
     match turn.value().store.write_batch(alloc, limit) {
@@ -90,7 +92,8 @@ pub fn commit_in_turn<R: Wait>(
 ) -> (Seat<SharedStore>, Result<Checkpoint, NothingToCommit>)
     requires { IsSeatOf lock.now seat }
     ensures lock { IsSeatOf lock.now result.0 }
-    ensures turn { (history : List EventSeen) × CommitsIn (fixed_of lock.now) history seat result.0 result.1 }
+    ensures turn { (history : List EventSeen)
+        × CommitsIn (fixed_of lock.now) history seat result.0 result.1 }
 {
     let mut turn = lock.turn(rt, seat);
     match turn.value().store.commit() {

@@ -36,7 +36,8 @@ fn commit_or_look<R: Wait>(
 ) -> (Seat<SharedStore>, Result<u64, Look>)
     requires { IsSeatOf lock.now seat }
     ensures lock { IsSeatOf lock.now result.0 }
-    ensures turn { (history : List EventSeen) × CommitsOrLooks (terms_of lock.now) history seat result.0 result.1 }
+    ensures turn { (history : List EventSeen)
+        × CommitsOrLooks (terms_of lock.now) history seat result.0 result.1 }
 {
     let mut turn = lock.turn(rt, seat);
     match turn.value().store.commit() {
@@ -61,7 +62,8 @@ fn commit_reached<R: Wait, G: Gate, B: Bell>(
 ) -> (Seat<SharedStore>, bool, u64)
     requires { IsSeatOf place.now.lock.now seat }
     ensures lock { IsSeatOf place.now.lock.now result.0 }
-    ensures commits { (next : Option NextRulesSeen) (batch : ℕ) → CommitsReached (fixed_of place.now.lock.now) next batch seat result.0 result.1 result.2 }
+    ensures commits { (next : Option NextRulesSeen) (batch : ℕ)
+        → CommitsReached (fixed_of place.now.lock.now) next batch seat result.0 result.1 result.2 }
 {
     passes.pass();
     let (seat, found) = commit_or_look(place.rt, place.lock, seat);
@@ -85,7 +87,8 @@ fn write_next<R: Wait, G: Gate>(
     requires some { 1 ≤ batch }
     requires limit { batch ≤ 1000000 }
     ensures lock { IsSeatOf place.now.lock.now result.0 }
-    ensures writes { (next : Option NextRulesSeen) → WritesNext (fixed_of place.now.lock.now) next batch seat result.0 result.1 }
+    ensures writes { (next : Option NextRulesSeen)
+        → WritesNext (fixed_of place.now.lock.now) next batch seat result.0 result.1 }
 {
     runs_are_the_longest();
     passes.pass();
@@ -120,7 +123,8 @@ fn step<R: Wait, G: Gate, B: Bell>(
     requires limit { batch ≤ 1000000 }
     ensures lock { IsSeatOf place.now.lock.now result.0 }
     ensures under { IsUnder (terms_of place.now.lock.now) result.1 }
-    ensures goes_on { (next : Option NextRulesSeen) → IsAt (fixed_of place.now.lock.now) next (seen_by seat) stage
+    ensures goes_on { (next : Option NextRulesSeen)
+        → IsAt (fixed_of place.now.lock.now) next (seen_by seat) stage
         → GoesOn (fixed_of place.now.lock.now) next batch seat result.0 result.1 result.2 }
 {
     let (seat, drained, committed) = commit_reached(place, passes, seat, bell);
@@ -156,7 +160,8 @@ fn write_all<R: Wait, G: Gate, B: Bell>(
     requires some { 1 ≤ batch }
     requires limit { batch ≤ 1000000 }
     ensures lock { IsSeatOf place.now.lock.now result.0 }
-    ensures writes { FeedsAndWrites (fixed_of place.now.lock.now) next [] batch seat result.0 result.1 }
+    ensures writes { FeedsAndWrites (fixed_of place.now.lock.now) next [] batch
+        seat result.0 result.1 }
 {
     let mut here = seat;
     let mut stage = first_stage(next);
@@ -199,7 +204,8 @@ fn feed_one<R: Wait, G: Gate>(
     requires seat { IsSeatOf place.now.lock.now seat }
     requires position { transaction.position.0 ≤ greatest }
     ensures lock { IsSeatOf place.now.lock.now result.0 }
-    ensures feeds { (history : List EventSeen) × FeedsOne (fixed_of place.now.lock.now) history transaction seat result.0 result.1 }
+    ensures feeds { (history : List EventSeen)
+        × FeedsOne (fixed_of place.now.lock.now) history transaction seat result.0 result.1 }
 {
     passes.pass();
     let (seat, fed) = feed_in_turn(place.rt, place.alloc, place.lock, seat, transaction);
@@ -219,7 +225,9 @@ fn feed_all<R: Wait, G: Gate>(
     requires seat { IsSeatOf place.now.lock.now seat }
     requires positions { All (λ (t : TransactionSeen). t.position.0 ≤ greatest) transactions.items }
     ensures lock { IsSeatOf place.now.lock.now result.0 }
-    ensures feeds { (next : Option NextRulesSeen) (batch : ℕ) → FeedsAll (fixed_of place.now.lock.now) next transactions.items batch seat result.0 result.1 }
+    ensures feeds { (next : Option NextRulesSeen) (batch : ℕ)
+        → FeedsAll (fixed_of place.now.lock.now) next transactions.items batch
+        seat result.0 result.1 }
 {
     let mut here = seat;
     'transactions: for transaction in transactions {
@@ -260,7 +268,8 @@ pub fn feed_and_write<R: Wait, G: Gate, B: Bell>(
     requires positions { All (λ (t : TransactionSeen). t.position.0 ≤ greatest) transactions.items }
     requires next { AreNext (terms_of lock.now) next }
     ensures lock { IsSeatOf lock.now result.0 }
-    ensures work { FeedsAndWrites (fixed_of lock.now) next transactions.items batch seat result.0 result.1 }
+    ensures work { FeedsAndWrites (fixed_of lock.now) next transactions.items batch
+        seat result.0 result.1 }
 {
     let place = Workplace { rt, alloc, lock };
     let mut passes = Passes::new(gate);

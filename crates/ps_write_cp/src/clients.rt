@@ -46,8 +46,10 @@ impl ClientHeads {
     /// Puts a head behind those of a client. After `Memory` all are as before.
     pub(crate) fn add(&mut self, alloc: Global, client: &Text, head: Position) -> Result<(), Memory>
         ensures ok { OnOk result ((other : List ℕ) → heads_among self.new other
-            ≡ (if bytes_eq other client.now then heads_among self.old other ++ head ∷ [] else heads_among self.old other)) }
-        ensures err { OnErr result ((other : List ℕ) → heads_among self.new other ≡ heads_among self.old other) }
+            ≡ (if bytes_eq other client.now then heads_among self.old other
+            ++ head ∷ [] else heads_among self.old other)) }
+        ensures err { OnErr result
+            ((other : List ℕ) → heads_among self.new other ≡ heads_among self.old other) }
     {
         add_head(alloc, &mut self.heads, client, head)
     }
@@ -61,8 +63,11 @@ fn add_head(
     head: Position,
 ) -> Result<(), Memory>
     ensures ok { OnOk result ((other : List ℕ) → heads_among heads.new.entries other
-        ≡ (if bytes_eq other client.now then heads_among heads.old.entries other ++ head ∷ [] else heads_among heads.old.entries other)) }
-    ensures err { OnErr result ((other : List ℕ) → heads_among heads.new.entries other ≡ heads_among heads.old.entries other) }
+        ≡ (if bytes_eq other client.now then heads_among heads.old.entries other
+        ++ head ∷ [] else heads_among heads.old.entries other)) }
+    ensures err { OnErr result
+        ((other : List ℕ)
+        → heads_among heads.new.entries other ≡ heads_among heads.old.entries other) }
 {
     if let Some(known) = heads.get_mut(client) {
         known.push(head)?;

@@ -55,9 +55,11 @@ impl WriteCheckpoints {
         head: Position,
     ) -> Result<u64, NumberFault>
         requires { self.old.head ≤ head.0 }
-        ensures answer { Answers self.old.top (length (heads_at self.old user.now client.now)) result }
+        ensures answer { Answers self.old.top
+            (length (heads_at self.old user.now client.now)) result }
         ensures made { OnOk result ((history : List Made) → StandsFor self.old history
-            → StandsFor self.new (history ++ (record { user = user.now; client = client.now; head = head }) ∷ [])) }
+            → StandsFor self.new
+            (history ++ (record { user = user.now; client = client.now; head = head }) ∷ [])) }
         ensures head { OnOk result (self.new.head ≡ head.0) }
         ensures refused { OnErr result (HaveSame self.old self.new) }
         ensures top { self.new.top ≡ self.old.top }
@@ -117,8 +119,12 @@ fn add(
     head: Position,
 ) -> Result<(), Memory>
     ensures ok { OnOk result ((other device : List ℕ) → heads_under users.new.entries other device
-        ≡ (if bytes_eq other user.now && bytes_eq device client.now then heads_under users.old.entries other device ++ head ∷ [] else heads_under users.old.entries other device)) }
-    ensures err { OnErr result ((other device : List ℕ) → heads_under users.new.entries other device ≡ heads_under users.old.entries other device) }
+        ≡ (if bytes_eq other user.now && bytes_eq device client.now then heads_under
+        users.old.entries other device
+        ++ head ∷ [] else heads_under users.old.entries other device)) }
+    ensures err { OnErr result
+        ((other device : List ℕ)
+        → heads_under users.new.entries other device ≡ heads_under users.old.entries other device) }
 {
     if let Some(clients) = users.get_mut(user) {
         clients.add(alloc, client, head)?;

@@ -285,9 +285,11 @@ fn line_feed(text: &[u8]) -> Option<usize>
 /// The first line of a text that has a line feed, and what follows its end.
 #[tactic(auto, using(crate::proofs::LineEnds::first_line, crate::proofs::LineEnds::last_line))]
 fn cut_line(text: &[u8]) -> Option<(&[u8], &[u8])>
-    ensures cut { MatchOption result (words.split_lines text.now ≡ text.now ∷ []) (λ x. words.split_lines text.now ≡ x.0.now ∷ words.split_lines x.1.now) }
+    ensures cut { MatchOption result (words.split_lines text.now ≡ text.now ∷ []) (λ x.
+        words.split_lines text.now ≡ x.0.now ∷ words.split_lines x.1.now) }
     ensures shorter { IfSome result (λ x. length x.0.now + length x.1.now < length text.now) }
-    ensures utf8 { words.IsText text.now → IfSome result (λ x. words.IsText x.0.now × words.IsText x.1.now) }
+    ensures utf8 { words.IsText text.now → IfSome result (λ x.
+        words.IsText x.0.now × words.IsText x.1.now) }
 {
     let end = line_feed(text)?;
     let (line, after) = text.split_at(end);

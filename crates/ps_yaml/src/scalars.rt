@@ -22,7 +22,8 @@ pub(crate) fn scalar(
 ) -> Result<Node, Memory>
     requires place { offset ≤ length line.now.text }
     requires utf8 { lines_of.IsText text.now }
-    ensures { IfOk result (λ node. node ≡ nodes.Scalar text.now line.now.number (offset + 1) plain) }
+    ensures { IfOk result (λ node.
+        node ≡ nodes.Scalar text.now line.now.number (offset + 1) plain) }
 {
     match Text::from_bytes(alloc, text) {
         Ok(text) => Ok(Node::Scalar {
@@ -114,7 +115,8 @@ fn has_colon(text: &[u8]) -> bool
 
 /// Whether a line that is not passed over continues a plain scalar of a line at an indent.
 fn continues(line: &Line, indent: usize) -> bool
-    ensures { result ≡ (words.is_content (lines_of.kind_of line.now.text) && nat_lt indent (lines_of.spaces line.now.text)) }
+    ensures { result ≡ (words.is_content (lines_of.kind_of line.now.text) && nat_lt indent
+        (lines_of.spaces line.now.text)) }
 {
     match line.kind() {
         Kind::Content => indent < line.indent(),
@@ -136,7 +138,9 @@ fn push_part(text: &mut Vec<u8>, part: &[u8]) -> Result<(), Memory>
 
 /// Adds the lines that continue a plain scalar, and answers the lines after them.
 fn continued<'l>(indent: usize, lines: &'l [Line], text: &mut Vec<u8>) -> Result<&'l [Line], Memory>
-    ensures value { IfOk result (λ rest. (text.new.items ≡ text.old.items ++ (words.continued indent lines.now).0) × (rest.now ≡ (words.continued indent lines.now).1)) }
+    ensures value { IfOk result (λ rest.
+        (text.new.items ≡ text.old.items ++ (words.continued indent lines.now).0)
+        × (rest.now ≡ (words.continued indent lines.now).1)) }
     ensures utf8 { lines_of.IsText text.old.items → OnOk result (lines_of.IsText text.new.items) }
 {
     let mut place = 0;
@@ -165,7 +169,8 @@ fn plain_scalar<'l>(
 ) -> Result<(Node, &'l [Line]), YamlFault>
     requires place { offset ≤ length line.now.text }
     requires utf8 { lines_of.IsText (drop offset line.now.text) }
-    ensures { Reads (λ x. (x.0, x.1.now)) result (words.plain_scalar indent line.now offset lines.now) }
+    ensures { Reads (λ x.
+        (x.0, x.1.now)) result (words.plain_scalar indent line.now offset lines.now) }
 {
     let mut text = Vec::new(alloc);
     text.extend_from_slice(plain_part(&line.text()[offset..]))?;
@@ -189,7 +194,8 @@ fn closed<'l>(
     requires place { offset ≤ length line.now.text }
     requires within { length after.now ≤ length line.now.text }
     requires utf8 { lines_of.IsText text.now }
-    ensures { Reads (λ x. (x.0, x.1.now)) result (words.closed line.now offset lines.now text.now after.now) }
+    ensures { Reads (λ x.
+        (x.0, x.1.now)) result (words.closed line.now offset lines.now text.now after.now) }
 {
     if !is_line_end(after) {
         let front = spaces(after);
@@ -200,7 +206,8 @@ fn closed<'l>(
 
 /// The text behind an opening single quote, and what follows the closing one.
 fn single_quoted(alloc: Global, text: &[u8]) -> Result<Option<(Vec<u8>, &[u8])>, Memory>
-    ensures value { IfOk result (λ found. option_map (λ x. (x.0.items, x.1.now)) found ≡ words.single_quoted text.now) }
+    ensures value { IfOk result (λ found.
+        option_map (λ x. (x.0.items, x.1.now)) found ≡ words.single_quoted text.now) }
     ensures shorter { IfOk result (λ found. IfSome found (λ x. length x.1.now ≤ length text.now)) }
 {
     let mut read = Vec::new(alloc);
@@ -414,7 +421,8 @@ fn first_line(alloc: Global, depth: usize, line: &Line) -> Result<Vec<u8>, Memor
 /// Adds a further line without a block's indent.
 fn push_line(text: &mut Vec<u8>, joint: u8, depth: usize, line: &Line) -> Result<(), Memory>
     requires { joint < 128 }
-    ensures value { OnOk result (text.new.items ≡ text.old.items ++ joint ∷ words.unindented depth line.now.text) }
+    ensures value { OnOk result (text.new.items
+        ≡ text.old.items ++ joint ∷ words.unindented depth line.now.text) }
     ensures utf8 { lines_of.IsText text.old.items → OnOk result (lines_of.IsText text.new.items) }
 {
     text.push(joint)?;
@@ -461,7 +469,8 @@ fn block_lines<'l>(
     lines: &'l [Line],
 ) -> Result<(Vec<u8>, &'l [Line]), YamlFault>
     requires { style.joint < 128 }
-    ensures value { Reads (λ x. (x.0.items, x.1.now)) result (words.block_lines style indent lines.now (words.block_indent indent lines.now)) }
+    ensures value { Reads (λ x. (x.0.items, x.1.now)) result
+        (words.block_lines style indent lines.now (words.block_indent indent lines.now)) }
     ensures utf8 { IfOk result (λ x. lines_of.IsText x.0.items) }
 {
     let Some(depth) = block_indent(indent, lines) else {
@@ -482,7 +491,8 @@ fn block_scalar<'l>(
     lines: &'l [Line],
 ) -> Result<(Node, &'l [Line]), YamlFault>
     requires { offset ≤ length line.now.text }
-    ensures { Reads (λ x. (x.0, x.1.now)) result (words.block_scalar indent line.now offset lines.now) }
+    ensures { Reads (λ x.
+        (x.0, x.1.now)) result (words.block_scalar indent line.now offset lines.now) }
 {
     let Some(style) = style_of(trimmed(&line.text()[offset..])) else {
         return Err(line.unsupported(offset));
@@ -502,7 +512,8 @@ pub(crate) fn scalar_at<'l>(
 ) -> Result<(Node, &'l [Line]), YamlFault>
     requires place { offset < length line.now.text }
     requires utf8 { lines_of.IsText (drop offset line.now.text) }
-    ensures { Reads (λ x. (x.0, x.1.now)) result (words.scalar_at indent line.now offset lines.now) }
+    ensures { Reads (λ x.
+        (x.0, x.1.now)) result (words.scalar_at indent line.now offset lines.now) }
 {
     match line.text()[offset] {
         b'\'' => single_scalar(alloc, line, offset, lines),

@@ -25,7 +25,8 @@ fn next_in<'l>(
     indent: usize,
     lines: &'l [Line],
 ) -> Result<Option<(&'l Line, &'l [Line])>, YamlFault>
-    ensures { Reads (λ next. option_map (λ x. (x.0.now, x.1.now)) next) result (words.next_in indent lines.now) }
+    ensures { Reads (λ next.
+        option_map (λ x. (x.0.now, x.1.now)) next) result (words.next_in indent lines.now) }
 {
     let Some((line, after)) = lines.split_first() else {
         return Ok(None);
@@ -159,7 +160,8 @@ fn value_offset(line: &Line) -> usize
 /// Where what follows the spaces behind the colon of an entry begins.
 fn scalar_offset(line: &Line) -> usize
     requires { words.is_entry (lines_of.content line.now) ≡ true }
-    ensures value { result ≡ words.value_offset line.now + lines_of.spaces (drop (words.value_offset line.now) line.now.text) }
+    ensures value { result ≡ words.value_offset line.now
+        + lines_of.spaces (drop (words.value_offset line.now) line.now.text) }
     ensures within { result ≤ length line.now.text }
     ensures utf8 { lines_of.IsText (drop result line.now.text) }
 {
@@ -177,7 +179,8 @@ fn value_at<'l>(
     lines: &'l [Line],
 ) -> Result<(Node, &'l [Line]), YamlFault>
     requires { words.is_entry (lines_of.content line.now) ≡ true }
-    ensures { Reads (λ x. (x.0, x.1.now)) result (words.value_at (λ deeper. words.pairs_at turns deeper []) turns line.now lines.now) }
+    ensures { Reads (λ x. (x.0, x.1.now)) result (words.value_at (λ deeper.
+        words.pairs_at turns deeper []) turns line.now lines.now) }
 {
     let offset = value_offset(line);
     if is_line_end(past(line.text(), offset)) {
@@ -196,7 +199,8 @@ fn below<'l>(
     lines: &'l [Line],
 ) -> Result<(Node, &'l [Line]), YamlFault>
     requires { words.is_entry (lines_of.content line.now) ≡ true }
-    ensures { Reads (λ x. (x.0, x.1.now)) result (words.below (λ deeper. words.pairs_at turns deeper []) turns line.now lines.now) }
+    ensures { Reads (λ x. (x.0, x.1.now)) result (words.below (λ deeper.
+        words.pairs_at turns deeper []) turns line.now lines.now) }
 {
     let Some((next, _)) = lines.split_first() else {
         return Ok((scalar(alloc, line, value_offset(line), true, b"")?, lines));
@@ -318,7 +322,8 @@ pub fn read_yaml(alloc: Global, bytes: &[u8]) -> Result<Node, YamlFault>
     // What is read is spelled so.
     ensures found { IfOk result (λ node. Spells bytes.now node) }
     // What is spelled so is read, unless memory runs out.
-    ensures only { (node : NodeData) → Spells bytes.now node → Reads (λ read. read) result (Ok node) }
+    ensures only { (node : NodeData) → Spells bytes.now node → Reads (λ read.
+        read) result (Ok node) }
     // Which fault is the first.
     ensures exact { Reads (λ node. node) result (words.document_of bytes.now) }
     // Bytes that are no text are refused before any memory is asked for.

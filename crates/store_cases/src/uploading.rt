@@ -16,7 +16,8 @@ use std::alloc::Global;
 // The changes of an upload's body, of which no table is empty.
 #[tactic(auto, using(crate::proofs::Filled::all_filled))]
 fn changes_of(alloc: Global, body: &str) -> Result<Items<Change>, ChangeFault>
-    ensures { IfOk result (λ changes. All (λ (change : ChangeSeen). 0 < length change.table) changes) }
+    ensures { IfOk result (λ changes.
+        All (λ (change : ChangeSeen). 0 < length change.table) changes) }
 {
     read_changes(alloc, body.as_bytes())
 }

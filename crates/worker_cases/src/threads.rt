@@ -248,7 +248,8 @@ pub fn write_seats<R: Wait>(rt: &R, alloc: Global, out: &mut String) -> Result<(
 
 // One change: a row of a table is deleted.
 fn one_change(alloc: Global) -> Result<Items<Change>, Stop>
-    ensures { IfOk result (λ changes. All (λ (change : ChangeSeen). 0 < length change.table) changes) }
+    ensures { IfOk result (λ changes.
+        All (λ (change : ChangeSeen). 0 < length change.table) changes) }
 {
     let table = Text::from_str(alloc, "items")?;
     let id = Text::from_str(alloc, "r1")?;

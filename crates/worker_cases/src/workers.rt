@@ -69,7 +69,8 @@ struct Ends {
 
 // The transactions, where no position is too great.
 fn low(given: Items<Transaction>) -> Option<Vec<Transaction>>
-    ensures { IfSome result (λ low. All (λ (t : TransactionSeen). t.position.0 ≤ greatest) low.items) }
+    ensures { IfSome result (λ low.
+        All (λ (t : TransactionSeen). t.position.0 ≤ greatest) low.items) }
 {
     if !given.as_slice().iter().all(|t| t.position.0 <= GREATEST) {
         return None;

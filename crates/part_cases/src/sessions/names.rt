@@ -14,7 +14,8 @@ use ps_data::Text;
 
 // Whether a name is below those of all.
 fn is_below_all(name: &Text, buckets: &[TakenBucket]) -> bool
-    ensures { OnTrue result (AllByRecursion (λ other. slice_cmp nat_cmp name.now other ≡ Less) (map name_of buckets.now)) }
+    ensures { OnTrue result (AllByRecursion (λ other.
+        slice_cmp nat_cmp name.now other ≡ Less) (map name_of buckets.now)) }
 {
     match buckets {
         [] => true,
