@@ -161,8 +161,12 @@ pub fn audit_files<'a, F: Files>(
     ensures finds { (words : List (List ℕ))
         → command_of words
         ≡ Some (audit_command
-        (record { rules = rules.now; changes = changes.now; claims
-        = claims.now; stream = stream.now }))
+        (record {
+          rules = rules.now;
+          changes = changes.now;
+          claims = claims.now;
+          stream = stream.now;
+        }))
         → FindsVerdict (F.held files.old) (F.faults files.old) (F.faults files.new) words result }
     ensures missed { MissesNamed (F.missed files.old) (F.missed files.new) result }
 {

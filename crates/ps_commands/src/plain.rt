@@ -49,8 +49,12 @@ fn rows<'a, F: Files>(
     ensures finds { (words : List (List ℕ))
         → command_of words
         ≡ Some (rows_command
-        (record { feeding = feeding; rules = rules.now; changes
-        = changes.now; claims = claims.now }))
+        (record {
+          feeding = feeding;
+          rules = rules.now;
+          changes = changes.now;
+          claims = claims.now;
+        }))
         → Finds (F.held files.old) (F.faults files.old) (F.faults files.new) words result }
     ensures missed { MissesNamed (F.missed files.old) (F.missed files.new) result }
 {
@@ -125,14 +129,14 @@ fn generate_lines<'a>(alloc: Global, count: u32) -> Result<Vec<u8>, Fault<'a>>
 fn print<'a, K: Sink>(found: Result<Vec<u8>, Fault<'a>>, out: &mut K) -> Result<Ending, Fault<'a>>
     ensures outcome { (held : Option Contents) (before now : ℕ) (words : List (List ℕ))
         → Finds held before now words found.entry → Ends (record {
-      held = held;
-      read_before = before;
-      read_now = now;
-      taken_before = K.taken out.old;
-      taken_now = K.taken out.new;
-      write_before = K.faults out.old;
-      write_now = K.faults out.new;
-    }) words result }
+          held = held;
+          read_before = before;
+          read_now = now;
+          taken_before = K.taken out.old;
+          taken_now = K.taken out.new;
+          write_before = K.faults out.old;
+          write_now = K.faults out.new;
+        }) words result }
     ensures missed { (before after : Option (List (List ℕ)))
         → MissesNamed before after found.entry → MissesNamed before after result }
 {
@@ -160,14 +164,14 @@ fn pronounce<'a, K: Sink>(
 ) -> Result<Ending, Fault<'a>>
     ensures outcome { (held : Option Contents) (before now : ℕ) (words : List (List ℕ))
         → FindsVerdict held before now words found.entry → Ends (record {
-      held = held;
-      read_before = before;
-      read_now = now;
-      taken_before = K.taken out.old;
-      taken_now = K.taken out.new;
-      write_before = K.faults out.old;
-      write_now = K.faults out.new;
-    }) words result }
+          held = held;
+          read_before = before;
+          read_now = now;
+          taken_before = K.taken out.old;
+          taken_now = K.taken out.new;
+          write_before = K.faults out.old;
+          write_now = K.faults out.new;
+        }) words result }
     ensures missed { (before after : Option (List (List ℕ)))
         → MissesNamed before after found.entry → MissesNamed before after result }
 {
@@ -300,16 +304,20 @@ pub fn run_plain<F: Files, K: Sink, E: Sink>(
     // What is said is the line of a fault that has its cause and that status. It names the file that could not be read.
     ensures said { result ≢ 0 → result ≢ 15
         → SaysCause (F.missed files.old) (F.missed files.new) (record {
-      held = F.held files.old;
-      read_before = F.faults files.old;
-      read_now = F.faults files.new;
-      taken_before = K.taken out.old;
-      taken_now = K.taken out.new;
-      write_before = K.faults out.old;
-      write_now = K.faults out.new;
-    })
-        (record { old = E.taken err.old; new = E.taken err.new; before = E.faults err.old; now
-        = E.faults err.new }) words.now result }
+          held = F.held files.old;
+          read_before = F.faults files.old;
+          read_now = F.faults files.new;
+          taken_before = K.taken out.old;
+          taken_now = K.taken out.new;
+          write_before = K.faults out.old;
+          write_now = K.faults out.new;
+        })
+        (record {
+          old = E.taken err.old;
+          new = E.taken err.new;
+          before = E.faults err.old;
+          now = E.faults err.new;
+        }) words.now result }
 
     // Where files tell what they hold, or none is read, and no count rose, status and output are those that the words and files mean, or
     // it was out of memory.

@@ -105,11 +105,11 @@ pub fn replay<K: Sink>(
     requires length { length script.now < 2 ^ 63 }
     ensures { Replays (record { rules = rules; limits = usual_limits })
         (first_play transactions.items next) script.now (record {
-      old = K.taken out.old;
-      new = K.taken out.new;
-      before = K.faults out.old;
-      now = K.faults out.new;
-    }) result }
+          old = K.taken out.old;
+          new = K.taken out.new;
+          before = K.faults out.old;
+          now = K.faults out.new;
+        }) result }
 {
     plays_begin_led();
     let mut world = World::new(alloc, rules, transactions, next)?;

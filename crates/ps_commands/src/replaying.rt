@@ -49,8 +49,12 @@ fn play<'a, K: Sink>(
 ) -> Result<(), Fault<'a>>
     requires low { AreLow transactions.items }
     requires length { length script.now < 2 ^ 63 }
-    ensures { PlaysOut (record { rules = rules; next = next; transactions
-        = transactions.items; script = script.now }) (record {
+    ensures { PlaysOut (record {
+      rules = rules;
+      next = next;
+      transactions = transactions.items;
+      script = script.now;
+    }) (record {
       old = K.taken out.old;
       new = K.taken out.new;
       before = K.faults out.old;
@@ -100,16 +104,20 @@ pub fn replay_files<'a, F: Files, K: Sink>(
     ensures outcome { (words : List (List ℕ))
         → command_of words
         ≡ Some (replay_command
-        (record { rules = rules.now; next = name_of next.entry; changes = changes.now; script
-        = script.now })) → Outcome (record {
-      held = F.held files.old;
-      read_before = F.faults files.old;
-      read_now = F.faults files.new;
-      taken_before = K.taken out.old;
-      taken_now = K.taken out.new;
-      write_before = K.faults out.old;
-      write_now = K.faults out.new;
-    }) words result }
+        (record {
+          rules = rules.now;
+          next = name_of next.entry;
+          changes = changes.now;
+          script = script.now;
+        })) → Outcome (record {
+          held = F.held files.old;
+          read_before = F.faults files.old;
+          read_now = F.faults files.new;
+          taken_before = K.taken out.old;
+          taken_now = K.taken out.new;
+          write_before = K.faults out.old;
+          write_now = K.faults out.new;
+        }) words result }
     ensures missed { MissesNamed (F.missed files.old) (F.missed files.new) result }
 {
     let rules = load_rules(alloc, files, rules)?;

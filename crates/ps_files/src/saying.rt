@@ -176,8 +176,12 @@ fn tell_cannot_read<E: Sink>(err: &mut E, name: &str)
 
 /// Says a fault on standard error, and answers its status: docs/FORMATS.md, "Fault texts". Takes no memory.
 pub fn say<E: Sink>(err: &mut E, fault: &Fault<'_>) -> u8
-    ensures { SaysFault (record { old = E.taken err.old; new = E.taken err.new; before = E.faults
-        err.old; now = E.faults err.new }) fault.now result }
+    ensures { SaysFault (record {
+      old = E.taken err.old;
+      new = E.taken err.new;
+      before = E.faults err.old;
+      now = E.faults err.new;
+    }) fault.now result }
 {
     match fault {
         Fault::Usage => {

@@ -22,8 +22,12 @@ fn say_connection<E: Sink>(err: &mut E)
 /// Says a fault of `serve` on standard error, and answers its status: docs/FORMATS.md, "Fault texts". Takes no memory.
 pub fn say_serve<E: Sink>(err: &mut E, fault: &ServeFault<'_>) -> u8
     ensures { SaysServeFault
-        (record { old = E.taken err.old; new = E.taken err.new; before = E.faults err.old; now
-        = E.faults err.new }) fault.now result }
+        (record {
+          old = E.taken err.old;
+          new = E.taken err.new;
+          before = E.faults err.old;
+          now = E.faults err.new;
+        }) fault.now result }
 {
     match fault {
         ServeFault::Plain { fault } => say(err, fault),

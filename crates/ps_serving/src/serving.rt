@@ -122,10 +122,18 @@ fn serve_fed<
     requires next { AreNext (terms_of ground.now.lock.now) next }
     ensures { ServesFed (terms_of ground.now.lock.now) next ground.now.site.now
         (C.may_give ground.now.tools.now.clock.now) (seen_by seat) pace.most
-        (record { opened = D.opened doors.old; coming = D.coming doors.old; closed = D.closed
-        doors.old; faults = D.faults doors.old })
-        (record { opened = D.opened doors.new; coming = D.coming doors.new; closed = D.closed
-        doors.new; faults = D.faults doors.new })
+        (record {
+          opened = D.opened doors.old;
+          coming = D.coming doors.old;
+          closed = D.closed doors.old;
+          faults = D.faults doors.old;
+        })
+        (record {
+          opened = D.opened doors.new;
+          coming = D.coming doors.new;
+          closed = D.closed doors.new;
+          faults = D.faults doors.new;
+        })
         (record { taken = O.taken out.old; faults = O.faults out.old })
         (record { taken = O.taken out.new; faults = O.faults out.new }) result }
 {
@@ -158,10 +166,18 @@ fn serve<
     ensures serves { ServesSo (C.may_give tools.now.clock.now) words.now
         (record { held = F.held files.old; faults = F.faults files.old })
         (record { held = F.held files.new; faults = F.faults files.new })
-        (record { opened = D.opened doors.old; coming = D.coming doors.old; closed = D.closed
-        doors.old; faults = D.faults doors.old })
-        (record { opened = D.opened doors.new; coming = D.coming doors.new; closed = D.closed
-        doors.new; faults = D.faults doors.new })
+        (record {
+          opened = D.opened doors.old;
+          coming = D.coming doors.old;
+          closed = D.closed doors.old;
+          faults = D.faults doors.old;
+        })
+        (record {
+          opened = D.opened doors.new;
+          coming = D.coming doors.new;
+          closed = D.closed doors.new;
+          faults = D.faults doors.new;
+        })
         (record { taken = O.taken out.old; faults = O.faults out.old })
         (record { taken = O.taken out.new; faults = O.faults out.new }) result }
     ensures missed { MissesServe (F.missed files.old) (F.missed files.new) result }
@@ -253,10 +269,18 @@ pub fn run_serve<
     ensures answers { AnswersServe (C.may_give clock.now) words.now
         (record { held = F.held files.old; faults = F.faults files.old })
         (record { held = F.held files.new; faults = F.faults files.new })
-        (record { opened = D.opened doors.old; coming = D.coming doors.old; closed = D.closed
-        doors.old; faults = D.faults doors.old })
-        (record { opened = D.opened doors.new; coming = D.coming doors.new; closed = D.closed
-        doors.new; faults = D.faults doors.new })
+        (record {
+          opened = D.opened doors.old;
+          coming = D.coming doors.old;
+          closed = D.closed doors.old;
+          faults = D.faults doors.old;
+        })
+        (record {
+          opened = D.opened doors.new;
+          coming = D.coming doors.new;
+          closed = D.closed doors.new;
+          faults = D.faults doors.new;
+        })
         (record { taken = O.taken out.old; faults = O.faults out.old })
         (record { taken = O.taken out.new; faults = O.faults out.new }) result }
 
@@ -264,15 +288,27 @@ pub fn run_serve<
     ensures said { result ≢ 0 → SaysWhy (C.may_give clock.now) words.now
         (record { held = F.held files.old; faults = F.faults files.old })
         (record { held = F.held files.new; faults = F.faults files.new })
-        (record { opened = D.opened doors.old; coming = D.coming doors.old; closed = D.closed
-        doors.old; faults = D.faults doors.old })
-        (record { opened = D.opened doors.new; coming = D.coming doors.new; closed = D.closed
-        doors.new; faults = D.faults doors.new })
+        (record {
+          opened = D.opened doors.old;
+          coming = D.coming doors.old;
+          closed = D.closed doors.old;
+          faults = D.faults doors.old;
+        })
+        (record {
+          opened = D.opened doors.new;
+          coming = D.coming doors.new;
+          closed = D.closed doors.new;
+          faults = D.faults doors.new;
+        })
         (record { taken = O.taken out.old; faults = O.faults out.old })
         (record { taken = O.taken out.new; faults = O.faults out.new })
         (F.missed files.old) (F.missed files.new)
-        (record { old = E.taken err.old; new = E.taken err.new; before = E.faults err.old; now
-        = E.faults err.new }) result }
+        (record {
+          old = E.taken err.old;
+          new = E.taken err.new;
+          before = E.faults err.old;
+          now = E.faults err.new;
+        }) result }
     ensures quiet { result ≡ 0 → E.taken err.new ≡ E.taken err.old }
 {
     let said = match read_serve_words(alloc, words) {

@@ -158,8 +158,8 @@ impl Session {
     fn follow(&mut self, taken: Taken, places: Vec<OpId>)
         requires rise { NamesRise taken.buckets }
         requires beside { length places.items ≡ length taken.buckets }
-        ensures { self.new ≡ record self.old { phase = phases.Download; last
-            = taken; places = places.items } }
+        ensures { self.new
+            ≡ record self.old { phase = phases.Download; last = taken; places = places.items } }
     {
         self.cursor = first_behind(taken.buckets.as_slice(), places.as_slice(), 0);
         self.last = taken;
@@ -286,8 +286,11 @@ impl Session {
     // The first bucket that is behind is sent up to here.
     fn advance(&mut self, place: OpId, phase: Phase)
         requires { done_front self.old.last.buckets self.old.places < length self.old.last.buckets }
-        ensures { self.new ≡ record self.old { phase = phase; places = slice_set self.old.places
-            (done_front self.old.last.buckets self.old.places) place } }
+        ensures { self.new ≡ record self.old {
+          phase = phase;
+          places =
+              slice_set self.old.places (done_front self.old.last.buckets self.old.places) place;
+        } }
     {
         self.places[self.cursor] = place;
         self.cursor = first_behind(

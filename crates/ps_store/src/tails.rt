@@ -57,8 +57,8 @@ impl Tail {
         ensures changes { self.new.changes.items ≡ self.old.changes.items ++ timed_of transaction }
         ensures reach { reached self.new.reach
             ≡ settled last.0
-            (record (reached self.old.reach) { left = (reached self.old.reach).left
-            ++ end_of transaction ∷ [] }) }
+            (record (reached
+            self.old.reach) { left = (reached self.old.reach).left ++ end_of transaction ∷ [] }) }
     {
         let Transaction { position, changes } = transaction;
         let end = End {

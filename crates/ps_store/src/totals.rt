@@ -26,8 +26,13 @@ pub struct Totals {
 impl Totals {
     /// Nothing is counted.
     pub(crate) fn new() -> Totals
-        ensures { result ≡ record { transactions = 0; changes = 0; operations = 0; buckets
-            = 0; sum = record { 0 = 0 } } }
+        ensures { result ≡ record {
+          transactions = 0;
+          changes = 0;
+          operations = 0;
+          buckets = 0;
+          sum = record { 0 = 0 };
+        } }
     {
         Totals {
             transactions: 0,

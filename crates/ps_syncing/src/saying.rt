@@ -46,8 +46,12 @@ fn tell_number<E: Sink>(err: &mut E, front: &str, number: u16)
 
 /// Says a fault on standard error, and answers its status: docs/FORMATS.md, "Fault texts". Takes no memory.
 pub fn say_stop<E: Sink>(err: &mut E, stop: &Stop<'_>) -> u8
-    ensures { SaysStop (record { old = E.taken err.old; new = E.taken err.new; before = E.faults
-        err.old; now = E.faults err.new }) stop.now result }
+    ensures { SaysStop (record {
+      old = E.taken err.old;
+      new = E.taken err.new;
+      before = E.faults err.old;
+      now = E.faults err.new;
+    }) stop.now result }
 {
     match stop {
         Stop::Shared { fault } => say(err, fault),

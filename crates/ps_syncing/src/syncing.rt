@@ -120,8 +120,12 @@ pub fn run_sync<R: Wait, F: Files, L: Link, P: Keeper, K: Sink, E: Sink>(
       write_before = K.faults out.old;
       write_now = K.faults out.new;
     }) words.now
-        (record { old = E.taken err.old; new = E.taken err.new; before = E.faults err.old; now
-        = E.faults err.new }) result.0 }
+        (record {
+          old = E.taken err.old;
+          new = E.taken err.new;
+          before = E.faults err.old;
+          now = E.faults err.new;
+        }) result.0 }
     // Each connection that was made is closed.
     ensures out { L.out link.new ≡ L.out link.old }
 {
@@ -171,8 +175,12 @@ pub fn run_sync_telling<R: Wait, F: Files, L: Link, P: Keeper, K: Sink, E: Sink,
       write_before = K.faults out.old;
       write_now = K.faults out.new;
     }) words.now
-        (record { old = E.taken err.old; new = E.taken err.new; before = E.faults err.old; now
-        = E.faults err.new }) result.0 }
+        (record {
+          old = E.taken err.old;
+          new = E.taken err.new;
+          before = E.faults err.old;
+          now = E.faults err.new;
+        }) result.0 }
     // Each connection that was made is closed.
     ensures out { L.out link.new ≡ L.out link.old }
     // The meter's sink gets what the meter tells of lines, and nothing else.
@@ -196,8 +204,12 @@ pub fn run_sync_telling<R: Wait, F: Files, L: Link, P: Keeper, K: Sink, E: Sink,
 
 // Says a fault that other commands have too.
 fn say_fault<E: Sink>(err: &mut E, fault: Fault<'_>) -> u8
-    ensures { SaysStop (record { old = E.taken err.old; new = E.taken err.new; before = E.faults
-        err.old; now = E.faults err.new }) (Stop.Shared fault.entry) result }
+    ensures { SaysStop (record {
+      old = E.taken err.old;
+      new = E.taken err.new;
+      before = E.faults err.old;
+      now = E.faults err.new;
+    }) (Stop.Shared fault.entry) result }
 {
     let stop = Stop::Shared { fault };
     say_stop(err, &stop)
