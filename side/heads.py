@@ -5,7 +5,7 @@ TOP=Path(sys.argv[1]); here=Path(__file__).parent
 t=dict(l.rstrip('\n').split('\t') for l in open(here/'heads.tsv'))
 t['ps_client/src/tables.rt']="What a stream's lines told of the checkpoint that is under way."
 t['ps_yaml/src/scalars.rt']="Scalars: plain ones, quoted ones, and blocks of lines."
-t['ps_sql/src/primes.rt']="What an expression is made of, read: columns, parameters, values of the asker, functions, operators."
+t['ps_sql/src/primes.rt']="Parts of an expression, read: columns, parameters, values of the asker, functions, operators."
 t['ps_params/src/indexes.rt']="The rows that parameter queries read, as they stood at each position, and an asker's buckets."
 for f in sorted(TOP.glob('crates/*/src/**/*.rt')):
     s=f.read_text()

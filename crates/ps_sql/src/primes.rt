@@ -1,4 +1,4 @@
-//! What an expression is made of, read: columns, parameters, values of the asker, functions, operators.
+//! Parts of an expression, read: columns, parameters, values of the asker, functions, operators.
 
 ghost use Rattle.std.specs.Prelude.{◌≡◌, bytes_eq};
 ghost use Rattle.ps_sql.specs.Answers.{ReadsOn, StepsOn};
