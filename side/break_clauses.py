@@ -29,7 +29,7 @@ def cands(line, start):
                     out.append((depth,len(OPS),i+1))
         i+=1
     return out
-def brk(line, indent):
+def brk(line, indent, first=True):
     if len(line)<=COL: return [line]
     start=len(line)-len(line.lstrip())
     m=re.match(r'\s*(ensures|requires)( [a-z_0-9]+)? \{ ',line)
@@ -49,9 +49,11 @@ def brk(line, indent):
     low=min(c[0] for c in cs)
     if lam and (best[0]>low or best[1]==len(OPS) or line[:lam[0]].count('(')-line[:lam[0]].count(')')<=best[0]): best=(0,0,lam[0])
     col=best[2]
+    inside=not first and line[:col].count('(')-line[:col].count(')')>0
+    if inside: indent+=4
     rest=' '*indent+line[col:].lstrip()
     if len(rest)>=len(line): return [line]
-    return [line[:col].rstrip()]+brk(rest,indent)
+    return [line[:col].rstrip()]+brk(rest,indent,False)
 def clauses(lines):
     depth=inside=0
     for n,line in enumerate(lines):
@@ -69,7 +71,7 @@ for f in sorted(TOP.glob('crates/*/src/**/*.rt')):
     for i,l in enumerate(lines):
         if i in at and len(l)>COL:
             own=len(l)-len(l.lstrip())
-            new=brk(l, at[i]+4 if own==at[i] else own)
+            new=brk(l, at[i]+4 if own==at[i] else own, own==at[i])
             n+=len(new)>1
             out+=new
         else: out.append(l)

@@ -61,7 +61,8 @@ pub fn drop_bucket<S: Alter>(tx: &mut Transaction<'_, S>, name: &Text) -> Result
 pub fn read_buckets<S: Alter>(conn: &mut Connection<S>) -> Result<Vec<Row>, Error>
     ensures read { HasCleanDisk (state S.Store conn.new) → IsClient (state S.Store conn.old)
         → IfOk result (λ rows.
-        IsPermutation (map bucket_line (tables_of (state S.Store conn.old)).buckets) rows.items) }
+        IsPermutation
+        (map bucket_line (tables_of (state S.Store conn.old)).buckets) rows.items) }
     ensures sorted { HasCleanDisk (state S.Store conn.new) → IsClient (state S.Store conn.old)
         → IfOk result (λ rows. AreInOrder rows.items) }
     ensures same { HasCleanDisk (state S.Store conn.new) → IsClient (state S.Store conn.old)

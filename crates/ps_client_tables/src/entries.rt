@@ -81,7 +81,8 @@ pub fn drop_entry<S: Alter>(
 pub fn read_entries<S: Alter>(conn: &mut Connection<S>) -> Result<Vec<Row>, Error>
     ensures read { HasCleanDisk (state S.Store conn.new) → IsClient (state S.Store conn.old)
         → IfOk result (λ rows.
-        IsPermutation (map entry_line (tables_of (state S.Store conn.old)).entries) rows.items) }
+        IsPermutation
+        (map entry_line (tables_of (state S.Store conn.old)).entries) rows.items) }
     ensures sorted { HasCleanDisk (state S.Store conn.new) → IsClient (state S.Store conn.old)
         → IfOk result (λ rows. AreInOrder rows.items) }
     ensures same { HasCleanDisk (state S.Store conn.new) → IsClient (state S.Store conn.old)

@@ -47,7 +47,8 @@ fn add_from(
 ) -> Result<(), Memory>
     ensures { OnOk result (Gains vectors.old vectors.new
         (flat_map (vectors_on names.now asker.now query.now)
-        (filter (λ (r : SourceRow). bytes_eq r.table table.now) (rows_in (kept_rows rows.now))))) }
+        (filter (λ (r : SourceRow). bytes_eq r.table table.now)
+        (rows_in (kept_rows rows.now))))) }
 {
     'rows: for (key, version) in rows.iter() {
         if !key.0.equals(table) {

@@ -116,7 +116,8 @@ fn some_branch_is_met(
     requires unbound { AllByRecursion IsUnbound branches.now }
     ensures { IfOk result (λ met. met
         ≡ list_any (λ vector. meets_some
-        (given_for asker.now names.now (at_row id.now row.now) vector) branches.now) vectors.now) }
+        (given_for asker.now names.now (at_row id.now row.now) vector) branches.now)
+        vectors.now) }
 {
     'branches: for branch in branches {
         if branch_is_met(alloc, branch, vectors, names, asker, id, row)? {

@@ -456,7 +456,8 @@ pub fn read_parameter_query(alloc: Global, text: &Text) -> Result<ParameterQuery
     // What is read is spelled so.
     ensures found { IfOk result
         (λ query.
-        (lexemes : List Lexeme) × AreLexemes 0 text.now lexemes × IsParameterQuery lexemes query) }
+        (lexemes : List Lexeme) × AreLexemes 0 text.now lexemes
+        × IsParameterQuery lexemes query) }
     // What is spelled so is read, unless memory runs out.
     ensures only { (lexemes : List Lexeme) (query : ParameterQuery) → AreLexemes 0 text.now lexemes
         → IsParameterQuery lexemes query → Reads result (Ok query) }

@@ -47,7 +47,8 @@ pub trait Readings {
             → (more : List EventSeen) × may_come self.old more
             × stands self.new fixed (history ++ more)
             × IfOk result (λ batch.
-            batch ≡ batch_of (ledger_of fixed.rules (history ++ more)) bucket.now after.0 upto.0) };
+            batch ≡ batch_of (ledger_of fixed.rules (history ++ more))
+            bucket.now after.0 upto.0) };
 
     /// Its rules are valid, and its history is legal.
     ghost valid: { (readings : Self) (fixed : FixedSeen) (history : List EventSeen) → stands readings fixed history → IsValid fixed history };

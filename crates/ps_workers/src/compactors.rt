@@ -196,7 +196,8 @@ fn compact_each<R: Wait, G: Gate>(
     ensures worked { HasWorked IsOfCompactor seat result.0 }
     ensures each { OnOk result.1
         (has_deploy (seen_by result.0) ≡ false
-        → HasCompacted (terms_of place.now.lock.now) (seen_by seat) (seen_by result.0) names.now) }
+        → HasCompacted (terms_of place.now.lock.now) (seen_by seat)
+        (seen_by result.0) names.now) }
 {
     totals_tell_histories();
     let mut here = seat;

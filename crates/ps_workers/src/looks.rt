@@ -164,7 +164,8 @@ pub fn lengths_in_turn<R: Wait>(
     ensures lock { IsSeatOf lock.now result.0 }
     ensures turn { IfOk result.1
         (λ found. (history : List EventSeen)
-        × LengthsIn (terms_of lock.now) history buckets.now seat result.0 found.0 found.1.items) }
+        × LengthsIn (terms_of lock.now) history buckets.now seat result.0
+        found.0 found.1.items) }
     ensures none { OnErr result.1 (result.0 ≡ seat) }
 {
     let mut lengths = match Vec::with_capacity(alloc, buckets.len()) {

@@ -124,7 +124,8 @@ fn add(
         ++ head ∷ [] else heads_under users.old.entries other device)) }
     ensures err { OnErr result
         ((other device : List ℕ)
-        → heads_under users.new.entries other device ≡ heads_under users.old.entries other device) }
+        → heads_under users.new.entries other device
+        ≡ heads_under users.old.entries other device) }
 {
     if let Some(clients) = users.get_mut(user) {
         clients.add(alloc, client, head)?;
