@@ -77,7 +77,7 @@ def is_binder(text, start, end, name, antt_head):
         return "field"
     if re.match(r" =(?!=)\s", after) and column > 0 and re.search(r"(?:[{;]|\blet|^)\s*$", before[max(0, len(before) - 80) :]):
         return "field"
-    if re.match(r" :\s", after) and column > 0 and not line.lstrip().startswith(("abbrev", "ghost")) and re.search(r"(?:pub |^\s+)$", line[:column]):
+    if re.match(r" :\s", after) and line[:1] == " " and re.search(r"(?:pub |^\s+)$", line[:column]):
         return "field"
     return None
 
@@ -102,7 +102,7 @@ def locals_of(text, name, is_rt):
         spans.append((m.start(), block_end(m.end())))
     # patterns of a clause: at the head of a line, before its `=`
     if not is_rt:
-        for m in re.finditer(r"^(?!use|pub|abbrev|--)(\S+)((?: [^=\n:]*)?) = ", text, re.M):
+        for m in re.finditer(r"^(?!use|pub|abbrev|--)(\S+)((?: [^=\n:]*)?) =(?= |$)", text, re.M):
             for p in re.finditer(rf"(?<![^\s(){{}}]){quoted}(?![^\s(){{}}])", m[2]):
                 spans.append((m.start(2), block_end(m.end())))
     return spans
