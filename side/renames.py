@@ -4,8 +4,9 @@ A line of the table has a kind, a place, the old name and the new one, with tabs
   spec    CRATE/MODULE  OLD  NEW   a definition of specs/MODULE.antt: there, and wherever it is imported from there
   word    -             OLD  NEW   a whole word of any text of the tree
   text    FILES         OLD  NEW   a text of files that a pattern names
+  page    FILE          OLD  NEW  HINT   a name in code, in the lines of a page that have the hint
   module  CRATE         OLD  NEW   a file of src/, with its folder of proofs
-  merge   CRATE         OLD+OLD NEW files of src/ made one, in that order, with their folders of proofs
+  merge   CRATE         OLD+OLD NEW HEAD files of src/ made one, in that order, with their folders of proofs
   laws    CRATE         MODULE -   the module's functions are called as `laws::NAME()`
 """
 import re
@@ -234,6 +235,12 @@ def rename_specs():
                 wanted[f"Rattle.{crate}.specs.{others[0].stem}", old] = new
             else:
                 WARNINGS.append(f"GONE {place}: {old}")
+    # A module that passes a name on has it too.
+    for file in sorted((TOP / "crates").glob("*/specs/*.antt")):
+        for found in re.finditer(r"^pub use (Rattle\.[^\s{]*)\.\{([^}]*)\}", read(file), re.M):
+            for name in re.split(r"[,\s]+", found[2]):
+                if (found[1], name) in wanted:
+                    wanted[module_of(TOP, file), name] = wanted[found[1], name]
     if not wanted:
         return
     for file in sources():
@@ -323,6 +330,12 @@ def rename_words():
         if kind == "word":
             for file in list(TOP.glob(f"crates/*/must-fail/{old}.edit")) + list(TOP.glob(f"more-edits/**/{old}.edit")) + list(TOP.glob(f"crates/*/proofs/**/{old}")):
                 move(file, file.with_name(file.name.replace(old, new)))
+        if kind == "page" and (TOP / place).exists():
+            lines = read(TOP / place).split("\n")
+            new_lines = [line.replace(f"`{old}`", f"`{new}`") if _[0] in line else line for line in lines]
+            if new_lines != lines:
+                write(TOP / place, "\n".join(new_lines))
+                DONE["pages"] += 1
         if kind == "text":
             for file in TOP.glob(place):
                 text = read(file)
