@@ -3,6 +3,7 @@
 A line of the table has a kind, a place, the old name and the new one, with tabs between them:
   spec    CRATE/MODULE  OLD  NEW   a definition of specs/MODULE.antt: there, and wherever it is imported from there
   word    -             OLD  NEW   a whole word of any text of the tree
+  part    -             OLD  NEW   the same as a part of longer words
   text    FILES         OLD  NEW   a text of files that a pattern names
   page    FILE          OLD  NEW  HINT   a name in code, in the lines of a page that have the hint
   module  CRATE         OLD  NEW   a file of src/, with its folder of proofs
@@ -323,12 +324,13 @@ def substitute(files, pairs):
 
 
 def rename_words():
-    pairs = [(rf"\b{re.escape(old)}\b", new) for kind, _, old, new, *_ in TABLE if kind == "word"]
+    pairs = [(rf"\b{re.escape(old)}\b" if kind == "word" else re.escape(old), new) for kind, _, old, new, *_ in TABLE if kind in ("word", "part")]
     if pairs:
         substitute(all_texts(), pairs)
     for kind, place, old, new, *_ in TABLE:
-        if kind == "word":
-            for file in list(TOP.glob(f"crates/*/must-fail/{old}.edit")) + list(TOP.glob(f"more-edits/**/{old}.edit")) + list(TOP.glob(f"crates/*/proofs/**/{old}")):
+        if kind in ("word", "part"):
+            any_part = "*" if kind == "part" else ""
+            for file in list(TOP.glob(f"crates/*/must-fail/{any_part}{old}.edit")) + list(TOP.glob(f"more-edits/**/{any_part}{old}.edit")) + list(TOP.glob(f"crates/*/proofs/**/{old}")):
                 move(file, file.with_name(file.name.replace(old, new)))
         if kind == "page" and (TOP / place).exists():
             lines = read(TOP / place).split("\n")
