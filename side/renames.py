@@ -9,6 +9,7 @@ A line of the table has a kind, a place, the old name and the new one, with tabs
   module  CRATE         OLD  NEW   a file of src/, with its folder of proofs
   merge   CRATE         OLD+OLD NEW HEAD files of src/ made one, in that order, with their folders of proofs
   laws    CRATE         MODULE -   the module's functions are called as `laws::NAME()`
+  note    CRATE         -    -     `let _target = log.target();` becomes a call of `note_kept`
 """
 import re
 import subprocess
@@ -332,6 +333,10 @@ def rename_words():
             any_part = "*" if kind == "part" else ""
             for file in list(TOP.glob(f"crates/*/must-fail/{any_part}{old}.edit")) + list(TOP.glob(f"more-edits/**/{any_part}{old}.edit")) + list(TOP.glob(f"crates/*/proofs/**/{old}")):
                 move(file, file.with_name(file.name.replace(old, new)))
+
+
+def rename_texts():
+    for kind, place, old, new, *_ in TABLE:
         if kind == "page" and (TOP / place).exists():
             lines = read(TOP / place).split("\n")
             new_lines = [line.replace(f"`{old}`", f"`{new}`") if _[0] in line else line for line in lines]
@@ -339,9 +344,10 @@ def rename_words():
                 write(TOP / place, "\n".join(new_lines))
                 DONE["pages"] += 1
         if kind == "text":
+            old, new = old.replace("\\n", "\n"), new.replace("\\n", "\n")
             for file in TOP.glob(place):
                 text = read(file)
-                if old in text:
+                if old in text and (new not in text or old not in new):
                     write(file, text.replace(old, new))
                     DONE["texts"] += 1
 
@@ -352,6 +358,7 @@ def main():
     import rooms
 
     rooms.run(TOP, TABLE, move, substitute, all_texts, WARNINGS, DONE)
+    rename_texts()
     for it in WARNINGS:
         print(it)
     print(dict(DONE))

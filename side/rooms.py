@@ -135,7 +135,7 @@ def laws(top, crate, warnings, done):
     if not file.exists():
         warnings.append(f"GONE {crate}/src/laws.rt")
         return
-    names = re.findall(r"(?m)^pub fn (\w+)", read(file))
+    names = re.findall(r"(?m)^pub(?:\(crate\))? fn (\w+)", read(file))
     pick = "|".join(names)
     targets = [it for it in sorted((top / "crates").glob("*/src/**/*.rt"))]
     for target in targets:
@@ -195,6 +195,53 @@ def write_if(file, text, new, done):
         done["laws"] += 1
 
 
+NOTES = """//! What is known of a client's log, brought to hand.
+
+ghost use Rattle.ps_client_log.specs.Keeping.{TellsKept};
+ghost use Rattle.ps_client_log.specs.Logs.{kept, keeper_of};
+ghost use Rattle.ps_client_log.specs.Soundness.{IsSound};
+
+use ps_client_log::{ClientLog, Keeper};
+
+// What a log keeps is sound, and its keeper keeps the same where it tells. Both hold of every log, but a proof has them only of what
+// was read of the log: so a function whose proof needs them calls this first. It changes nothing.
+pub fn note_kept<K: Keeper>(log: &ClientLog<K>)
+    ensures sound { IsSound (kept log.now) }
+    ensures tells { TellsKept (K.held (keeper_of log.now)) (kept log.now) }
+{
+    let _target = log.target();
+}
+"""
+
+
+def note(top, crate, done):
+    """The reads of a log's target that are made for what they say of the log get a name."""
+    src = top / "crates" / crate / "src"
+    if not (src / "notes.rt").exists():
+        (src / "notes.rt").write_text(NOTES, encoding="utf-8")
+        root = read(src / "lib.rt")
+        mods = re.findall(r"(?m)^(?:pub )?mod (\w+);\n", root)
+        behind = next((it for it in mods if it > "notes"), None)
+        at = re.search(rf"(?m)^(?:pub )?mod {behind};", root).start() if behind else root.index(f"mod {mods[-1]};\n") + len(f"mod {mods[-1]};\n")
+        (src / "lib.rt").write_text(root[:at] + "mod notes;\n" + root[at:], encoding="utf-8")
+    for file in sorted(src.glob("**/*.rt")):
+        if file.name == "notes.rt":
+            continue
+        text = read(file)
+        new = text.replace("let _target = log.target();", "note_kept(log);").replace("let _target = self.log.target();", "note_kept(&self.log);")
+        if new != text:
+            uses = [it for it in re.finditer(r"(?m)^use [^;]*;\n", new)]
+            behind = next((it for it in uses if it[0] > "use crate::notes::note_kept;\n"), uses[0])
+            new = new[: behind.start()] + "use crate::notes::note_kept;\n" + new[behind.start() :]
+            write_if(file, text, new, done)
+    for file in [*sorted((top / "crates" / crate / "proofs").glob("**/*.antt"))]:
+        text = read(file)
+        write_if(file, text, text.replace("c.target-target.ensures.", "c.note_kept.ensures."), done)
+    for file in [*sorted((top / "crates" / crate / "must-fail").glob("*.edit")), *sorted(top.glob(f"more-edits/{crate}/**/*.edit"))]:
+        text = read(file)
+        write_if(file, text, text.replace("let _target = log.target();", "note_kept(log);").replace("let _target = self.log.target();", "note_kept(&self.log);"), done)
+
+
 def run(top, table, move, substitute, all_texts, warnings, done):
     for kind, crate, old, new, *more in table:
         src, proofs = top / "crates" / crate / "src", top / "crates" / crate / "proofs"
@@ -209,3 +256,5 @@ def run(top, table, move, substitute, all_texts, warnings, done):
             merge(top, crate, old.split("+"), new, more[0], move, substitute, all_texts, warnings, done)
         if kind == "laws":
             laws(top, crate, warnings, done)
+        if kind == "note":
+            note(top, crate, done)
