@@ -164,6 +164,10 @@ def laws(top, crate, warnings, done):
             return f"{found['head']}{{{', '.join(kept)}}};\n" if len(kept) > 1 else f"{found['head']}{kept[0]};\n"
 
         new = re.sub(rf"(?m)^(?P<head>use {own}::)(?P<names>\{{[^}}]*\}}|\w+);\n", drop, new)
+        # Who passes a crate's types on passes no laws on.
+        again = set(called)
+        new = re.sub(rf"(?m)^(?P<head>pub use {own}::)(?P<names>\{{[^}}]*\}}|\w+);\n", drop, new)
+        called = again
         if called:
             prefix = "laws" if inside else f"{crate}::laws"
             new = re.sub(rf"(?<![\w:.])({'|'.join(sorted(called))})\(", rf"{prefix}::\1(", new)
